@@ -1,0 +1,4 @@
+pub mod Bytes
+pub mod Class
+pub mod Parts
+pub mod Table
