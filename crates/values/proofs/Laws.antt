@@ -1,0 +1,169 @@
+-- Laws of references, booleans and kinds.
+use Prim.Native.Nat.{ℕ, _+_, _≤_, _<_}
+use mathlib.Core.Path.{_≡_, refl, sym, _∙_}
+use mathlib.Core.List.{[], _∷_, map, _++_}
+use mathlib.Core.Bool.{Bool, true, false, cond, not, _&&_, _||_, and-assoc}
+use mathlib.Core.Option.{Option, some, none}
+use native.Mathlib.Omega.{arith}
+use native.Mathlib.Numerals.{add-one}
+use lib.Dec.{eqb}
+use lib.ListN.{length, getD, drop, length-map, length-drop, List·getD-map}
+use lib.Seq.{take-all}
+use borrow.Author.Tests.{lt-ltb, le-ltb}
+use Rattle.text.specs.Bytes.{Bytes, bytes, same, any, all, isBlank, span, starts}
+use Rattle.text.specs.Class.{oneOf, isNameByte, isValueByte, isOther}
+use Rattle.text.specs.Parts.{partOf, Trimmed}
+use Rattle.text.specs.declared.Span.{Span}
+use Rattle.text.proofs.Laws.{same-unlike, same-end, same-other, same-step, any-three}
+use Rattle.values.specs.Names.{isSized, first, last, isName, isValue, isNamespace, isReference, reference}
+use Rattle.values.specs.Values.{kindWord, lower, readBoolean, readNumber, readLink, readValue, mapOption, plain, link, number, boolean, string, kindOfConstant, kindOf, Constant, Value}
+use Rattle.values.specs.Answers.{hasBareEnds, Splits, booleanRead, kindAt, kindRead}
+use Rattle.values.specs.declared.Kind.{Kind}
+use Rattle.values.specs.declared.KindRead.{KindRead}
+use Rattle.values.specs.declared.Split.{Split}
+use Rattle.values.specs.declared.BooleanRead.{BooleanRead}
+
+-- A value that is read in a kind has that kind.
+module _ {A : Type 0} (f : A → Value) (k : Kind) (h : (a : A) → kindOf (f a) ≡ k) (v : Value) where
+  mapped-kind : (o : Option A) → mapOption f o ≡ some v → kindOf v ≡ k
+  mapped-kind none e = cc
+  mapped-kind (some a) e = let q : f a ≡ v = cc in rw (← q) (h a)
+
+constant-kind : {A : Type 0} (f : A → Constant) (k : Kind) → ((a : A) → kindOfConstant (f a) ≡ k) → (o : Option A) (v : Value) → mapOption plain (mapOption f o) ≡ some v → kindOf v ≡ k
+constant-kind f k h none v e = cc
+constant-kind f k h (some a) v e = mapped-kind (λ x. plain (f x)) k h v (some a) e
+
+pub read-kind : (k : Kind) (s : Bytes) (v : Value) → readValue k s ≡ some v → kindOf v ≡ k
+read-kind Kind.Page s v e = mapped-kind link Kind.Page (λ i. refl) v (readLink s) e
+read-kind Kind.Number s v e = constant-kind number Kind.Number (λ z. refl) (readNumber s) v e
+read-kind Kind.Boolean s v e = constant-kind boolean Kind.Boolean (λ b. refl) (readBoolean s) v e
+read-kind Kind.String s v e = constant-kind string Kind.String (λ x. refl) (some s) v e
+
+-- A kind is read where its word stands, and only there.
+pub kind-at-word : (k : Kind) (s : Bytes) → kindAt (kindWord k ++ s) ≡ some k
+unfolding kindAt starts
+kind-at-word Kind.Page s = refl
+kind-at-word Kind.Number s = refl
+kind-at-word Kind.Boolean s = refl
+kind-at-word Kind.String s = refl
+
+first-stands : (j k : Kind) (s : Bytes) (o : Option Kind) → (o ≡ some k → starts (kindWord k) s ≡ true) → cond (starts (kindWord j) s) (some j) o ≡ some k → starts (kindWord k) s ≡ true
+first-stands j k s o later h = go (starts (kindWord j) s) refl h
+  where
+    go : (t : Bool) → starts (kindWord j) s ≡ t → cond t (some j) o ≡ some k → starts (kindWord k) s ≡ true
+    go true e f = let q : j ≡ k = cc in rw (← q) e
+    go false e f = later f
+
+pub kind-stands : (k : Kind) (s : Bytes) → kindAt s ≡ some k → starts (kindWord k) s ≡ true
+unfolding kindAt
+kind-stands k s =
+    first-stands Kind.Page k s _
+    (first-stands Kind.Number k s _ (first-stands Kind.Boolean k s _ (first-stands Kind.String k s none (λ e. cc))))
+
+-- The ways to find a kind.
+module _ (s : Bytes) (a : Bool) (e : a ≡ starts (kindWord Kind.Page) s) where
+  pub kind-page : a ≡ true → KindRead.Kind Kind.Page ≡ kindRead (kindAt s)
+  unfolding kindAt
+  kind-page h = rw (← e, h)
+
+  module _ (b : Bool) (f : b ≡ starts (kindWord Kind.Number) s) (h : a ≡ false) where
+    pub kind-number : b ≡ true → KindRead.Kind Kind.Number ≡ kindRead (kindAt s)
+    unfolding kindAt
+    kind-number i = rw (← e, h, ← f, i)
+
+    module _ (c : Bool) (g : c ≡ starts (kindWord Kind.Boolean) s) (i : b ≡ false) where
+      pub kind-boolean : c ≡ true → KindRead.Kind Kind.Boolean ≡ kindRead (kindAt s)
+      unfolding kindAt
+      kind-boolean j = rw (← e, h, ← f, i, ← g, j)
+
+      module _ (d : Bool) (k : d ≡ starts (kindWord Kind.String) s) (j : c ≡ false) where
+        kind-last : kindRead (kindAt s) ≡ kindRead (cond d (some Kind.String) none)
+        unfolding kindAt
+        kind-last = rw (← e, h, ← f, i, ← g, j, ← k)
+
+        pub kind-string : d ≡ true → KindRead.Kind Kind.String ≡ kindRead (kindAt s)
+        kind-string l = rw (kind-last, l)
+
+        pub kind-none : d ≡ false → KindRead.Nothing ≡ kindRead (kindAt s)
+        kind-none l = rw (kind-last, l)
+
+pub ruleset kinds = (kind-page, kind-number, kind-boolean, kind-string, kind-none)
+
+-- The rules for names and values, from what their parts answer.
+module _ (s : Bytes) (a d : Bool) (x : ℕ) (e : a ≡ isSized s) (f : x ≡ first s) (g : d ≡ hasBareEnds s) where
+  ends : (y : Bool) → (y && d) ≡ (y && not (isBlank (first s)) && not (isBlank (last s)))
+  ends y = rw g (sym (and-assoc y (not (isBlank (first s))) (not (isBlank (last s)))))
+
+  pub name-is : (b c : Bool) → b ≡ all isNameByte s → c ≡ oneOf "!~+" x → (a && b && not c && d) ≡ isName s
+  unfolding isName
+  name-is b c h k = ends (a && b && not c) ∙ rw (e, h, k, f)
+
+  pub value-is : (b : Bool) → b ≡ all isValueByte s → (a && b && not (eqb x 126) && d) ≡ isValue s
+  unfolding isValue
+  value-is b h = ends (a && b && not (eqb x 126)) ∙ rw (e, h, f)
+
+-- The two ways to split a text.
+module _ (s : Bytes) (colon : ℕ) (q : colon ≡ 0 + span (isOther 58) s) where
+  pub split-qualified : (n x : Span) → colon < length s → Trimmed s 0 colon n → Trimmed s (colon + 1) (length s) x → Splits s (record { qualified = true; namespace = n; article = x })
+  unfolding reference
+  split-qualified n x h t u =
+      let e : span (isOther 58) s ≡ colon = omega arith in
+      let k = take-all (length s) (drop (colon + 1) s) (omega (arith, length-drop (colon + 1) s)) in
+      record { is = rw (e, lt-ltb colon (length s) h, t .is, u .is, k, add-one); namespace = t .within; article = u .within }
+
+  pub split-bare : (x : Span) → length s ≤ colon → Trimmed s 0 (length s) x → Splits s (record { qualified = false; namespace = record { start = 0; len = 0 }; article = x })
+  unfolding reference
+  split-bare x h u =
+      let e : span (isOther 58) s ≡ colon = omega arith in
+      record { is = rw (e, le-ltb colon (length s) h, u .is, take-all (length s) s (omega arith)); namespace = omega arith; article = u .within }
+
+-- The two ways to judge a reference.
+module _ (s x : Bytes) (r : Split) (n : Bool) (p : Splits s r) (e : x ≡ partOf s (r .article)) (f : n ≡ isName x) where
+  pub reference-qualified : (y : Bytes) (m : Bool) → r .qualified ≡ true → y ≡ partOf s (r .namespace) → m ≡ isNamespace y → (m && n) ≡ isReference (reference s)
+  reference-qualified y m h g k = rw (← p .is, h, k, f, e, g)
+
+  pub reference-bare : r .qualified ≡ false → n ≡ isReference (reference s)
+  reference-bare h = rw (← p .is, h, f, e)
+
+-- A byte of a word, letters small.
+module _ (s w : Bytes) (e : length s ≡ length w) (i : ℕ) where
+  pub word-end : length s ≤ i → same (drop i (map lower s)) (drop i w) ≡ true
+  word-end h = same-end (map lower s) w i (rw (length-map s lower) h) (omega arith)
+
+  module _ (x : ℕ) (h : i < length s) (q : x ≡ lower (getD s i 0)) where
+    byte : getD (map lower s) i 0 ≡ x
+    byte = List·getD-map lower s i 0 ∙ sym q
+
+    pub word-other : (x ≡ getD w i 0 → ⊥) → same (drop i (map lower s)) (drop i w) ≡ false
+    word-other n = same-other (map lower s) w i (rw (length-map s lower) h) (omega arith) (λ k. n (sym byte ∙ k))
+
+    pub word-step : x ≡ getD w i 0 → same (drop i (map lower s)) (drop i w) ≡ same (drop (i + 1) (map lower s)) (drop (i + 1) w)
+    word-step k = same-step (map lower s) w i (rw (length-map s lower) h) (omega arith) (byte ∙ k)
+
+pub word-unlike : (s w : Bytes) → (length s ≡ length w → ⊥) → same (map lower s) w ≡ false
+word-unlike s w n = same-unlike (map lower s) w (λ e. n (sym (length-map s lower) ∙ e))
+
+-- The three ways to read a boolean.
+module _ (s : Bytes) where
+  any-is : (x y z : Bytes) (a b c t : Bool) → a ≡ same (map lower s) x → b ≡ same (map lower s) y → c ≡ same (map lower s) z → (a || b || c) ≡ t → any (same (map lower s)) (x ∷ y ∷ z ∷ []) ≡ t
+  any-is x y z a b c t e f g h = any-three (same (map lower s)) x y z ∙ rw (← e, ← f, ← g) h
+
+  module _ (a b c : Bool) (e : a ≡ same (map lower s) (bytes "true")) (f : b ≡ same (map lower s) (bytes "yes")) (g : c ≡ same (map lower s) (bytes "1")) where
+    pub boolean-true : (a || b || c) ≡ true → BooleanRead.True ≡ booleanRead (readBoolean s)
+    unfolding readBoolean
+    boolean-true h = rw (any-is (bytes "true") (bytes "yes") (bytes "1") a b c true e f g h)
+
+    module _ (n : (a || b || c) ≡ false) (a′ b′ c′ : Bool) (e′ : a′ ≡ same (map lower s) (bytes "false")) (f′ : b′ ≡ same (map lower s) (bytes "no")) (g′ : c′ ≡ same (map lower s) (bytes "0")) where
+      other : (t : Bool) → (a′ || b′ || c′) ≡ t → booleanRead (readBoolean s) ≡ booleanRead (cond t (some false) none)
+      unfolding readBoolean
+      other t h = rw (any-is (bytes "true") (bytes "yes") (bytes "1") a b c false e f g n, any-is (bytes "false") (bytes "no") (bytes "0") a′ b′ c′ t e′ f′ g′ h)
+
+      pub boolean-false : (a′ || b′ || c′) ≡ true → BooleanRead.False ≡ booleanRead (readBoolean s)
+      boolean-false h = sym (other true h)
+
+      pub boolean-unfit : (a′ || b′ || c′) ≡ false → BooleanRead.Unfit ≡ booleanRead (readBoolean s)
+      boolean-unfit h = sym (other false h)
+
+pub ruleset booleans = (boolean-true, boolean-false, boolean-unfit)
+
+pub ruleset names = (name-is, value-is, split-qualified, split-bare, reference-qualified, reference-bare)

@@ -1,0 +1,128 @@
+-- Kinds, and the values of each. Document 01, "Names, values and kinds"; thesis 4.2.1 and 4.3.1.
+use Prim.Native.Nat.{ℕ, suc, _+_, _*_, _-_}
+use mathlib.Core.Bool.{Bool, true, false, cond, not, _&&_, _||_}
+use mathlib.Core.List.{List, [], _∷_, map}
+use mathlib.Core.Option.{Option, some, none}
+use lib.Dec.{leb, ltb, eqb}
+use lib.ListN.{length}
+use lib.IntN.{ℤ, pos, negsuc, negℤ}
+use Rattle.text.specs.Bytes.{Bytes, bytes, numbers, orderOf, same, all, any}
+use Rattle.text.specs.Class.{isDigit}
+use Rattle.text.specs.declared.Order.{Order}
+use Rattle.text.specs.declared.Order.the-variants.{Less, Equal, Greater}
+use Rattle.values.specs.declared.Kind.{Kind}
+use Rattle.values.specs.Names.{Identifier, sameIdentifier, Reference, reference, isReference, identifier}
+
+-- "Kinds: `page`, `number`, `boolean`, `string`."
+abbrev pub kindWord : Kind → Bytes
+kindWord Kind.Page = bytes "page"
+kindWord Kind.Number = bytes "number"
+kindWord Kind.Boolean = bytes "boolean"
+kindWord Kind.String = bytes "string"
+
+-- What was read, changed by f.
+abbrev pub mapOption : {A B : Type 0} → (A → B) → Option A → Option B
+mapOption f none = none
+mapOption f (some a) = some (f a)
+
+-- Constants, CVal of thesis 4.2.1.
+pub data Constant : Type 0 where
+  number : ℤ → Constant
+  boolean : Bool → Constant
+  string : Bytes → Constant
+
+-- What a page holds under a property, CVal + CIdent of thesis 4.3.1.
+pub data Value : Type 0 where
+  plain : Constant → Value
+  link : Identifier → Value
+
+abbrev pub kindOfConstant : Constant → Kind
+kindOfConstant (number z) = Kind.Number
+kindOfConstant (boolean b) = Kind.Boolean
+kindOfConstant (string s) = Kind.String
+
+abbrev pub kindOf : Value → Kind
+kindOf (plain c) = kindOfConstant c
+kindOf (link i) = Kind.Page
+
+-- The number that decimal digits write, behind those already read.
+unfoldable pub decimal : ℕ → Bytes → ℕ
+decimal n [] = n
+decimal n (b ∷ s) = decimal (10 * n + (b - 48)) s
+
+-- "1 to 15 decimal digits"
+unfoldable pub readDigits : Bytes → Option ℕ
+readDigits s = cond (leb 1 (length s) && leb (length s) 15 && all isDigit s) (some (decimal 0 s)) none
+
+-- "an optional minus and 1 to 15 decimal digits"
+unfoldable pub readNumber : Bytes → Option ℤ
+readNumber [] = none
+readNumber (b ∷ s) = cond (eqb b 45) (mapOption (λ n. negℤ (pos n)) (readDigits s)) (mapOption pos (readDigits (b ∷ s)))
+
+-- An ASCII letter in its small form; any other byte as it is.
+abbrev pub lower : ℕ → ℕ
+lower b = cond (leb 65 b && leb b 90) (b + 32) b
+
+-- "`true`, `yes`, `1` or `false`, `no`, `0`, ASCII letters in either case"
+unfoldable pub readBoolean : Bytes → Option Bool
+readBoolean s =
+    let t = map lower s in
+    cond (any (same t) (bytes "true" ∷ bytes "yes" ∷ bytes "1" ∷ [])) (some true)
+    (cond (any (same t) (bytes "false" ∷ bytes "no" ∷ bytes "0" ∷ [])) (some false) none)
+
+-- "A page value is a reference."
+unfoldable pub readLink : Bytes → Option Identifier
+readLink s = cond (isReference (reference s)) (some (identifier (reference s))) none
+
+-- The constant that bytes write in a kind, or none: they are unfit for it. A page value is no constant.
+abbrev pub readConstant : Kind → Bytes → Option Constant
+readConstant Kind.Page s = none
+readConstant Kind.Number s = mapOption number (readNumber s)
+readConstant Kind.Boolean s = mapOption boolean (readBoolean s)
+readConstant Kind.String s = some (string s)
+
+-- The value that bytes write in a kind, or none.
+abbrev pub readValue : Kind → Bytes → Option Value
+readValue Kind.Page s = mapOption link (readLink s)
+readValue Kind.Number s = mapOption plain (readConstant Kind.Number s)
+readValue Kind.Boolean s = mapOption plain (readConstant Kind.Boolean s)
+readValue Kind.String s = mapOption plain (readConstant Kind.String s)
+
+-- The order of whole numbers.
+abbrev pub orderNumbers : ℤ → ℤ → Order
+orderNumbers (pos a) (pos b) = numbers a b
+orderNumbers (pos a) (negsuc b) = Greater
+orderNumbers (negsuc a) (pos b) = Less
+orderNumbers (negsuc a) (negsuc b) = numbers b a
+
+-- "false is less than true"
+abbrev pub orderBooleans : Bool → Bool → Order
+orderBooleans true true = Equal
+orderBooleans true false = Greater
+orderBooleans false true = Less
+orderBooleans false false = Equal
+
+-- The order of two constants of one kind; none for two kinds (thesis 4.5.2).
+abbrev pub orderConstants : Constant → Constant → Option Order
+orderConstants (number a) (number b) = some (orderNumbers a b)
+orderConstants (number a) (boolean b) = none
+orderConstants (number a) (string b) = none
+orderConstants (boolean a) (number b) = none
+orderConstants (boolean a) (boolean b) = some (orderBooleans a b)
+orderConstants (boolean a) (string b) = none
+orderConstants (string a) (number b) = none
+orderConstants (string a) (boolean b) = none
+orderConstants (string a) (string b) = some (orderOf a b)
+
+abbrev pub isEqualOrder : Option Order → Bool
+isEqualOrder none = false
+isEqualOrder (some Less) = false
+isEqualOrder (some Equal) = true
+isEqualOrder (some Greater) = false
+
+-- Two values are one: `7` and `007`, `Berlin` and `:Berlin`.
+abbrev pub sameValue : Value → Value → Bool
+sameValue (plain a) (plain b) = isEqualOrder (orderConstants a b)
+sameValue (plain a) (link j) = false
+sameValue (link i) (plain b) = false
+sameValue (link i) (link j) = sameIdentifier i j
