@@ -1,0 +1,92 @@
+ghost use mathlib.Core.Path.{_≡_};
+ghost use mathlib.Core.Bool.{true, false, _||_, _&&_};
+ghost use lib.ListN.{getD, set, replicate};
+ghost use Rattle.text.specs.Table.{tabulate, countTo};
+
+// A set of pages: the mark at a page's place says whether it is in.
+pub struct PageSet {
+    pub marks: [bool; 256],
+}
+
+impl PageSet {
+    pub fn none() -> PageSet
+        ensures { λ r. ⌜ r .marks ≡ replicate 256 false ⌝ }
+    {
+        PageSet {
+            marks: [false; 256],
+        }
+    }
+
+    // A page from 256 on is in no set.
+    pub fn one(page: usize) -> PageSet
+        ensures { λ r. ⌜ r .marks ≡ set (replicate 256 false) page true ⌝ }
+    {
+        let none = PageSet::none();
+        none.with(page)
+    }
+
+    // A page from 256 on changes nothing.
+    pub fn with(self, page: usize) -> PageSet
+        ensures { λ r. ⌜ r .marks ≡ set (self .marks) page true ⌝ }
+    {
+        if page >= 256 {
+            return self;
+        }
+        let mut marks = self.marks;
+        marks[page] = true;
+        PageSet { marks: marks }
+    }
+
+    pub fn has(self, page: usize) -> bool
+        ensures { λ r. ⌜ r ≡ getD (self .marks) page false ⌝ }
+    {
+        if page >= 256 {
+            return false;
+        }
+        let marks = self.marks;
+        marks[page]
+    }
+
+    pub fn union(self, other: PageSet) -> PageSet
+        ensures { λ r. ⌜ r .marks ≡ tabulate 256 (λ i. getD (self .marks) i false || getD (other .marks) i false) ⌝ }
+    {
+        let a = self.marks;
+        let b = other.marks;
+        let mut marks = [false; 256];
+        let mut i: usize = 0;
+        while i < 256 {
+            marks[i] = a[i] | b[i];
+            i += 1;
+        }
+        PageSet { marks: marks }
+    }
+
+    pub fn intersection(self, other: PageSet) -> PageSet
+        ensures { λ r. ⌜ r .marks ≡ tabulate 256 (λ i. getD (self .marks) i false && getD (other .marks) i false) ⌝ }
+    {
+        let a = self.marks;
+        let b = other.marks;
+        let mut marks = [false; 256];
+        let mut i: usize = 0;
+        while i < 256 {
+            marks[i] = a[i] & b[i];
+            i += 1;
+        }
+        PageSet { marks: marks }
+    }
+
+    pub fn count(self) -> usize
+        ensures { λ r. ⌜ r ≡ countTo 256 (λ i. getD (self .marks) i false) ⌝ }
+    {
+        let marks = self.marks;
+        let mut n: usize = 0;
+        let mut page: usize = 0;
+        while page < 256 {
+            if marks[page] {
+                n += 1;
+            }
+            page += 1;
+        }
+        n
+    }
+}
