@@ -1,0 +1,341 @@
+-- The two meanings of a query are one: the theorem behind demand 3.
+use mathlib.Core.Path.{_≡_, refl, sym, ap, ap₂, _∙_, subst}
+use mathlib.Core.Bool.{Bool, true, false, cond, not, _&&_, _||_, false≢true}
+use mathlib.Core.List.{List, [], _∷_, _++_, map, List·Memᴰ}
+use mathlib.Core.Option.{Option, some, none}
+use Rattle.text.specs.Bytes.{Bytes, orderOf, same, any, all}
+use Rattle.text.specs.declared.Order.{Order}
+use Rattle.text.proofs.Laws.{same-eq, all-append}
+use Rattle.values.specs.declared.Kind.{Kind}
+use Rattle.values.specs.Names.{Reference, bare, qualified, reference, isReference}
+use Rattle.values.specs.Values.{Constant, Value, plain, link, kindOf, kindOfConstant, orderConstants, mapOption, readConstant}
+use Rattle.language.specs.Answer.{Answer, accepted, _>>=_, found}
+use Rattle.language.specs.Register.{Held, Page, Register, Typing, kindsOf, holds, leads, sameKind, hasKind, kindsHold}
+use Rattle.language.specs.Surface.{Chain, single, chain, Categories, Identifiers, Alternatives, Query, namesOf, propertiesIn, propertiesOf}
+use Rattle.language.specs.Core.{Selector, Core}
+use Rattle.language.specs.Elaboration.{compared, elaborateReference, elaborateIdentifiers, elaborateCategories, elaborateConstant, elaborateValue, inside, joined, along, elaborateIn, elaborate}
+use Rattle.language.specs.Semantics.{stands, noMixed, Ca, Cv, follows, S, Q, selects, someOther, mismatch, run}
+use Rattle.language.specs.Direct.{standsAs, namespaceMeant, articleMeant, meansReference, meansIdentifiers, meansCategories, standsTo, meansValue, meansChain, meansIn, means}
+use Rattle.language.specs.Agreement.{agree, kindsAgree}
+use Rattle.language.specs.declared.Comparator.{Comparator}
+use Rattle.language.specs.declared.SurfaceComparator.{SurfaceComparator}
+use Rattle.language.proofs.Options.{OnSome}
+use Rattle.language.proofs.Members.{and-true, both-false, all-at, any-none, map-same}
+use Rattle.language.proofs.Holding.{holds-same, holds-none, holds-or, leads-same}
+use Rattle.language.proofs.Registers.{sameKind-refl}
+use Rattle.language.proofs.Typed.{constant-kind}
+
+pub sameKind-eq : (k l : Kind) → sameKind k l ≡ true → k ≡ l
+sameKind-eq Kind.Page Kind.Page e = refl
+sameKind-eq Kind.Page Kind.Number e = absurd (false≢true e)
+sameKind-eq Kind.Page Kind.Boolean e = absurd (false≢true e)
+sameKind-eq Kind.Page Kind.String e = absurd (false≢true e)
+sameKind-eq Kind.Number Kind.Page e = absurd (false≢true e)
+sameKind-eq Kind.Number Kind.Number e = refl
+sameKind-eq Kind.Number Kind.Boolean e = absurd (false≢true e)
+sameKind-eq Kind.Number Kind.String e = absurd (false≢true e)
+sameKind-eq Kind.Boolean Kind.Page e = absurd (false≢true e)
+sameKind-eq Kind.Boolean Kind.Number e = absurd (false≢true e)
+sameKind-eq Kind.Boolean Kind.Boolean e = refl
+sameKind-eq Kind.Boolean Kind.String e = absurd (false≢true e)
+sameKind-eq Kind.String Kind.Page e = absurd (false≢true e)
+sameKind-eq Kind.String Kind.Number e = absurd (false≢true e)
+sameKind-eq Kind.String Kind.Boolean e = absurd (false≢true e)
+sameKind-eq Kind.String Kind.String e = refl
+
+-- What the six comparators say, by the core's four.
+abbrev six : (Comparator → Bool) → SurfaceComparator → Bool
+six g SurfaceComparator.Equal = g Comparator.Equal
+six g SurfaceComparator.Unequal = g Comparator.Unequal
+six g SurfaceComparator.Greater = g Comparator.Greater
+six g SurfaceComparator.Less = g Comparator.Less
+six g SurfaceComparator.AtLeast = g Comparator.Greater || g Comparator.Equal
+six g SurfaceComparator.AtMost = g Comparator.Less || g Comparator.Equal
+
+six-stands : (c : SurfaceComparator) (o : Order) → six (λ d. stands d o) c ≡ standsAs c o
+six-stands SurfaceComparator.Equal Order.Less = refl
+six-stands SurfaceComparator.Equal Order.Equal = refl
+six-stands SurfaceComparator.Equal Order.Greater = refl
+six-stands SurfaceComparator.Unequal Order.Less = refl
+six-stands SurfaceComparator.Unequal Order.Equal = refl
+six-stands SurfaceComparator.Unequal Order.Greater = refl
+six-stands SurfaceComparator.Greater Order.Less = refl
+six-stands SurfaceComparator.Greater Order.Equal = refl
+six-stands SurfaceComparator.Greater Order.Greater = refl
+six-stands SurfaceComparator.Less Order.Less = refl
+six-stands SurfaceComparator.Less Order.Equal = refl
+six-stands SurfaceComparator.Less Order.Greater = refl
+six-stands SurfaceComparator.AtLeast Order.Less = refl
+six-stands SurfaceComparator.AtLeast Order.Equal = refl
+six-stands SurfaceComparator.AtLeast Order.Greater = refl
+six-stands SurfaceComparator.AtMost Order.Less = refl
+six-stands SurfaceComparator.AtMost Order.Equal = refl
+six-stands SurfaceComparator.AtMost Order.Greater = refl
+
+six-false : (c : SurfaceComparator) → six (λ d. false) c ≡ false
+six-false SurfaceComparator.Equal = refl
+six-false SurfaceComparator.Unequal = refl
+six-false SurfaceComparator.Greater = refl
+six-false SurfaceComparator.Less = refl
+six-false SurfaceComparator.AtLeast = refl
+six-false SurfaceComparator.AtMost = refl
+
+six-value : (c : SurfaceComparator) (v : Constant) (a : Value) → six (λ d. Cv noMixed d v a) c ≡ standsTo c v a
+unfolding Cv standsTo
+six-value c v (plain w) = go (orderConstants w v)
+  where
+    go : (o : Option Order) → six (λ d. found o (stands d) false) c ≡ found o (standsAs c) false
+    go none = six-false c
+    go (some o) = six-stands c o
+six-value c v (link i) = six-false c
+
+six-holds : (x : Bytes) (f : Comparator → Value → Bool) (p : Page) (c : SurfaceComparator) → six (λ d. holds x (f d) p) c ≡ holds x (λ a. six (λ d. f d a) c) p
+six-holds x f p SurfaceComparator.Equal = refl
+six-holds x f p SurfaceComparator.Unequal = refl
+six-holds x f p SurfaceComparator.Greater = refl
+six-holds x f p SurfaceComparator.Less = refl
+six-holds x f p SurfaceComparator.AtLeast = holds-or x (f Comparator.Greater) (f Comparator.Equal) p
+six-holds x f p SurfaceComparator.AtMost = holds-or x (f Comparator.Less) (f Comparator.Equal) p
+
+module _ (R : Register) where
+  -- What is said of a core query beside a meaning m: its run has no mismatch, and selects what m does.
+  pub record Means (m : Page → Bool) (c : Core) : Type 0 where
+    pub unmixed : mismatch c R ≡ false
+    pub alike : (p : Page) → List·Memᴰ p (R .pages) → selects c R p ≡ m p
+
+  means-same : (m n : Page → Bool) (c : Core) → Means m c → ((p : Page) → List·Memᴰ p (R .pages) → m p ≡ n p) → Means n c
+  means-same m n c h e = record { unmixed = h .unmixed; alike = λ p i. h .alike p i ∙ e p i }
+
+  -- the connectives
+  or-means : (m n : Page → Bool) (a b : Core) → Means m a → Means n b → Means (λ p. m p || n p) (Core.disjunction a b)
+  unfolding mismatch Q
+  or-means m n a b h i =
+      record { unmixed = both-false (h .unmixed) (i .unmixed); alike = λ p e. ap₂ _||_ (h .alike p e) (i .alike p e) }
+
+  and-means : (m n : Page → Bool) (a b : Core) → Means m a → Means n b → Means (λ p. m p && n p) (Core.conjunction a b)
+  unfolding mismatch Q
+  and-means m n a b h i =
+      record { unmixed = both-false (h .unmixed) (i .unmixed); alike = λ p e. ap₂ _&&_ (h .alike p e) (i .alike p e) }
+
+  joined-means : (k : Core → Core → Core) (op : Bool → Bool → Bool) (m n : Page → Bool)
+      → ((a b : Core) → Means m a → Means n b → Means (λ p. op (m p) (n p)) (k a b))
+      → (a b : Option Core) → OnSome (Means m) a → OnSome (Means n) b → OnSome (Means (λ p. op (m p) (n p))) (joined k a b)
+  unfolding joined
+  joined-means k op m n law none b h i = tt
+  joined-means k op m n law (some a) none h i = tt
+  joined-means k op m n law (some a) (some b) h i = law a b h i
+
+  -- a comparison with one of the six
+  compared-means : (f : Comparator → Core) (g : Comparator → Page → Bool) (c : SurfaceComparator) → ((d : Comparator) → Means (g d) (f d)) → Means (λ p. six (λ d. g d p) c) (compared f c)
+  unfolding compared
+  compared-means f g SurfaceComparator.Equal h = h Comparator.Equal
+  compared-means f g SurfaceComparator.Unequal h = h Comparator.Unequal
+  compared-means f g SurfaceComparator.Greater h = h Comparator.Greater
+  compared-means f g SurfaceComparator.Less h = h Comparator.Less
+  compared-means f g SurfaceComparator.AtLeast h = or-means _ _ _ _ (h Comparator.Greater) (h Comparator.Equal)
+  compared-means f g SurfaceComparator.AtMost h = or-means _ _ _ _ (h Comparator.Less) (h Comparator.Equal)
+
+  -- references, 5.3.1
+  article-means : (x : Bytes) (c : SurfaceComparator) → Means (λ p. standsAs c (orderOf (p .identifier .article) x)) (compared (λ d. Core.select (Selector.article d x)) c)
+  unfolding mismatch Q Ca
+  article-means x c =
+      means-same _ _ _ (compared-means _ (λ d p. stands d (orderOf (p .identifier .article) x)) c one)
+      (λ p e. six-stands c (orderOf (p .identifier .article) x))
+    where
+      one : (d : Comparator) → Means (λ p. stands d (orderOf (p .identifier .article) x)) (Core.select (Selector.article d x))
+      one d = record { unmixed = refl; alike = λ p e. refl }
+
+  namespace-means : (n : Bytes) → Means (λ p. same (p .identifier .namespace) n) (Core.select (Selector.namespace n))
+  unfolding mismatch Q
+  namespace-means n = record { unmixed = refl; alike = λ p e. refl }
+
+  within-means : (n x : Bytes) (c : SurfaceComparator)
+      → Means (λ p. same (p .identifier .namespace) n && standsAs c (orderOf (p .identifier .article) x)) (Core.conjunction (Core.select (Selector.namespace n)) (compared (λ d. Core.select (Selector.article d x)) c))
+  within-means n x c = and-means _ _ _ _ (namespace-means n) (article-means x c)
+
+  reference-means : (c : SurfaceComparator) (r : Reference) → Means (meansReference c r) (elaborateReference c r)
+  unfolding elaborateReference meansReference namespaceMeant
+  reference-means SurfaceComparator.Equal (bare x) = within-means [] x SurfaceComparator.Equal
+  reference-means SurfaceComparator.Unequal (bare x) = article-means x SurfaceComparator.Unequal
+  reference-means SurfaceComparator.Greater (bare x) = article-means x SurfaceComparator.Greater
+  reference-means SurfaceComparator.Less (bare x) = article-means x SurfaceComparator.Less
+  reference-means SurfaceComparator.AtLeast (bare x) = article-means x SurfaceComparator.AtLeast
+  reference-means SurfaceComparator.AtMost (bare x) = article-means x SurfaceComparator.AtMost
+  reference-means SurfaceComparator.Equal (qualified n x) = within-means n x SurfaceComparator.Equal
+  reference-means SurfaceComparator.Unequal (qualified n x) = article-means x SurfaceComparator.Unequal
+  reference-means SurfaceComparator.Greater (qualified n x) = within-means n x SurfaceComparator.Greater
+  reference-means SurfaceComparator.Less (qualified n x) = within-means n x SurfaceComparator.Less
+  reference-means SurfaceComparator.AtLeast (qualified n x) = within-means n x SurfaceComparator.AtLeast
+  reference-means SurfaceComparator.AtMost (qualified n x) = within-means n x SurfaceComparator.AtMost
+
+  identifiers-means : (i : Identifiers) → Means (meansIdentifiers i) (elaborateIdentifiers i)
+  unfolding elaborateIdentifiers meansIdentifiers
+  identifiers-means (Identifiers.namespace n) = namespace-means n
+  identifiers-means (Identifiers.reference c r) = reference-means c r
+  identifiers-means (Identifiers.either a b) = or-means _ _ _ _ (identifiers-means a) (identifiers-means b)
+
+  -- categories, 5.3.2
+  categories-means : (c : Categories) → Means (meansCategories c) (elaborateCategories c)
+  unfolding elaborateCategories meansCategories mismatch Q
+  categories-means (Categories.one x) = record { unmixed = refl; alike = λ p e. refl }
+  categories-means (Categories.either a b) = or-means _ _ _ _ (categories-means a) (categories-means b)
+
+  existence-means : (x : Bytes) → Means (holds x (λ v. true)) (Core.select (Selector.existence x))
+  unfolding mismatch Q
+  existence-means x = record { unmixed = refl; alike = λ p e. refl }
+
+  -- subqueries
+  subquery-means : (x : Bytes) (m : Page → Bool) (c : Core) → someOther R x Kind.Page ≡ false → Means m c → Means (holds x (leads R m)) (Core.select (Selector.subquery x c))
+  unfolding mismatch Q follows leads
+  subquery-means x m c o h =
+      record {
+        unmixed = both-false o (h .unmixed);
+        alike = λ p e. holds-same x _ _ p (λ a n s. follow (a .value));
+      }
+    where
+      follow : (a : Value) → follows noMixed R (λ p. Q c noMixed R p) a ≡ leads R m a
+      follow (plain v) = refl
+      follow (link i) = leads-same R _ m (h .alike) (link i)
+
+  -- values, 5.3.3
+  constant-means : (x : Bytes) (c : SurfaceComparator) (v : Constant) → someOther R x (kindOfConstant v) ≡ false → Means (holds x (standsTo c v)) (elaborateConstant x c v)
+  unfolding elaborateConstant mismatch Q
+  constant-means x c v o =
+      means-same _ _ _ (compared-means _ (λ d. holds x (Cv noMixed d v)) c one)
+      (λ p e. six-holds x (λ d. Cv noMixed d v) p c ∙ holds-same x _ _ p (λ a n s. six-value c v (a .value)))
+    where
+      one : (d : Comparator) → Means (holds x (Cv noMixed d v)) (Core.select (Selector.value x d v))
+      one d = record { unmixed = o; alike = λ p e. refl }
+
+-- Where the values of a register have their properties' kinds, and its kinds agree with those that a query was fitted to.
+module _ (Γ : Typing) (R : Register) (kinds : kindsHold R ≡ true) where
+  abbrev Agree : Bytes → Type 0
+  Agree x = agree (Γ x) (kindsOf R x) ≡ true
+
+  rightly : (p : Page) → List·Memᴰ p (R .pages) → (h : Held) → List·Memᴰ h (p .values) → hasKind (kindsOf R (h .property)) (kindOf (h .value)) ≡ true
+  unfolding kindsHold
+  rightly p m h n = all-at (λ h. hasKind (kindsOf R (h .property)) (kindOf (h .value))) (all-at _ kinds m) n
+
+  -- every value under x has the kind that x was fitted with
+  fitted : (x : Bytes) (k : Kind) → Agree x → Γ x ≡ some k → (p : Page) → List·Memᴰ p (R .pages) → (h : Held) → List·Memᴰ h (p .values) → same (h .property) x ≡ true → sameKind (kindOf (h .value)) k ≡ true
+  fitted x k g e p m h n s =
+      go (kindsOf R x) (subst (λ k. agree k (kindsOf R x) ≡ true) e g) (subst (λ y. hasKind (kindsOf R y) (kindOf (h .value)) ≡ true) (same-eq (h .property) x s) (rightly p m h n))
+    where
+      go : (o : Option Kind) → agree (some k) o ≡ true → hasKind o (kindOf (h .value)) ≡ true → sameKind (kindOf (h .value)) k ≡ true
+      go none a b = absurd (false≢true b)
+      go (some l) a b = rw (← sameKind-eq l (kindOf (h .value)) b, ← sameKind-eq k l a) (sameKind-refl k)
+
+  none-other : (x : Bytes) (k : Kind) → Agree x → Γ x ≡ some k → someOther R x k ≡ false
+  unfolding someOther
+  none-other x k g e =
+      any-none _ (R .pages) (λ p m. holds-none x (λ v. not (sameKind (kindOf v) k)) p (λ h n s. ap not (fitted x k g e p m h n s)))
+
+  -- under a property that the register does not declare nothing is held
+  nothing-held : (x : Bytes) → kindsOf R x ≡ none → (f : Value → Bool) (p : Page) → List·Memᴰ p (R .pages) → holds x f p ≡ false
+  nothing-held x e f p m =
+      holds-none x f p (λ h n s. absurd (false≢true (subst (λ k. hasKind k (kindOf (h .value)) ≡ true) (ap (kindsOf R) (same-eq (h .property) x s) ∙ e) (rightly p m h n))))
+
+  none-of : (x : Bytes) → kindsOf R x ≡ none → (c : SurfaceComparator) (p : Page) → List·Memᴰ p (R .pages) → (o : Option Constant) → found o (λ w. holds x (standsTo c w) p) false ≡ false
+  none-of x e c p m none = refl
+  none-of x e c p m (some w) = nothing-held x e (standsTo c w) p m
+
+  nothing-meant : (x : Bytes) → kindsOf R x ≡ none → (c : SurfaceComparator) (v : Bytes) (k : Kind) (p : Page) → List·Memᴰ p (R .pages) → meansValue R x c v (some k) p ≡ false
+  unfolding meansValue
+  nothing-meant x e c v Kind.Page p m = go (isReference (reference v))
+    where
+      go : (b : Bool) → cond b (holds x (leads R (meansReference c (reference v))) p) false ≡ false
+      go true = nothing-held x e _ p m
+      go false = refl
+  nothing-meant x e c v Kind.Number p m = none-of x e c p m (readConstant Kind.Number v)
+  nothing-meant x e c v Kind.Boolean p m = none-of x e c p m (readConstant Kind.Boolean v)
+  nothing-meant x e c v Kind.String p m = none-of x e c p m (readConstant Kind.String v)
+
+  constants : (x : Bytes) (c : SurfaceComparator) (k : Kind) → someOther R x k ≡ false → (o : Option Constant) → OnSome (λ v. kindOfConstant v ≡ k) o → OnSome (Means R (λ p. found o (λ w. holds x (standsTo c w) p) false)) (mapOption (elaborateConstant x c) o)
+  constants x c k h none e = tt
+  constants x c k h (some v) e = constant-means R x c v (rw e h)
+
+  -- a piece, where the register declares its property with the kind fitted
+  value-means : (x : Bytes) (c : SurfaceComparator) (v : Bytes) (k : Kind) → someOther R x k ≡ false → OnSome (Means R (meansValue R x c v (some k))) (elaborateValue x c v k)
+  unfolding elaborateValue meansValue
+  value-means x c v Kind.Page o = go (isReference (reference v))
+    where
+      go : (b : Bool) → OnSome (Means R (λ p. cond b (holds x (leads R (meansReference c (reference v))) p) false)) (cond b (some (Core.select (Selector.subquery x (elaborateReference c (reference v))))) none)
+      go true = subquery-means R x _ _ o (reference-means R c (reference v))
+      go false = tt
+  value-means x c v Kind.Number o = constants x c Kind.Number o (readConstant Kind.Number v) (constant-kind Kind.Number v)
+  value-means x c v Kind.Boolean o = constants x c Kind.Boolean o (readConstant Kind.Boolean v) (constant-kind Kind.Boolean v)
+  value-means x c v Kind.String o = constants x c Kind.String o (readConstant Kind.String v) (constant-kind Kind.String v)
+
+  -- and where it does not
+  piece-means : (x : Bytes) (c : SurfaceComparator) (v : Bytes) → Agree x → OnSome (Means R (meansValue R x c v (kindsOf R x))) (Γ x >>= elaborateValue x c v)
+  unfolding meansValue
+  piece-means x c v g = fit (Γ x) refl
+    where
+      declared : (k : Kind) → Γ x ≡ some k → (o : Option Kind) → kindsOf R x ≡ o → (q : Option Core) → OnSome (Means R (meansValue R x c v (some k))) q → OnSome (Means R (meansValue R x c v o)) q
+      declared k e o f none h = tt
+      declared k e none f (some d) h = means-same R _ _ d h (λ p m. nothing-meant x f c v k p m)
+      declared k e (some l) f (some d) h = subst (λ l. Means R (meansValue R x c v (some l)) d) (sameKind-eq k l (subst (λ j. agree j (some l) ≡ true) e (subst (λ o. agree (Γ x) o ≡ true) f g))) h
+
+      fit : (o : Option Kind) → Γ x ≡ o → OnSome (Means R (meansValue R x c v (kindsOf R x))) (o >>= elaborateValue x c v)
+      fit none e = tt
+      fit (some k) e = declared k e (kindsOf R x) refl (elaborateValue x c v k) (value-means x c v k (none-other x k g e))
+
+  inside-means : (x : Bytes) (m : Page → Bool) → Agree x → (q : Option Core) → OnSome (Means R m) q → OnSome (Means R (holds x (leads R m))) (inside x (Γ x) q)
+  unfolding inside
+  inside-means x m g q h = go (Γ x) refl q h
+    where
+      go : (o : Option Kind) → Γ x ≡ o → (q : Option Core) → OnSome (Means R m) q → OnSome (Means R (holds x (leads R m))) (inside x o q)
+      go none e q h = tt
+      go (some Kind.Page) e none h = tt
+      go (some Kind.Page) e (some c) h = subquery-means R x m c (none-other x Kind.Page g e) h
+      go (some Kind.Number) e q h = tt
+      go (some Kind.Boolean) e q h = tt
+      go (some Kind.String) e q h = tt
+
+  along-means : (c : Chain) (f : Bytes → Option Core) (m : Bytes → Page → Bool) → all (λ x. agree (Γ x) (kindsOf R x)) (namesOf c) ≡ true
+      → ((x : Bytes) → Agree x → OnSome (Means R (m x)) (f x)) → OnSome (Means R (meansChain R c m)) (along Γ c f)
+  unfolding along meansChain namesOf all
+  along-means (single x) f m g h = h x (and-true _ true g .0)
+  along-means (chain x c) f m g h =
+      let t = and-true (agree (Γ x) (kindsOf R x)) (all (λ x. agree (Γ x) (kindsOf R x)) (namesOf c)) g in
+      inside-means x (meansChain R c m) (t .0) (along Γ c f) (along-means c f m (t .1) h)
+
+  abbrev Agreeing : List Bytes → Type 0
+  Agreeing l = all (λ x. agree (Γ x) (kindsOf R x)) l ≡ true
+
+  agreeing-parts : (l k : List Bytes) → Agreeing (l ++ k) → Agreeing l × Agreeing k
+  agreeing-parts l k g = and-true _ _ (sym (all-append (λ x. agree (Γ x) (kindsOf R x)) l k) ∙ g)
+
+  -- 5.3.4
+  mutual
+    unfolding elaborate means propertiesOf
+
+    alternatives-mean : (a : Alternatives) (x : Bytes) → Agreeing (propertiesIn a) → Agree x → OnSome (Means R (meansIn a R x)) (elaborateIn a Γ x)
+    alternatives-mean Alternatives.existence x g h = existence-means R x
+    alternatives-mean (Alternatives.value c v) x g h = piece-means x c v h
+    alternatives-mean (Alternatives.subquery q) x g h = inside-means x (λ p. means q R p) h (elaborate q Γ) (query-means q g)
+    alternatives-mean (Alternatives.either a b) x g h =
+        let t = agreeing-parts (propertiesIn a) (propertiesIn b) g in
+        joined-means R Core.disjunction _||_ _ _ (or-means R _ _) (elaborateIn a Γ x) (elaborateIn b Γ x) (alternatives-mean a x (t .0) h) (alternatives-mean b x (t .1) h)
+
+    query-means : (q : Query) → Agreeing (propertiesOf q) → OnSome (Means R (means q R)) (elaborate q Γ)
+    query-means (Query.category c) g = categories-means R c
+    query-means (Query.identifier i) g = identifiers-means R i
+    query-means (Query.property c a) g =
+        let t = agreeing-parts (namesOf c) (propertiesIn a) g in
+        along-means c (λ x. elaborateIn a Γ x) (λ x p. meansIn a R x p) (t .0) (λ x h. alternatives-mean a x (t .1) h)
+    query-means (Query.disjunction a b) g =
+        let t = agreeing-parts (propertiesOf a) (propertiesOf b) g in
+        joined-means R Core.disjunction _||_ _ _ (or-means R _ _) (elaborate a Γ) (elaborate b Γ) (query-means a (t .0)) (query-means b (t .1))
+    query-means (Query.conjunction a b) g =
+        let t = agreeing-parts (propertiesOf a) (propertiesOf b) g in
+        joined-means R Core.conjunction _&&_ _ _ (and-means R _ _) (elaborate a Γ) (elaborate b Γ) (query-means a (t .0)) (query-means b (t .1))
+
+-- The theorem. A query that elaborates by the kinds Γ, run on a register whose kinds agree where it declares a property that
+-- the query names: the run has no mismatch, and its marks are those of the direct meaning.
+pub agreement : (q : Query) (Γ : Typing) (c : Core) (R : Register) → elaborate q Γ ≡ some c → kindsHold R ≡ true → kindsAgree Γ R q ≡ true
+    → run c R ≡ accepted (map (means q R) (R .pages))
+unfolding kindsAgree run
+agreement q Γ c R e k g =
+    let h = subst (OnSome (Means R (means q R))) e (query-means Γ R k q g) in
+    rw (h .unmixed, map-same (selects c R) (means q R) (R .pages) (h .alike))

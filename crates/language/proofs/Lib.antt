@@ -1,0 +1,13 @@
+pub mod Options
+pub mod Members
+pub mod Shorter
+pub mod Leaving
+pub mod Readers
+pub mod Entries
+pub mod Registers
+pub mod Typed
+pub mod Holding
+pub mod Mixing
+pub mod Agreement
+pub mod Cases
+pub mod Demand

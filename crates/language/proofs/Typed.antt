@@ -1,0 +1,148 @@
+-- Type soundness, thesis 5.3.5: a query that elaborates is well-typed by 4.4.3.
+use mathlib.Core.Path.{_≡_, refl, sym, ap, _∙_, subst}
+use mathlib.Core.Bool.{Bool, true, false, cond, _&&_}
+use mathlib.Core.Option.{Option, some, none}
+use Rattle.text.specs.Bytes.{Bytes}
+use Rattle.values.specs.declared.Kind.{Kind}
+use Rattle.values.specs.Names.{Reference, bare, qualified, reference, isReference}
+use Rattle.values.specs.Values.{Constant, kindOfConstant, mapOption, number, boolean, string, readNumber, readBoolean, readConstant}
+use Rattle.language.specs.Answer.{_>>=_}
+use Rattle.language.specs.Register.{Typing, hasKind}
+use Rattle.language.specs.Surface.{Chain, single, chain, Categories, Identifiers, Alternatives, Query}
+use Rattle.language.specs.Core.{Selector, Core}
+use Rattle.language.specs.Elaboration.{compared, elaborateReference, elaborateIdentifiers, elaborateCategories, elaborateConstant, elaborateValue, inside, joined, along, elaborateIn, elaborate}
+use Rattle.language.specs.Semantics.{wellTyped, wellTypedIn}
+use Rattle.language.specs.declared.Comparator.{Comparator}
+use Rattle.language.specs.declared.SurfaceComparator.{SurfaceComparator}
+use Rattle.language.proofs.Options.{OnSome}
+use Rattle.language.proofs.Members.{both-true}
+use Rattle.language.proofs.Registers.{sameKind-refl}
+
+-- the constant of a kind has that kind
+pub constant-kind : (k : Kind) (s : Bytes) → OnSome (λ v. kindOfConstant v ≡ k) (readConstant k s)
+constant-kind Kind.Page s = tt
+constant-kind Kind.Number s = go (readNumber s)
+  where
+    go : (o : Option _) → OnSome (λ v. kindOfConstant v ≡ Kind.Number) (mapOption number o)
+    go none = tt
+    go (some z) = refl
+constant-kind Kind.Boolean s = go (readBoolean s)
+  where
+    go : (o : Option Bool) → OnSome (λ v. kindOfConstant v ≡ Kind.Boolean) (mapOption boolean o)
+    go none = tt
+    go (some b) = refl
+constant-kind Kind.String s = refl
+
+module _ (Γ : Typing) where
+  abbrev Typed : Core → Type 0
+  Typed c = wellTyped c Γ ≡ true
+
+  -- a comparison is as well-typed as its parts
+  compared-typed : (f : Comparator → Core) (c : SurfaceComparator) → ((d : Comparator) → Typed (f d)) → Typed (compared f c)
+  unfolding compared wellTyped
+  compared-typed f SurfaceComparator.Equal h = h Comparator.Equal
+  compared-typed f SurfaceComparator.Unequal h = h Comparator.Unequal
+  compared-typed f SurfaceComparator.Greater h = h Comparator.Greater
+  compared-typed f SurfaceComparator.Less h = h Comparator.Less
+  compared-typed f SurfaceComparator.AtLeast h = both-true (h Comparator.Greater) (h Comparator.Equal)
+  compared-typed f SurfaceComparator.AtMost h = both-true (h Comparator.Less) (h Comparator.Equal)
+
+  reference-typed : (c : SurfaceComparator) (r : Reference) → Typed (elaborateReference c r)
+  unfolding elaborateReference compared wellTyped
+  reference-typed SurfaceComparator.Equal (bare x) = refl
+  reference-typed SurfaceComparator.Unequal (bare x) = refl
+  reference-typed SurfaceComparator.Greater (bare x) = refl
+  reference-typed SurfaceComparator.Less (bare x) = refl
+  reference-typed SurfaceComparator.AtLeast (bare x) = refl
+  reference-typed SurfaceComparator.AtMost (bare x) = refl
+  reference-typed SurfaceComparator.Equal (qualified n x) = refl
+  reference-typed SurfaceComparator.Unequal (qualified n x) = refl
+  reference-typed SurfaceComparator.Greater (qualified n x) = refl
+  reference-typed SurfaceComparator.Less (qualified n x) = refl
+  reference-typed SurfaceComparator.AtLeast (qualified n x) = refl
+  reference-typed SurfaceComparator.AtMost (qualified n x) = refl
+
+  identifiers-typed : (i : Identifiers) → Typed (elaborateIdentifiers i)
+  unfolding elaborateIdentifiers wellTyped
+  identifiers-typed (Identifiers.namespace n) = refl
+  identifiers-typed (Identifiers.reference c r) = reference-typed c r
+  identifiers-typed (Identifiers.either a b) = both-true (identifiers-typed a) (identifiers-typed b)
+
+  categories-typed : (c : Categories) → Typed (elaborateCategories c)
+  unfolding elaborateCategories wellTyped
+  categories-typed (Categories.one x) = refl
+  categories-typed (Categories.either a b) = both-true (categories-typed a) (categories-typed b)
+
+  constant-typed : (x : Bytes) (c : SurfaceComparator) (k : Kind) → hasKind (Γ x) k ≡ true → (o : Option Constant) → OnSome (λ v. kindOfConstant v ≡ k) o → OnSome Typed (mapOption (elaborateConstant x c) o)
+  unfolding wellTyped elaborateConstant
+  constant-typed x c k h none e = tt
+  constant-typed x c k h (some v) e = compared-typed (λ d. Core.select (Selector.value x d v)) c (λ d. rw e h)
+
+  value-typed : (x : Bytes) (c : SurfaceComparator) (v : Bytes) (k : Kind) → hasKind (Γ x) k ≡ true → OnSome Typed (elaborateValue x c v k)
+  unfolding elaborateValue wellTyped
+  value-typed x c v Kind.Page h = go (isReference (reference v))
+    where
+      go : (b : Bool) → OnSome Typed (cond b (some (Core.select (Selector.subquery x (elaborateReference c (reference v))))) none)
+      go true = both-true h (reference-typed c (reference v))
+      go false = tt
+  value-typed x c v Kind.Number h = constant-typed x c Kind.Number h (readConstant Kind.Number v) (constant-kind Kind.Number v)
+  value-typed x c v Kind.Boolean h = constant-typed x c Kind.Boolean h (readConstant Kind.Boolean v) (constant-kind Kind.Boolean v)
+  value-typed x c v Kind.String h = constant-typed x c Kind.String h (readConstant Kind.String v) (constant-kind Kind.String v)
+
+  piece-typed : (x : Bytes) (c : SurfaceComparator) (v : Bytes) → OnSome Typed (Γ x >>= elaborateValue x c v)
+  piece-typed x c v = go (Γ x) refl
+    where
+      go : (o : Option Kind) → Γ x ≡ o → OnSome Typed (o >>= elaborateValue x c v)
+      go none e = tt
+      go (some k) e = value-typed x c v k (rw e (sameKind-refl k))
+
+  inside-typed : (x : Bytes) (o : Option Core) → OnSome Typed o → OnSome Typed (inside x (Γ x) o)
+  unfolding inside wellTyped
+  inside-typed x o h = go (Γ x) refl o h
+    where
+      go : (k : Option Kind) → Γ x ≡ k → (o : Option Core) → OnSome Typed o → OnSome Typed (inside x k o)
+      go none e o h = tt
+      go (some Kind.Page) e none h = tt
+      go (some Kind.Page) e (some c) h = both-true (ap (λ k. hasKind k Kind.Page) e) h
+      go (some Kind.Number) e o h = tt
+      go (some Kind.Boolean) e o h = tt
+      go (some Kind.String) e o h = tt
+
+  joined-typed : (k : Core → Core → Core) → ((a b : Core) → Typed a → Typed b → Typed (k a b)) → (a b : Option Core) → OnSome Typed a → OnSome Typed b → OnSome Typed (joined k a b)
+  unfolding joined
+  joined-typed k law none b h i = tt
+  joined-typed k law (some a) none h i = tt
+  joined-typed k law (some a) (some b) h i = law a b h i
+
+  along-typed : (p : Chain) (f : Bytes → Option Core) → ((x : Bytes) → OnSome Typed (f x)) → OnSome Typed (along Γ p f)
+  unfolding along
+  along-typed (single x) f h = h x
+  along-typed (chain x p) f h = inside-typed x (along Γ p f) (along-typed p f h)
+
+  or-typed : (a b : Core) → Typed a → Typed b → Typed (Core.disjunction a b)
+  unfolding wellTyped
+  or-typed a b h i = both-true h i
+
+  and-typed : (a b : Core) → Typed a → Typed b → Typed (Core.conjunction a b)
+  unfolding wellTyped
+  and-typed a b h i = both-true h i
+
+  mutual
+    unfolding elaborate wellTyped
+
+    alternatives-typed : (a : Alternatives) (x : Bytes) → OnSome Typed (elaborateIn a Γ x)
+    alternatives-typed Alternatives.existence x = refl
+    alternatives-typed (Alternatives.value c v) x = piece-typed x c v
+    alternatives-typed (Alternatives.subquery q) x = inside-typed x (elaborate q Γ) (query-typed q)
+    alternatives-typed (Alternatives.either a b) x = joined-typed Core.disjunction or-typed (elaborateIn a Γ x) (elaborateIn b Γ x) (alternatives-typed a x) (alternatives-typed b x)
+
+    query-typed : (q : Query) → OnSome Typed (elaborate q Γ)
+    query-typed (Query.category c) = categories-typed c
+    query-typed (Query.identifier i) = identifiers-typed i
+    query-typed (Query.property p a) = along-typed p (λ x. elaborateIn a Γ x) (λ x. alternatives-typed a x)
+    query-typed (Query.disjunction a b) = joined-typed Core.disjunction or-typed (elaborate a Γ) (elaborate b Γ) (query-typed a) (query-typed b)
+    query-typed (Query.conjunction a b) = joined-typed Core.conjunction and-typed (elaborate a Γ) (elaborate b Γ) (query-typed a) (query-typed b)
+
+-- The theorem.
+pub elaborated-typed : (q : Query) (Γ : Typing) (c : Core) → elaborate q Γ ≡ some c → wellTyped c Γ ≡ true
+elaborated-typed q Γ c e = subst (OnSome (Typed Γ)) e (query-typed Γ q)

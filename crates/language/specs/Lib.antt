@@ -1,0 +1,13 @@
+pub mod Answer
+pub mod Register
+pub mod RegisterText
+pub mod Surface
+pub mod RawQuery
+pub mod QueryText
+pub mod Core
+pub mod Elaboration
+pub mod Semantics
+pub mod Direct
+pub mod Agreement
+pub mod Calls
+pub mod Sample
