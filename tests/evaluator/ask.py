@@ -1,0 +1,143 @@
+"""The ask call by core queries, and apart from it the direct meaning of a text."""
+import operator
+
+from core import And, Article, Category, Existence, InNamespace, Or, Subquery, Value, every_node
+from reading import Categories, Exists, Identifiers, Namespace, Query, read_query
+from values import read_reference, read_value
+
+# The core semantics.
+
+CORE_COMPARATORS = {'=': operator.eq, '!=': operator.ne, '>': operator.gt, '<': operator.lt}
+
+
+def has_mismatch(core, register):
+    held = {}
+    for page in register.pages:
+        for prop, values in page.values.items():
+            held.setdefault(prop, set()).update(kind for kind, _ in values)
+    for node in every_node(core):
+        if isinstance(node, Value) and held.get(node.prop, set()) - {node.constant[0]}:
+            return True
+        if isinstance(node, Subquery) and held.get(node.prop, set()) - {b'page'}:
+            return True
+    return False
+
+
+def selected(core, register):
+    """The pages of the register, as (namespace, name), that a core query selects."""
+    if isinstance(core, And):
+        return selected(core.left, register) & selected(core.right, register)
+    if isinstance(core, Or):
+        return selected(core.left, register) | selected(core.right, register)
+    inner = selected(core.query, register) if isinstance(core, Subquery) else set()
+    return {(page.namespace, page.name) for page in register.pages if matches(core, page, inner)}
+
+
+def matches(selector, page, inner):
+    """`inner` has the pages that the query inside a subquery selects."""
+    if isinstance(selector, Category):
+        return selector.name in page.categories
+    if isinstance(selector, InNamespace):
+        return selector.name == page.namespace
+    if isinstance(selector, Article):
+        return CORE_COMPARATORS[selector.comparator](page.name, selector.name)
+    values = [value for _, value in page.values.get(selector.prop, [])]
+    if isinstance(selector, Existence):
+        return bool(values)
+    if isinstance(selector, Subquery):
+        return bool(inner & set(values))
+    stands = CORE_COMPARATORS[selector.comparator]
+    return any(stands(value, selector.constant[1]) for value in values)
+
+
+def ask(core, register):
+    """(0, one mark a page) or (the refusal, None)."""
+    if core is None or register is None:
+        return (21 if core is None else 22), None
+    if has_mismatch(core, register):
+        return 23, None
+    found = selected(core, register)
+    return 0, [int((page.namespace, page.name) in found) for page in register.pages]
+
+
+# The direct meaning, page by page.
+
+STANDS = {
+    b'': operator.eq,
+    b'!': operator.ne,
+    b'>': operator.ge,
+    b'>>': operator.gt,
+    b'<': operator.le,
+    b'<<': operator.lt,
+}
+
+
+def refers(comparator, reference, page):
+    namespace, name = reference
+    if not STANDS[comparator](page.name, name):
+        return False
+    if namespace is None:
+        return comparator != b'' or page.namespace == b''
+    return comparator == b'!' or page.namespace == namespace
+
+
+class Direct:
+    def __init__(self, register):
+        self.register = register
+        self.known = {}  # what a part of a chain asks of a page, found once
+
+    def query(self, query, page):
+        return any(all(self.term(term, page) for term in terms) for terms in query.conjunctions)
+
+    def term(self, term, page):
+        if isinstance(term, Query):
+            return self.query(term, page)
+        if isinstance(term, Categories):
+            return any(name in page.categories for name in term.names)
+        if isinstance(term, Identifiers):
+            return any(self.identifier(selector, page) for selector in term.selectors)
+        return self.chain(term, 0, page)
+
+    def identifier(self, selector, page):
+        if isinstance(selector, Namespace):
+            return page.namespace == selector.name
+        return refers(selector.comparator, selector.reference, page)
+
+    def chain(self, body, start, page):
+        """What the names of the head from `start` on, with the alternatives, ask of the page."""
+        key = id(body), start, page.namespace, page.name
+        if key not in self.known:
+            name, links = body.head[start], self.links(body.head[start], page)
+            if start + 1 < len(body.head):
+                answer = any(self.chain(body, start + 1, link) for link in links)
+            else:
+                answer = any(self.alternative(name, one, page, links) for one in body.alternatives)
+            self.known[key] = answer
+        return self.known[key]
+
+    def links(self, name, page):
+        """The pages of the register that the page links to under a page property."""
+        held = page.values.get(name, [])
+        places = [self.register.places.get(value) for kind, value in held if kind == b'page']
+        return [self.register.pages[place] for place in places if place is not None]
+
+    def alternative(self, name, one, page, links):
+        kind, held = self.register.kinds.get(name), page.values.get(name, [])
+        if isinstance(one, Exists):
+            return bool(held)
+        if isinstance(one, Query):
+            return any(self.query(one, link) for link in links)
+        if kind == b'page':
+            reference = read_reference(one.text)
+            return reference is not None and any(refers(one.comparator, reference, link) for link in links)
+        wanted = read_value(kind, one.text)
+        return wanted is not None and any(STANDS[one.comparator](value, wanted[1]) for _, value in held)
+
+
+def direct(text, register):
+    """One mark a page, or None where the text is refused with 12 to 16 or there is no register."""
+    number, tree = read_query(text)
+    if number or register is None:
+        return None
+    meaning = Direct(register)
+    return [int(meaning.query(tree, page)) for page in register.pages]

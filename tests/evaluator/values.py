@@ -1,0 +1,55 @@
+"""Names, references, values and kinds. Bytes are `bytes`."""
+import re
+
+BLANKS = b' \n'
+NUMBER = re.compile(rb'-?[0-9]{1,15}')
+BOOLEANS = {b'true': True, b'yes': True, b'1': True, b'false': False, b'no': False, b'0': False}
+
+
+def trim(text):
+    return text.strip(BLANKS)
+
+
+def keeps(text, barred):
+    """What names and values share: 1 to 64 bytes, no control byte, none of the barred, no blank at an end."""
+    allowed = all(byte >= 32 and byte != 127 and byte not in barred for byte in text)
+    return 1 <= len(text) <= 64 and allowed and trim(text) == text
+
+
+def is_name(text):
+    return keeps(text, b'[]|<>:#{}_"') and text[:1] not in (b'!', b'~', b'+')
+
+
+def is_namespace(text):
+    return text == b'' or is_name(text)
+
+
+def is_property_name(text):
+    return is_name(text) and b'.' not in text
+
+
+def is_value(text):
+    return keeps(text, b'[]|<>"') and text[:1] != b'~'
+
+
+def read_reference(text):
+    """(namespace, name), the namespace None where none is written; None where the text is no reference."""
+    before, colon, after = text.partition(b':')
+    if not colon:
+        return (None, text) if is_name(text) else None
+    namespace, name = trim(before), trim(after)
+    return (namespace, name) if is_namespace(namespace) and is_name(name) else None
+
+
+def read_value(kind, text):
+    """(kind, value), or None where the text is unfit for the kind. A page is (namespace, name)."""
+    if kind == b'string':
+        return kind, text
+    if kind == b'number' and NUMBER.fullmatch(text):
+        return kind, int(text)
+    if kind == b'boolean' and text.lower() in BOOLEANS:
+        return kind, BOOLEANS[text.lower()]
+    if kind == b'page' and read_reference(text):
+        namespace, name = read_reference(text)
+        return kind, (namespace or b'', name)
+    return None
