@@ -1,0 +1,4 @@
+pub mod Ways
+pub mod Cells
+pub mod Counting
+pub mod Reading
