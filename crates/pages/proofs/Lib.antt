@@ -1,0 +1,3 @@
+pub mod Pages
+pub mod Standing
+pub mod Looking

@@ -1,0 +1,145 @@
+-- What a page holds, by its inner forms: a repeat changes no test.
+use Prim.Native.Nat.{ℕ, zero, suc, _+_, _≤_, _<_}
+use mathlib.Core.Path.{_≡_, refl, sym, ap, ap₂, _∙_, subst}
+use mathlib.Core.Bool.{Bool, true, false, cond, _&&_, _||_, or-false, or-assoc, false≢true}
+use mathlib.Core.List.{List, [], _∷_, _++_, map, map-map}
+use mathlib.Core.Option.{Option, some, none}
+use native.Mathlib.Nat.{add-suc, add-zero, zero-add}
+use native.Mathlib.Numerals.{add-one}
+use native.Mathlib.Omega.{arith}
+use lib.ListN.{length, getD, drop}
+use lib.IntN.{ℤ, pos, negsuc}
+use lib.Dec.{ltb}
+use borrow.Author.Tests.{ltb-false}
+use Rattle.text.specs.Bytes.{Bytes, same, any, orderOf, numbers}
+use Rattle.text.specs.Table.{tabulate}
+use Rattle.text.specs.declared.Order.{Order}
+use Rattle.text.proofs.Laws.{same-eq, order-eq, any-append}
+use Rattle.text.proofs.Tables.{length-tabulate}
+use Rattle.values.specs.declared.Kind.{Kind}
+use Rattle.values.specs.Names.{Identifier, sameIdentifier}
+use Rattle.values.specs.Values.{Constant, number, boolean, string, Value, plain, link, orderNumbers, orderBooleans, orderConstants, isEqualOrder, sameValue}
+use Rattle.language.specs.Answer.{found}
+use Rattle.language.specs.Register.{Property, Held, Page, holds}
+use Rattle.language.specs.RegisterText.{Entry, prop, page, cat, val, close, isPage, valueOf, sameHeld, addCategory, addHeld, withCategory, withValue, emptyPage, filled, pagesOf}
+use Rattle.language.proofs.Members.{and-true, by-test}
+use Rattle.pages.specs.Forms.{innerOf, inCategory, heldBy}
+
+-- equal values are one value
+numbers-eq : (a b : ℕ) → numbers a b ≡ Order.Equal → a ≡ b
+unfolding numbers
+numbers-eq a b h = by-test (ltb a b) (λ e. absurd (no-less (rw e at h))) (λ e. by-test (ltb b a) (λ f. absurd (no-greater (rw (e, f) at h))) (λ f. omega (arith, ltb-false a b e, ltb-false b a f)))
+  where
+    no-less : Order.Less ≡ Order.Equal → ⊥
+    no-less e = let z : _≡_ {A = ℕ} 0 1 = cc in omega arith
+
+    no-greater : Order.Greater ≡ Order.Equal → ⊥
+    no-greater e = let z : _≡_ {A = ℕ} 0 1 = cc in omega arith
+
+equal-order : (o : Order) → isEqualOrder (some o) ≡ true → o ≡ Order.Equal
+equal-order Order.Less h = absurd (false≢true h)
+equal-order Order.Equal h = refl
+equal-order Order.Greater h = absurd (false≢true h)
+
+order-numbers-eq : (a b : ℤ) → orderNumbers a b ≡ Order.Equal → a ≡ b
+order-numbers-eq (pos a) (pos b) h = ap pos (numbers-eq a b h)
+order-numbers-eq (pos a) (negsuc b) h = absurd (let z : _≡_ {A = ℕ} 0 1 = cc in omega arith)
+order-numbers-eq (negsuc a) (pos b) h = absurd (let z : _≡_ {A = ℕ} 0 1 = cc in omega arith)
+order-numbers-eq (negsuc a) (negsuc b) h = ap negsuc (sym (numbers-eq b a h))
+
+order-booleans-eq : (a b : Bool) → orderBooleans a b ≡ Order.Equal → a ≡ b
+order-booleans-eq true true h = refl
+order-booleans-eq true false h = absurd (let z : _≡_ {A = ℕ} 0 1 = cc in omega arith)
+order-booleans-eq false true h = absurd (let z : _≡_ {A = ℕ} 0 1 = cc in omega arith)
+order-booleans-eq false false h = refl
+
+identifier-eq : (i j : Identifier) → sameIdentifier i j ≡ true → i ≡ j
+identifier-eq i j h =
+    let t = and-true (same (i .namespace) (j .namespace)) (same (i .article) (j .article)) h in
+    λ k. record { namespace = same-eq (i .namespace) (j .namespace) (t .0) k; article = same-eq (i .article) (j .article) (t .1) k }
+
+pub value-eq : (v w : Value) → sameValue v w ≡ true → v ≡ w
+value-eq (plain (number a)) (plain (number b)) h = ap (λ z. plain (number z)) (order-numbers-eq a b (equal-order (orderNumbers a b) h))
+value-eq (plain (number a)) (plain (boolean b)) h = absurd (false≢true h)
+value-eq (plain (number a)) (plain (string b)) h = absurd (false≢true h)
+value-eq (plain (number a)) (link j) h = absurd (false≢true h)
+value-eq (plain (boolean a)) (plain (number b)) h = absurd (false≢true h)
+value-eq (plain (boolean a)) (plain (boolean b)) h = ap (λ z. plain (boolean z)) (order-booleans-eq a b (equal-order (orderBooleans a b) h))
+value-eq (plain (boolean a)) (plain (string b)) h = absurd (false≢true h)
+value-eq (plain (boolean a)) (link j) h = absurd (false≢true h)
+value-eq (plain (string a)) (plain (number b)) h = absurd (false≢true h)
+value-eq (plain (string a)) (plain (boolean b)) h = absurd (false≢true h)
+value-eq (plain (string a)) (plain (string b)) h = ap (λ z. plain (string z)) (order-eq a b (equal-order (orderOf a b) h))
+value-eq (plain (string a)) (link j) h = absurd (false≢true h)
+value-eq (link i) (plain (number b)) h = absurd (false≢true h)
+value-eq (link i) (plain (boolean b)) h = absurd (false≢true h)
+value-eq (link i) (plain (string b)) h = absurd (false≢true h)
+value-eq (link i) (link j) h = ap link (identifier-eq i j h)
+
+held-eq : (a b : Held) → sameHeld a b ≡ true → a ≡ b
+held-eq a b h =
+    let t = and-true (same (a .property) (b .property)) (sameValue (a .value) (b .value)) h in
+    λ k. record { property = same-eq (a .property) (b .property) (t .0) k; value = value-eq (a .value) (b .value) (t .1) k }
+
+-- a repeat changes no test
+swapped : (a b c : Bool) → a || (b || c) ≡ b || (a || c)
+swapped true true c = refl
+swapped true false c = refl
+swapped false b c = refl
+
+twice-or : (a c : Bool) → a || c ≡ a || (a || c)
+twice-or true c = refl
+twice-or false c = refl
+
+any-category : (p : Bytes → Bool) (x : Bytes) (l : List Bytes) → any p (addCategory x l) ≡ p x || any p l
+unfolding any addCategory
+any-category p x [] = refl
+any-category p x (y ∷ l) = go (same x y) refl (any-category p x l)
+  where
+    go : (b : Bool) → same x y ≡ b → any p (addCategory x l) ≡ p x || any p l → any p (cond b (y ∷ l) (y ∷ addCategory x l)) ≡ p x || (p y || any p l)
+    go true e ih = rw (same-eq x y e) (twice-or (p y) (any p l))
+    go false e ih = rw ih (swapped (p y) (p x) (any p l))
+
+any-held : (p : Held → Bool) (h : Held) (l : List Held) → any p (addHeld h l) ≡ p h || any p l
+unfolding any addHeld
+any-held p h [] = refl
+any-held p h (g ∷ l) = go (sameHeld h g) refl (any-held p h l)
+  where
+    go : (b : Bool) → sameHeld h g ≡ b → any p (addHeld h l) ≡ p h || any p l → any p (cond b (g ∷ l) (g ∷ addHeld h l)) ≡ p h || (p g || any p l)
+    go true e ih = rw (held-eq h g e) (twice-or (p g) (any p l))
+    go false e ih = rw ih (swapped (p g) (p h) (any p l))
+
+moved : (a b c : Bool) → a || b || c ≡ b || (a || c)
+moved true true c = refl
+moved true false c = refl
+moved false b c = refl
+
+-- what a page holds: what it held before, and what its inner forms put
+module _ (ps : List Property) where
+  pub filled-category : (x : Bytes) (p : Page) (l : List Entry) → any (same x) (filled ps p l .categories) ≡ any (same x) (p .categories) || any (inCategory x) (innerOf l)
+  unfolding filled innerOf any
+  filled-category x p [] = sym (or-false _)
+  filled-category x p (prop y k ∷ l) = sym (or-false _)
+  filled-category x p (page n y ∷ l) = sym (or-false _)
+  filled-category x p (cat y ∷ l) = filled-category x (withCategory y p) l ∙ rw (any-category (same x) y (p .categories)) (moved (same x y) (any (same x) (p .categories)) (any (inCategory x) (innerOf l)))
+  filled-category x p (val y v ∷ l) = filled-category x _ l ∙ ap (λ c. any (same x) c || any (inCategory x) (innerOf l)) (go (valueOf ps y v))
+    where
+      go : (o : Option Value) → (found o (λ w. withValue y w p) p) .categories ≡ p .categories
+      go none = refl
+      go (some w) = refl
+  filled-category x p (close ∷ l) = sym (or-false _)
+
+  pub filled-holds : (x : Bytes) (test : Value → Bool) (p : Page) (l : List Entry) → holds x test (filled ps p l) ≡ holds x test p || any (heldBy ps x test) (innerOf l)
+  unfolding filled innerOf any holds
+  filled-holds x test p [] = sym (or-false _)
+  filled-holds x test p (prop y k ∷ l) = sym (or-false _)
+  filled-holds x test p (page n y ∷ l) = sym (or-false _)
+  filled-holds x test p (cat y ∷ l) = filled-holds x test (withCategory y p) l
+  filled-holds x test p (val y v ∷ l) = filled-holds x test _ l ∙ go (valueOf ps y v)
+    where
+      go : (o : Option Value) → holds x test (found o (λ w. withValue y w p) p) || any (heldBy ps x test) (innerOf l) ≡ holds x test p || (found o (λ w. same y x && test w) false || any (heldBy ps x test) (innerOf l))
+      go none = refl
+      go (some w) =
+          rw (any-held (λ h. same (h .property) x && test (h .value)) (record { property = y; value = w }) (p .values))
+          (moved (same y x && test w) (holds x test p) (any (heldBy ps x test) (innerOf l)))
+  filled-holds x test p (close ∷ l) = sym (or-false _)

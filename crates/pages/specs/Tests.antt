@@ -1,0 +1,78 @@
+-- What the functions over a page's rows answer.
+use Prim.Native.Nat.{ℕ, suc, _+_}
+use mathlib.Core.Bool.{Bool, true, false, cond, not, _&&_, _||_}
+use mathlib.Core.List.{List, [], _∷_}
+use mathlib.Core.Option.{Option, some, none}
+use lib.IntN.{ℤ, subℕ}
+use lib.ListN.{length, getD, take, drop}
+use Rattle.text.specs.Bytes.{Bytes, same, any}
+use Rattle.text.specs.Parts.{partOf}
+use Rattle.values.specs.declared.Kind.{Kind}
+use Rattle.values.specs.declared.KindRead.{KindRead}
+use Rattle.values.specs.Names.{Identifier, sameIdentifier}
+use Rattle.values.specs.Values.{Constant, number, boolean, string, Value, readValue}
+use Rattle.values.specs.Answers.{base}
+use Rattle.language.specs.Answer.{_>>=_, found}
+use Rattle.language.specs.Register.{Typing}
+use Rattle.language.specs.RegisterText.{Entry, prop, page, cat, val, close}
+use Rattle.language.specs.Semantics.{Cv, noMixed}
+use Rattle.language.specs.declared.Comparator.{Comparator}
+use Rattle.entries.specs.Table.{entryAt, entriesIn}
+use Rattle.entries.specs.declared.Tag.{Tag}
+use Rattle.pages.specs.Forms.{innerOf, identifierOf, inCategory}
+use Rattle.pages.specs.declared.Constant.{Constant as Held}
+use Rattle.pages.specs.declared.Test.{Test}
+use Rattle.pages.specs.declared.Look.{Look}
+use Rattle.pages.specs.declared.Place.{Place}
+
+-- The inner forms of the page whose form begins at a row.
+abbrev pub innerAt : Bytes → List ℕ → ℕ → ℕ → List Entry
+innerAt s t n row = innerOf (drop (suc row) (entriesIn s t n))
+
+-- The constant that a held one stands for; q is the text that its string lies in.
+abbrev pub constantIn : Bytes → Held → Constant
+constantIn q (Held.Number b) = number (subℕ b base)
+constantIn q (Held.Boolean b) = boolean b
+constantIn q (Held.String p) = string (partOf q p)
+
+-- What a test asks of a value.
+abbrev pub passes : Bytes → Test → Value → Bool
+passes q Test.Any a = true
+passes q (Test.Stands c w) a = Cv noMixed c (constantIn q w) a
+
+-- A value, read by the kind k, passes the test.
+abbrev pub valuePasses : Bytes → Option Kind → Bytes → Test → Bool
+valuePasses q k v test = found (k >>= λ j. readValue j v) (passes q test) false
+
+-- A val form under x whose value passes the test.
+abbrev pub holdsTest : Bytes → Option Kind → Bytes → Test → Entry → Bool
+holdsTest q k x test (prop y j) = false
+holdsTest q k x test (page n y) = false
+holdsTest q k x test (cat y) = false
+holdsTest q k x test (val y v) = same y x && valuePasses q k v test
+holdsTest q k x test close = false
+
+abbrev pub looks : Bytes → Option Kind → Bytes → Look → Entry → Bool
+looks q k x Look.Category e = inCategory x e
+looks q k x (Look.Value test) e = holdsTest q k x test e
+
+abbrev pub kindOf : KindRead → Option Kind
+kindOf (KindRead.Kind k) = some k
+kindOf KindRead.Nothing = none
+
+abbrev pub innerTag : Tag → Bool
+innerTag Tag.Prop = false
+innerTag Tag.Page = false
+innerTag Tag.Cat = true
+innerTag Tag.Val = true
+innerTag Tag.Close = false
+innerTag Tag.Broken = false
+
+-- The first of the first m rows of a list whose page has the identifier, as a place in that list.
+unfoldable pub placeAmong : Identifier → (ℕ → Entry) → List ℕ → Option ℕ
+placeAmong i f [] = none
+placeAmong i f (r ∷ l) = cond (sameIdentifier (identifierOf (f r)) i) (some 0) (placeAmong i f l >>= λ k. some (suc k))
+
+abbrev pub placeIn : Option ℕ → Place
+placeIn none = Place.Nowhere
+placeIn (some k) = Place.At k

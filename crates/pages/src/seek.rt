@@ -1,0 +1,124 @@
+// What is looked for among a page's inner forms.
+ghost use mathlib.Core.Path.{_≡_};
+ghost use mathlib.Core.Bool.{Bool, false};
+ghost use Prim.Native.Nat.{ℕ};
+ghost use lib.ListN.{take};
+ghost use Rattle.text.specs.Bytes.{any};
+ghost use Rattle.values.specs.Values.{readLink};
+ghost use Rattle.language.specs.Answer.{found};
+ghost use Rattle.entries.specs.Items.{entryIn};
+ghost use Rattle.entries.specs.Table.{entryAt};
+ghost use Rattle.pages.specs.Forms.{inCategory};
+ghost use Rattle.pages.specs.Tests.{innerAt, innerTag, kindOf, valuePasses, holdsTest, looks, placeAmong, placeIn};
+use super::Look;
+use super::Test;
+use super::value_stands;
+use entries::Item;
+use entries::Tag;
+use entries::table::item_at;
+use rows::checks::value_fits;
+use text::part;
+use text::same_bytes;
+use values::KindRead;
+
+// Whether a value, read by a kind if there is one, passes a test.
+pub fn value_passes(k: KindRead, v: &[u8], test: Test, q: &[u8]) -> bool
+    ensures { λ r. ⌜ r ≡ valuePasses (now (q .entry)) (kindOf k) (now (v .entry)) test ⌝ }
+{
+    match k {
+        KindRead::Kind(kind) => match test {
+            Test::Any => value_fits(kind, v),
+            Test::Stands(c, w) => value_stands(kind, v, c, w, q),
+        },
+        KindRead::Nothing => false,
+    }
+}
+
+// Whether an entry puts its page into a category.
+pub fn puts_in(s: &[u8], item: Item, x: &[u8]) -> bool
+    ensures { λ r. ⌜ r ≡ inCategory (now (x .entry)) (entryIn (now (s .entry)) item) ⌝ }
+{
+    let tag = item.tag;
+    let p = item.first;
+    match tag {
+        Tag::Cat => same_bytes(x, part(s, p.start, p.len)),
+        Tag::Prop => false,
+        Tag::Page => false,
+        Tag::Val => false,
+        Tag::Close => false,
+        Tag::Broken => false,
+    }
+}
+
+// Whether an entry holds a value under x that passes a test.
+pub fn holds_value(s: &[u8], item: Item, x: &[u8], k: KindRead, test: Test, q: &[u8]) -> bool
+    ensures { λ r. ⌜ r ≡ holdsTest (now (q .entry)) (kindOf k) (now (x .entry)) test (entryIn (now (s .entry)) item) ⌝ }
+{
+    let tag = item.tag;
+    let p = item.first;
+    let v = item.second;
+    match tag {
+        Tag::Val => same_bytes(part(s, p.start, p.len), x)
+            & value_passes(k, part(s, v.start, v.len), test, q),
+        Tag::Prop => false,
+        Tag::Page => false,
+        Tag::Cat => false,
+        Tag::Close => false,
+        Tag::Broken => false,
+    }
+}
+
+// Whether an entry is what is looked for.
+pub fn is_sought(s: &[u8], item: Item, x: &[u8], k: KindRead, look: Look, q: &[u8]) -> bool
+    ensures { λ r. ⌜ r ≡ looks (now (q .entry)) (kindOf k) (now (x .entry)) look (entryIn (now (s .entry)) item) ⌝ }
+{
+    match look {
+        Look::Category => puts_in(s, item, x),
+        Look::Value(test) => holds_value(s, item, x, k, test, q),
+    }
+}
+
+// Whether an entry is an inner form.
+pub fn is_inner(tag: Tag) -> bool
+    ensures { λ r. ⌜ r ≡ innerTag tag ⌝ }
+{
+    match tag {
+        Tag::Cat => true,
+        Tag::Val => true,
+        Tag::Prop => false,
+        Tag::Page => false,
+        Tag::Close => false,
+        Tag::Broken => false,
+    }
+}
+
+// Whether some inner form of the page whose form begins at a row is what is looked for: under the name x, whose kind is k.
+pub fn some_inner(
+    s: &[u8],
+    t: &[u16],
+    n: usize,
+    row: usize,
+    x: &[u8],
+    k: KindRead,
+    look: Look,
+    q: &[u8],
+) -> bool
+    ensures { λ r. ⌜ r ≡ any (looks (now (q .entry)) (kindOf k) (now (x .entry)) look) (innerAt (now (s .entry)) (now (t .entry)) n row) ⌝ }
+{
+    if n <= row {
+        return false;
+    }
+    let mut j = row + 1;
+    while j < n {
+        let item = item_at(t, j);
+        let tag = item.tag;
+        if !is_inner(tag) {
+            return false;
+        }
+        if is_sought(s, item, x, k, look, q) {
+            return true;
+        }
+        j += 1;
+    }
+    false
+}

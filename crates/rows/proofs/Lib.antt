@@ -1,0 +1,5 @@
+pub mod Rows
+pub mod Verdict
+pub mod Ways
+pub mod Loops
+pub mod Judging

@@ -1,0 +1,55 @@
+use Rattle.rows.proofs.Ways.{row}
+use borrow.Author.Needs.{needs}
+use Rattle.rows.proofs.checks.row_fails.Statement.{statement}
+use Rattle.rows.proofs.checks.row_fails.Tie as tie
+use Rattle.rows.proofs.checks.row_fails.Reads as reads
+use Rattle.rows.proofs.checks.row_fails.Lts as lts
+use Rattle.entries.proofs.table.item_at.Reads as item-at-reads
+use Rattle.rows.proofs.checks.breaks_rule.Reads as breaks-rule-reads
+use Rattle.rows.proofs.checks.is_undeclared.Reads as is-undeclared-reads
+use Rattle.rows.proofs.checks.is_unfit.Reads as is-unfit-reads
+
+item-at-requires : tie.Need-item-at-requires
+item-at-requires c κs = search needs
+
+enum-told : tie.Need-enum-told
+enum-told c = search needs
+
+breaks-rule-requires : tie.Need-breaks-rule-requires
+breaks-rule-requires c κs = search needs
+
+enum-told-2 : tie.Need-enum-told-2
+enum-told-2 c = search needs
+
+is-undeclared-requires : tie.Need-is-undeclared-requires
+is-undeclared-requires c κs = search needs
+
+enum-told-3 : tie.Need-enum-told-3
+enum-told-3 c = search needs
+
+is-unfit-requires : tie.Need-is-unfit-requires
+is-unfit-requires c κs = search needs
+
+returns : tie.Need-returns
+returns c = search row
+
+returns-2 : tie.Need-returns-2
+returns-2 c = search row
+
+returns-3 : tie.Need-returns-3
+returns-3 c = search row
+
+pub row-fails-spec : {M : Type 1} → statement M
+row-fails-spec =
+    tie.close
+    (tie.spec
+    item-at-requires
+    enum-told
+    breaks-rule-requires
+    enum-told-2
+    is-undeclared-requires
+    enum-told-3
+    is-unfit-requires
+    returns
+    returns-2
+    returns-3)
