@@ -1,7 +1,7 @@
 // Calls that only the host tests and benchmarks make. The three calls for the stock program are exported together, later.
 ghost use Rattle.register.specs.Held.{Registers};
-
-use register::{open_register, register};
+use register::open_register;
+use register::register;
 
 // The register call.
 #[no_mangle]

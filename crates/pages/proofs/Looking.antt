@@ -26,8 +26,9 @@ use Rattle.entries.specs.declared.Tag.{Tag}
 use Rattle.entries.specs.declared.Item.{Item}
 use Rattle.entries.proofs.Cells.{rows-length, rows-at}
 use Rattle.pages.specs.Forms.{innerOf, inCategory}
-use Rattle.pages.specs.Tests.{innerAt, constantIn, passes, valuePasses, holdsTest, looks, kindOf, innerTag}
-use Rattle.pages.specs.declared.Constant.{Constant as Held}
+use Rattle.nodes.specs.Reading.{constantBy}
+use Rattle.pages.specs.Tests.{innerAt, passes, valuePasses, holdsTest, looks, kindOf, innerTag}
+use Rattle.nodes.specs.declared.Constant.{Constant as Held}
 use Rattle.pages.specs.declared.Test.{Test}
 use Rattle.pages.specs.declared.Look.{Look}
 
@@ -39,7 +40,7 @@ module _ (q v : Bytes) (k : KindRead) (test : Test) (r : Bool) where
   pub passes-any : (j : Kind) → k ≡ KindRead.Kind j → test ≡ Test.Any → r ≡ found (readValue j v) (λ w. true) false → r ≡ valuePasses q (kindOf k) v test
   passes-any j e f h = rw (e, f) h
 
-  pub passes-stands : (j : Kind) (c : Comparator) (w : Held) → k ≡ KindRead.Kind j → test ≡ Test.Stands c w → r ≡ found (readValue j v) (Cv noMixed c (constantIn q w)) false → r ≡ valuePasses q (kindOf k) v test
+  pub passes-stands : (j : Kind) (c : Comparator) (w : Held) → k ≡ KindRead.Kind j → test ≡ Test.Stands c w → r ≡ found (readValue j v) (Cv noMixed c (constantBy q w)) false → r ≡ valuePasses q (kindOf k) v test
   passes-stands j c w e f h = rw (e, f) h
 
 pub ruleset passing = (passes-none, passes-any, passes-stands)

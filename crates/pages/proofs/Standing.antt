@@ -28,8 +28,8 @@ use Rattle.entries.specs.Items.{entryIn}
 use Rattle.entries.specs.declared.Tag.{Tag}
 use Rattle.entries.specs.declared.Item.{Item}
 use Rattle.pages.specs.Forms.{identifierOf}
-use Rattle.pages.specs.Tests.{constantIn}
-use Rattle.pages.specs.declared.Constant.{Constant as Held}
+use Rattle.nodes.specs.Reading.{constantBy}
+use Rattle.nodes.specs.declared.Constant.{Constant as Held}
 
 -- numbers with 10^15 added stand as the numbers do
 order-held : (z : ℤ) → Small z → (b : ℕ) → (t : Bool) → ltb b base ≡ t → numbers (biased z) b ≡ orderNumbers z (cond t (negsuc (base - suc b)) (pos (b - base)))
@@ -96,13 +96,13 @@ two-kinds c d f h (some a) = rw (h a)
 
 module _ (k : Kind) (v : Bytes) (c : Comparator) (w : Held) (q : Bytes) where
   abbrev Stands : Bool → Type 0
-  Stands r = r ≡ found (readValue k v) (Cv noMixed c (constantIn q w)) false
+  Stands r = r ≡ found (readValue k v) (Cv noMixed c (constantBy q w)) false
 
   pub stands-page : k ≡ Kind.Page → Stands false
   unfolding Cv
   stands-page e = rw e (go (readLink v))
     where
-      go : (o : Option Identifier) → false ≡ found (mapOption link o) (Cv noMixed c (constantIn q w)) false
+      go : (o : Option Identifier) → false ≡ found (mapOption link o) (Cv noMixed c (constantBy q w)) false
       go none = refl
       go (some i) = refl
 

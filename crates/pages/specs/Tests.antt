@@ -3,24 +3,21 @@ use Prim.Native.Nat.{ℕ, suc, _+_}
 use mathlib.Core.Bool.{Bool, true, false, cond, not, _&&_, _||_}
 use mathlib.Core.List.{List, [], _∷_}
 use mathlib.Core.Option.{Option, some, none}
-use lib.IntN.{ℤ, subℕ}
 use lib.ListN.{length, getD, take, drop}
 use Rattle.text.specs.Bytes.{Bytes, same, any}
-use Rattle.text.specs.Parts.{partOf}
 use Rattle.values.specs.declared.Kind.{Kind}
 use Rattle.values.specs.declared.KindRead.{KindRead}
 use Rattle.values.specs.Names.{Identifier, sameIdentifier}
-use Rattle.values.specs.Values.{Constant, number, boolean, string, Value, readValue}
-use Rattle.values.specs.Answers.{base}
+use Rattle.values.specs.Values.{Value, readLink, readValue}
 use Rattle.language.specs.Answer.{_>>=_, found}
 use Rattle.language.specs.Register.{Typing}
 use Rattle.language.specs.RegisterText.{Entry, prop, page, cat, val, close}
 use Rattle.language.specs.Semantics.{Cv, noMixed}
 use Rattle.language.specs.declared.Comparator.{Comparator}
+use Rattle.nodes.specs.Reading.{constantBy}
 use Rattle.entries.specs.Table.{entryAt, entriesIn}
 use Rattle.entries.specs.declared.Tag.{Tag}
 use Rattle.pages.specs.Forms.{innerOf, identifierOf, inCategory}
-use Rattle.pages.specs.declared.Constant.{Constant as Held}
 use Rattle.pages.specs.declared.Test.{Test}
 use Rattle.pages.specs.declared.Look.{Look}
 use Rattle.pages.specs.declared.Place.{Place}
@@ -29,16 +26,10 @@ use Rattle.pages.specs.declared.Place.{Place}
 abbrev pub innerAt : Bytes → List ℕ → ℕ → ℕ → List Entry
 innerAt s t n row = innerOf (drop (suc row) (entriesIn s t n))
 
--- The constant that a held one stands for; q is the text that its string lies in.
-abbrev pub constantIn : Bytes → Held → Constant
-constantIn q (Held.Number b) = number (subℕ b base)
-constantIn q (Held.Boolean b) = boolean b
-constantIn q (Held.String p) = string (partOf q p)
-
 -- What a test asks of a value.
 abbrev pub passes : Bytes → Test → Value → Bool
 passes q Test.Any a = true
-passes q (Test.Stands c w) a = Cv noMixed c (constantIn q w) a
+passes q (Test.Stands c w) a = Cv noMixed c (constantBy q w) a
 
 -- A value, read by the kind k, passes the test.
 abbrev pub valuePasses : Bytes → Option Kind → Bytes → Test → Bool
@@ -72,6 +63,13 @@ innerTag Tag.Broken = false
 unfoldable pub placeAmong : Identifier → (ℕ → Entry) → List ℕ → Option ℕ
 placeAmong i f [] = none
 placeAmong i f (r ∷ l) = cond (sameIdentifier (identifierOf (f r)) i) (some 0) (placeAmong i f l >>= λ k. some (suc k))
+
+abbrev pub placeOf : Bytes → List ℕ → List ℕ → ℕ → Identifier → Option ℕ
+placeOf s t rows m i = placeAmong i (entryAt s t) (take m rows)
+
+-- The same for what a link's value names.
+abbrev pub linkPlace : Bytes → List ℕ → List ℕ → ℕ → Bytes → Option ℕ
+linkPlace s t rows m v = readLink v >>= placeOf s t rows m
 
 abbrev pub placeIn : Option ℕ → Place
 placeIn none = Place.Nowhere

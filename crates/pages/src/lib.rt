@@ -10,13 +10,15 @@ ghost use Rattle.language.specs.Answer.{found};
 ghost use Rattle.language.specs.Semantics.{stands, Cv, noMixed};
 ghost use Rattle.entries.specs.Items.{entryIn};
 ghost use Rattle.pages.specs.Forms.{identifierOf};
-ghost use Rattle.pages.specs.Tests.{constantIn};
+ghost use Rattle.nodes.specs.Reading.{constantBy};
 
+pub mod link; // link.rt: where links lead
 pub mod seek; // seek.rt: what is looked for among a page's inner forms
 
 use entries::Item;
 use entries::Tag;
 use language::Comparator;
+use nodes::Constant;
 use text::Order;
 use text::Span;
 use text::compare;
@@ -28,13 +30,6 @@ use values::NumberRead;
 use values::is_reference;
 use values::read_boolean;
 use values::read_number;
-
-// A constant by its kind: a number with 10^15 added, a truth value, or where a string lies in a text.
-pub enum Constant {
-    Number(u64),
-    Boolean(bool),
-    String(Span),
-}
 
 // What is asked of a value: that it is there, or that it stands to a constant as a comparator says.
 pub enum Test {
@@ -116,7 +111,7 @@ fn boolean_stands(v: &[u8], c: Comparator, b: bool) -> bool
 
 // Whether a value, read by a kind, stands to a constant; the constant's string lies in q. Two kinds never do.
 pub fn value_stands(k: Kind, v: &[u8], c: Comparator, w: Constant, q: &[u8]) -> bool
-    ensures { λ r. ⌜ r ≡ found (readValue k (now (v .entry))) (Cv noMixed c (constantIn (now (q .entry)) w)) false ⌝ }
+    ensures { λ r. ⌜ r ≡ found (readValue k (now (v .entry))) (Cv noMixed c (constantBy (now (q .entry)) w)) false ⌝ }
 {
     match k {
         Kind::Page => false,

@@ -1,0 +1,5 @@
+pub mod Postfix
+pub mod Written
+pub mod Ways
+pub mod Kept
+pub mod Stacks

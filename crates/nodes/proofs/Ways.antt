@@ -1,0 +1,164 @@
+-- The ways through the functions that read a node: what the calls gave, and what the answer then is.
+use Prim.Native.Nat.{ℕ, zero, suc, _*_, _/_, _≤_, _<_}
+use mathlib.Core.Path.{_≡_, refl, sym, _∙_}
+use mathlib.Core.List.{[]}
+use mathlib.Core.Bool.{Bool, true, false, cond, _&&_}
+use mathlib.Core.Option.{Option, some, none}
+use native.Mathlib.Omega.{arith}
+use lib.Dec.{ltb, leb, eqb}
+use lib.IntN.{subℕ}
+use lib.ListN.{length, drop-of-length-le}
+use lib.Seq.{take-nil}
+use borrow.Author.Tests.{lt-leb, ne-eqb}
+use Rattle.text.specs.Bytes.{Bytes, part}
+use Rattle.text.specs.Parts.{partOf}
+use Rattle.values.specs.Names.{isName, isPropertyName, isNamespace, isValue}
+use Rattle.values.specs.Values.{number, boolean}
+use Rattle.values.specs.Answers.{base}
+use Rattle.language.specs.Answer.{_>>=_, onlyIf}
+use Rattle.language.specs.declared.Comparator.{Comparator}
+use Rattle.nodes.specs.declared.Constant.{Constant}
+use Rattle.nodes.specs.declared.Selector.{Selector}
+use Rattle.nodes.specs.declared.Connective.{Connective}
+use Rattle.nodes.specs.declared.Slot.{Slot}
+use Rattle.nodes.specs.declared.ComparatorRead.{ComparatorRead}
+use Rattle.nodes.specs.declared.ConstantRead.{ConstantRead}
+use Rattle.nodes.specs.declared.NodeRead.{NodeRead}
+use Rattle.nodes.specs.Postfix.{Node}
+use Rattle.nodes.specs.Held.{twoAt, slot, textIn, comparatorFrom, numberFrom, constantFrom, constantOf, nodeFrom, nodeOf, slotFrom, nodeIn}
+use Rattle.nodes.specs.Reading.{constantBy, selectorBy, keepsConstant, keepsSelector, comparatorRead, chosen, ConstantReads, selected, joining, Reads}
+
+-- The constant of a slot, by its kind.
+module _ (s : Bytes) (x : Slot) (r : ConstantRead) where
+  chosen-reads : (b : Bool) (k : Constant) → constantOf s x ≡ onlyIf b (some (constantBy s k)) → (b ≡ true → keepsConstant s k ≡ true) → r ≡ chosen b k → ConstantReads s x r
+  chosen-reads true k e f g = record { is = rw g e; keeps = rw g (f refl) }
+  chosen-reads false k e f g = record { is = rw g e; keeps = rw g }
+
+  pub number-reads : x .kind ≡ 0 → r ≡ chosen (ltb 0 (x .number) && ltb (x .number) (2 * base)) (Constant.Number (x .number)) → ConstantReads s x r
+  unfolding constantOf constantFrom numberFrom
+  number-reads e g = chosen-reads (ltb 0 (x .number) && ltb (x .number) (2 * base)) (Constant.Number (x .number)) (rw e (go (ltb 0 (x .number) && ltb (x .number) (2 * base)))) (λ h. h) g
+    where
+      go : (b : Bool) → (onlyIf b (some (subℕ (x .number) base)) >>= λ z. some (number z)) ≡ onlyIf b (some (number (subℕ (x .number) base)))
+      go true = refl
+      go false = refl
+
+  truth-is : (b : ℕ) → cond (eqb b 0) (some (boolean false)) (cond (eqb b 1) (some (boolean true)) none) ≡ onlyIf (leb b 1) (some (boolean (eqb b 1)))
+  truth-is zero = refl
+  truth-is (suc zero) = refl
+  truth-is (suc (suc n)) = rw (ne-eqb (suc (suc n)) 0 (omega arith), ne-eqb (suc (suc n)) 1 (omega arith), lt-leb (suc (suc n)) 1 (omega arith))
+
+  pub truth-reads : x .kind ≡ 1 → r ≡ chosen (leb (x .truth) 1) (Constant.Boolean (eqb (x .truth) 1)) → ConstantReads s x r
+  unfolding constantOf constantFrom
+  truth-reads e g = chosen-reads (leb (x .truth) 1) (Constant.Boolean (eqb (x .truth) 1)) (rw e (truth-is (x .truth))) (λ h. refl) g
+
+  pub string-reads : (t : Bytes) (b : Bool) → x .kind ≡ 2 → t ≡ partOf s (x .second) → b ≡ isValue t → r ≡ chosen b (Constant.String (x .second)) → ConstantReads s x r
+  unfolding constantOf constantFrom
+  string-reads t b e p q g = chosen-reads b _ (rw (e, q, p)) (λ h. rw (← p, ← q) h) g
+
+pub constant-none : (s : Bytes) (x : Slot) → (x .kind ≡ 0 → ⊥) → (x .kind ≡ 1 → ⊥) → (x .kind ≡ 2 → ⊥) → ConstantReads s x ConstantRead.Nothing
+unfolding constantOf constantFrom
+constant-none s x f g h = record { is = rw (ne-eqb (x .kind) 0 f, ne-eqb (x .kind) 1 g, ne-eqb (x .kind) 2 h); keeps = refl }
+
+pub ruleset constants = (number-reads, truth-reads, string-reads, constant-none)
+
+-- A comparator that was read, or not.
+module _ (q : ComparatorRead) (o : Option Comparator) (e : q ≡ comparatorRead o) where
+  read-comparator : (c : Comparator) → q ≡ ComparatorRead.Is c → o ≡ some c
+  read-comparator c f = go o e
+    where
+      go : (o : Option Comparator) → q ≡ comparatorRead o → o ≡ some c
+      go none g = let z : ComparatorRead.Is c ≡ ComparatorRead.Nothing = sym f ∙ g in cc
+      go (some d) g = let z : ComparatorRead.Is c ≡ ComparatorRead.Is d = sym f ∙ g in cc
+
+  no-comparator : q ≡ ComparatorRead.Nothing → o ≡ none
+  no-comparator f = go o e
+    where
+      go : (o : Option Comparator) → q ≡ comparatorRead o → o ≡ none
+      go none g = refl
+      go (some d) g = let z : ComparatorRead.Nothing ≡ ComparatorRead.Is d = sym f ∙ g in cc
+
+only-none : (b : Bool) → _≡_ {A = Option Node} (onlyIf b none) none
+only-none true = refl
+only-none false = refl
+
+-- A selector whose name was tested.
+selected-reads : (s : Bytes) (r : NodeRead) (o : Option Node) (b : Bool) (y : Selector) → o ≡ onlyIf b (some (selectorBy s y)) → (b ≡ true → keepsSelector s y ≡ true) → r ≡ selected b y → Reads s o r
+selected-reads s r o true y e f g = record { is = rw g e; keeps = rw g (f refl) }
+selected-reads s r o false y e f g = record { is = rw g e; keeps = rw g }
+
+-- Article and value comparisons.
+module _ (s : Bytes) (x : Slot) (q : ComparatorRead) (e : q ≡ comparatorRead (comparatorFrom (x .comparator))) where
+  pub article-none : q ≡ ComparatorRead.Nothing → Reads s (nodeOf s 6 x) NodeRead.Nothing
+  unfolding nodeOf nodeFrom
+  article-none f = record { is = rw (no-comparator q (comparatorFrom (x .comparator)) e f) (only-none (isName (partOf s (x .second)))); keeps = refl }
+
+  pub value-none : q ≡ ComparatorRead.Nothing → Reads s (nodeOf s 7 x) NodeRead.Nothing
+  unfolding nodeOf nodeFrom
+  value-none f = record { is = rw (no-comparator q (comparatorFrom (x .comparator)) e f) (only-none (isPropertyName (partOf s (x .first)))); keeps = refl }
+
+  module _ (c : Comparator) (f : q ≡ ComparatorRead.Is c) where
+    pub article-reads : (t : Bytes) (b : Bool) (r : NodeRead) → t ≡ partOf s (x .second) → b ≡ isName t → r ≡ selected b (Selector.Article c (x .second)) → Reads s (nodeOf s 6 x) r
+    unfolding nodeOf nodeFrom
+    article-reads t b r p k g =
+        selected-reads s r _ b _ (rw (read-comparator q (comparatorFrom (x .comparator)) e c f, k, p)) (λ h. rw (← p, ← k) h) g
+
+    module _ (v : ConstantRead) (u : ConstantReads s x v) where
+      pub constant-missing : v ≡ ConstantRead.Nothing → Reads s (nodeOf s 7 x) NodeRead.Nothing
+      unfolding nodeOf nodeFrom
+      constant-missing g =
+          record { is = rw (read-comparator q (comparatorFrom (x .comparator)) e c f, u .is, g) (only-none (isPropertyName (partOf s (x .first)))); keeps = refl }
+
+      pub value-reads : (k : Constant) (t : Bytes) (b : Bool) (r : NodeRead) → v ≡ ConstantRead.Is k → t ≡ partOf s (x .first) → b ≡ isPropertyName t → r ≡ selected b (Selector.Value (x .first) c k) → Reads s (nodeOf s 7 x) r
+      unfolding nodeOf nodeFrom
+      value-reads k t b r g p w l =
+          selected-reads s r _ b _ (rw (read-comparator q (comparatorFrom (x .comparator)) e c f, u .is, g, w, p)) (λ h. rw (← p, ← w, h) (rw g at (u .keeps))) l
+
+-- The node of a slot, by its tag.
+module _ (s : Bytes) (x : Slot) (r : NodeRead) (tag : ℕ) where
+  pub and-reads : tag ≡ 0 → r ≡ joining Connective.And → Reads s (nodeOf s tag x) r
+  unfolding nodeOf nodeFrom
+  and-reads e g = record { is = rw (e, g); keeps = rw g }
+
+  pub or-reads : tag ≡ 1 → r ≡ joining Connective.Or → Reads s (nodeOf s tag x) r
+  unfolding nodeOf nodeFrom
+  or-reads e g = record { is = rw (e, g); keeps = rw g }
+
+  module _ (t : Bytes) (b : Bool) (p : t ≡ partOf s (x .first)) where
+    pub category-reads : tag ≡ 2 → b ≡ isName t → r ≡ selected b (Selector.Category (x .first)) → Reads s (nodeOf s tag x) r
+    unfolding nodeOf nodeFrom
+    category-reads e k g = selected-reads s r _ b _ (rw (e, k, p)) (λ h. rw (← p, ← k) h) g
+
+    pub namespace-reads : tag ≡ 3 → b ≡ isNamespace t → r ≡ selected b (Selector.Namespace (x .first)) → Reads s (nodeOf s tag x) r
+    unfolding nodeOf nodeFrom
+    namespace-reads e k g = selected-reads s r _ b _ (rw (e, k, p)) (λ h. rw (← p, ← k) h) g
+
+    pub existence-reads : tag ≡ 4 → b ≡ isPropertyName t → r ≡ selected b (Selector.Existence (x .first)) → Reads s (nodeOf s tag x) r
+    unfolding nodeOf nodeFrom
+    existence-reads e k g = selected-reads s r _ b _ (rw (e, k, p)) (λ h. rw (← p, ← k) h) g
+
+    pub subquery-reads : tag ≡ 5 → b ≡ isPropertyName t → r ≡ selected b (Selector.Subquery (x .first)) → Reads s (nodeOf s tag x) r
+    unfolding nodeOf nodeFrom
+    subquery-reads e k g = selected-reads s r _ b _ (rw (e, k, p)) (λ h. rw (← p, ← k) h) g
+
+  pub tag-reads : (k : ℕ) → tag ≡ k → Reads s (nodeOf s k x) r → Reads s (nodeOf s tag x) r
+  tag-reads k e h = rw e h
+
+pub no-tag : (s : Bytes) (x : Slot) (tag : ℕ) → (tag ≡ 0 → ⊥) × (tag ≡ 1 → ⊥) × (tag ≡ 2 → ⊥) × (tag ≡ 3 → ⊥) × (tag ≡ 4 → ⊥) × (tag ≡ 5 → ⊥) × (tag ≡ 6 → ⊥) × (tag ≡ 7 → ⊥) → Reads s (nodeOf s tag x) NodeRead.Nothing
+unfolding nodeOf nodeFrom
+no-tag s x tag n =
+    record {
+      is = rw (ne-eqb tag 0 (n .0), ne-eqb tag 1 (n .1), ne-eqb tag 2 (n .2), ne-eqb tag 3 (n .3), ne-eqb tag 4 (n .4), ne-eqb tag 5 (n .5), ne-eqb tag 6 (n .6), ne-eqb tag 7 (n .7));
+      keeps = refl;
+    }
+
+pub ruleset ways = (article-none, article-reads, value-none, constant-missing, value-reads, and-reads, or-reads, category-reads, namespace-reads, existence-reads, subquery-reads)
+
+-- The bytes of a place past the end, and the node in a place.
+pub slot-past : (h : Bytes) (i : ℕ) → length h / 20 < i → [] ≡ part h (slot i) 20
+slot-past h i l =
+    let k : length h ≤ slot i = omega arith in
+    rw (drop-of-length-le h k, take-nil)
+
+pub in-place : (h t b : Bytes) (i n : ℕ) (x : Slot) (r : NodeRead) → n ≡ twoAt h 0 → t ≡ part h 4 n → b ≡ part h (slot i) 20 → x ≡ slotFrom b → Reads t (nodeOf t (x .tag) x) r → Reads (textIn h) (nodeIn h i) r
+unfolding nodeIn
+in-place h t b i n x r e f g k u = rw (← e, ← f, ← g, ← k) u

@@ -1,0 +1,22 @@
+use Rattle.nodes.proofs.Written.{puts}
+use mathlib.Core.Path.{refl}
+use Rattle.nodes.specs.Writing.{written}
+use borrow.Author.Needs.{needs}
+use Rattle.nodes.proofs.bytes.put_byte.Statement.{statement}
+use Rattle.nodes.proofs.bytes.put_byte.Tie as tie
+
+slice-write-h : tie.Need-slice-write-h
+slice-write-h c = search needs
+
+same-length : tie.Need-same-length
+same-length c = search needs
+
+returns : tie.Need-returns
+unfolding written
+returns c = refl
+
+returns-2 : tie.Need-returns-2
+returns-2 c = search puts
+
+pub put-byte-spec : {M : Type 1} → statement M
+put-byte-spec = tie.close (tie.spec slice-write-h same-length returns returns-2)

@@ -1,0 +1,33 @@
+use Rattle.nodes.proofs.Ways.{in-place}
+use borrow.Author.Needs.{needs}
+use Rattle.nodes.proofs.reading.node_at.Statement.{statement}
+use Rattle.nodes.proofs.reading.node_at.Tie as tie
+
+two-at-requires : tie.Need-two-at-requires
+two-at-requires c κs = search needs
+
+part-requires : tie.Need-part-requires
+part-requires c κs = search needs
+
+slot-bytes-requires : tie.Need-slot-bytes-requires
+slot-bytes-requires c κs = search needs
+
+slot-from-requires : tie.Need-slot-from-requires
+slot-from-requires c κs = search needs
+
+node-from-requires : tie.Need-node-from-requires
+node-from-requires c κs = search needs
+
+returns : tie.Need-returns
+returns c = search in-place
+
+pub node-at-spec : {M : Type 1} → statement M
+node-at-spec =
+    tie.close
+    (tie.spec
+    two-at-requires
+    part-requires
+    slot-bytes-requires
+    slot-from-requires
+    node-from-requires
+    returns)

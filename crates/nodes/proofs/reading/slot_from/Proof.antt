@@ -1,0 +1,50 @@
+use Rattle.nodes.specs.Held.{slotFrom}
+use borrow.Author.Needs.{needs}
+use Rattle.nodes.proofs.reading.slot_from.Statement.{statement}
+use Rattle.nodes.proofs.reading.slot_from.Tie as tie
+
+two-at-requires : tie.Need-two-at-requires
+two-at-requires c κs = search needs
+
+two-at-requires-2 : tie.Need-two-at-requires-2
+two-at-requires-2 c κs = search needs
+
+two-at-requires-3 : tie.Need-two-at-requires-3
+two-at-requires-3 c κs = search needs
+
+two-at-requires-4 : tie.Need-two-at-requires-4
+two-at-requires-4 c κs = search needs
+
+byte-at-requires : tie.Need-byte-at-requires
+byte-at-requires c κs = search needs
+
+byte-at-requires-2 : tie.Need-byte-at-requires-2
+byte-at-requires-2 c κs = search needs
+
+byte-at-requires-3 : tie.Need-byte-at-requires-3
+byte-at-requires-3 c κs = search needs
+
+byte-at-requires-4 : tie.Need-byte-at-requires-4
+byte-at-requires-4 c κs = search needs
+
+eight-at-requires : tie.Need-eight-at-requires
+eight-at-requires c κs = search needs
+
+returns : tie.Need-returns
+unfolding slotFrom
+returns c = cc
+
+pub slot-from-spec : {M : Type 1} → statement M
+slot-from-spec =
+    tie.close
+    (tie.spec
+    two-at-requires
+    two-at-requires-2
+    two-at-requires-3
+    two-at-requires-4
+    byte-at-requires
+    byte-at-requires-2
+    byte-at-requires-3
+    byte-at-requires-4
+    eight-at-requires
+    returns)

@@ -1,0 +1,61 @@
+use Rattle.nodes.proofs.Kept.{slots}
+use borrow.Author.Needs.{needs}
+use Rattle.nodes.proofs.writing.put_slot.Statement.{statement}
+use Rattle.nodes.proofs.writing.put_slot.Tie as tie
+
+returns : tie.Need-returns
+returns c = search slots
+
+returns-2 : tie.Need-returns-2
+returns-2 c = search slots
+
+mul-at : tie.Need-mul-at
+mul-at c = search needs
+
+add-at : tie.Need-add-at
+add-at c = search needs
+
+put-head-requires : tie.Need-put-head-requires
+put-head-requires c κs = search needs
+
+add-put-span : tie.Need-add-put-span
+add-put-span c = search needs
+
+put-span-requires : tie.Need-put-span-requires
+put-span-requires c κs = search needs
+
+add-put-span-2 : tie.Need-add-put-span-2
+add-put-span-2 c = search needs
+
+put-span-requires-2 : tie.Need-put-span-requires-2
+put-span-requires-2 c κs = search needs
+
+add-put-eight : tie.Need-add-put-eight
+add-put-eight c = search needs
+
+put-eight-requires : tie.Need-put-eight-requires
+put-eight-requires c κs = search needs
+
+same-length : tie.Need-same-length
+same-length c = search needs
+
+returns-3 : tie.Need-returns-3
+returns-3 c = search slots
+
+pub put-slot-spec : {M : Type 1} → statement M
+put-slot-spec =
+    tie.close
+    (tie.spec
+    returns
+    returns-2
+    mul-at
+    add-at
+    put-head-requires
+    add-put-span
+    put-span-requires
+    add-put-span-2
+    put-span-requires-2
+    add-put-eight
+    put-eight-requires
+    same-length
+    returns-3)

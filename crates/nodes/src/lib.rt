@@ -1,0 +1,75 @@
+// Core queries as postfix nodes, and the held query that carries them.
+pub mod bytes;
+pub mod query;
+pub mod reading;
+pub mod writing;
+
+pub use bytes::eight_at;
+pub use bytes::put_byte;
+pub use bytes::put_eight;
+pub use bytes::put_two;
+pub use bytes::two_at;
+use language::Comparator;
+pub use query::is_query;
+pub use reading::node_at;
+use text::Span;
+pub use writing::put_node;
+
+// A constant by its kind: a number with 10^15 added, a truth value, or where a string lies in the query's text.
+pub enum Constant {
+    Number(u64),
+    Boolean(bool),
+    String(Span),
+}
+
+// A core selector without what stands below it; names are places in the query's text.
+pub enum Selector {
+    Category(Span),
+    Namespace(Span),
+    Existence(Span),
+    Subquery(Span),
+    Article(Comparator, Span),
+    Value(Span, Comparator, Constant),
+}
+
+// What a node does with the queries before it.
+pub enum Connective {
+    And,
+    Or,
+    Select,
+}
+
+// A node of a core query; the selector counts where the connective is Select.
+pub struct Node {
+    pub connective: Connective,
+    pub selector: Selector,
+}
+
+// The numbers in a node's 20 bytes.
+pub struct Slot {
+    pub tag: u8,
+    pub comparator: u8,
+    pub kind: u8,
+    pub truth: u8,
+    pub first: Span,
+    pub second: Span,
+    pub number: u64,
+}
+
+// A comparator that was read, or none.
+pub enum ComparatorRead {
+    Is(Comparator),
+    Nothing,
+}
+
+// A constant that was read, or none.
+pub enum ConstantRead {
+    Is(Constant),
+    Nothing,
+}
+
+// A node that was read, or none.
+pub enum NodeRead {
+    Is(Node),
+    Nothing,
+}

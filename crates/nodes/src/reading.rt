@@ -1,0 +1,187 @@
+// A node from its bytes: the numbers are read first, and the rest decides on numbers.
+use crate::ComparatorRead;
+use crate::Connective;
+use crate::Constant;
+use crate::ConstantRead;
+use crate::Node;
+use crate::NodeRead;
+use crate::Selector;
+use crate::Slot;
+use crate::bytes::eight_at;
+use crate::bytes::two_at;
+use language::Comparator;
+use text::Span;
+use text::byte_at;
+use text::part;
+use values::is_name;
+use values::is_namespace;
+use values::is_property_name;
+use values::is_value;
+ghost use mathlib.Core.Path.{_≡_};
+ghost use Rattle.text.specs.Bytes.{part as partFrom};
+ghost use Rattle.nodes.specs.Held.{slot, comparatorFrom, slotFrom, textIn, nodeOf, nodeIn};
+ghost use Rattle.nodes.specs.Reading.{comparatorRead, chosen, selected, joining, ConstantReads, Reads};
+
+// The comparator of a code.
+fn comparator_from(code: u8) -> ComparatorRead
+    ensures { λ r. ⌜ r ≡ comparatorRead (comparatorFrom code) ⌝ }
+{
+    match code {
+        0 => ComparatorRead::Is(Comparator::Equal),
+        1 => ComparatorRead::Is(Comparator::Unequal),
+        2 => ComparatorRead::Is(Comparator::Greater),
+        3 => ComparatorRead::Is(Comparator::Less),
+        _ => ComparatorRead::Nothing,
+    }
+}
+
+// The constant, where it keeps its rule.
+fn chosen_if(fit: bool, c: Constant) -> ConstantRead
+    ensures { λ r. ⌜ r ≡ chosen fit c ⌝ }
+{
+    if fit {
+        ConstantRead::Is(c)
+    } else {
+        ConstantRead::Nothing
+    }
+}
+
+// The constant of a slot.
+fn constant_from(text: &[u8], x: Slot) -> ConstantRead
+    ensures { λ r. ⌜ ConstantReads (now (text .entry)) x r ⌝ }
+{
+    let kind = x.kind;
+    match kind {
+        0 => {
+            let n = x.number;
+            let fit = (0 < n) & (n < 2_000_000_000_000_000);
+            chosen_if(fit, Constant::Number(n))
+        }
+        1 => {
+            let b = x.truth;
+            chosen_if(b <= 1, Constant::Boolean(b == 1))
+        }
+        2 => {
+            let p = x.second;
+            let fit = is_value(part(text, p.start, p.len));
+            chosen_if(fit, Constant::String(p))
+        }
+        _ => ConstantRead::Nothing,
+    }
+}
+
+// The node of a selector, where its name keeps its rule.
+fn selected_if(fit: bool, s: Selector) -> NodeRead
+    ensures { λ r. ⌜ r ≡ selected fit s ⌝ }
+{
+    if fit {
+        NodeRead::Is(Node {
+            connective: Connective::Select,
+            selector: s,
+        })
+    } else {
+        NodeRead::Nothing
+    }
+}
+
+// An article comparison, a slot of tag 6.
+fn article_from(text: &[u8], x: Slot) -> NodeRead
+    ensures { λ r. ⌜ Reads (now (text .entry)) (nodeOf (now (text .entry)) 6 x) r ⌝ }
+{
+    let read = comparator_from(x.comparator);
+    let ComparatorRead::Is(c) = read else {
+        return NodeRead::Nothing;
+    };
+    let p = x.second;
+    let fit = is_name(part(text, p.start, p.len));
+    selected_if(fit, Selector::Article(c, p))
+}
+
+// A value comparison, a slot of tag 7.
+fn value_from(text: &[u8], x: Slot) -> NodeRead
+    ensures { λ r. ⌜ Reads (now (text .entry)) (nodeOf (now (text .entry)) 7 x) r ⌝ }
+{
+    let read = comparator_from(x.comparator);
+    let ComparatorRead::Is(c) = read else {
+        return NodeRead::Nothing;
+    };
+    let constant = constant_from(text, x);
+    let ConstantRead::Is(k) = constant else {
+        return NodeRead::Nothing;
+    };
+    let p = x.first;
+    let fit = is_property_name(part(text, p.start, p.len));
+    selected_if(fit, Selector::Value(p, c, k))
+}
+
+// A connective's node.
+fn joined(connective: Connective) -> NodeRead
+    ensures { λ r. ⌜ r ≡ joining connective ⌝ }
+{
+    let p = Span { start: 0, len: 0 };
+    NodeRead::Is(Node {
+        connective,
+        selector: Selector::Category(p),
+    })
+}
+
+// The node of a slot by its tag.
+fn node_from(text: &[u8], tag: u8, x: Slot) -> NodeRead
+    ensures { λ r. ⌜ Reads (now (text .entry)) (nodeOf (now (text .entry)) tag x) r ⌝ }
+{
+    let p = x.first;
+    let name = part(text, p.start, p.len);
+    match tag {
+        0 => joined(Connective::And),
+        1 => joined(Connective::Or),
+        2 => selected_if(is_name(name), Selector::Category(p)),
+        3 => selected_if(is_namespace(name), Selector::Namespace(p)),
+        4 => selected_if(is_property_name(name), Selector::Existence(p)),
+        5 => selected_if(is_property_name(name), Selector::Subquery(p)),
+        6 => article_from(text, x),
+        7 => value_from(text, x),
+        _ => NodeRead::Nothing,
+    }
+}
+
+// The numbers in a node's bytes.
+fn slot_from(b: &[u8]) -> Slot
+    ensures { λ r. ⌜ r ≡ slotFrom (now (b .entry)) ⌝ }
+{
+    let first = Span {
+        start: two_at(b, 4),
+        len: two_at(b, 6),
+    };
+    let second = Span {
+        start: two_at(b, 8),
+        len: two_at(b, 10),
+    };
+    Slot {
+        tag: byte_at(b, 0),
+        comparator: byte_at(b, 1),
+        kind: byte_at(b, 2),
+        truth: byte_at(b, 3),
+        first,
+        second,
+        number: eight_at(b, 12),
+    }
+}
+
+// The bytes of a node.
+fn slot_bytes(h: &[u8], i: usize) -> &[u8]
+    ensures { λ r. ⌜ now r ≡ partFrom (now (h .entry)) (slot i) 20 ⌝ }
+{
+    if h.len() / 20 < i {
+        return &h[..0];
+    }
+    part(h, 1028 + 20 * i, 20)
+}
+
+// The node in a place.
+pub fn node_at(h: &[u8], i: usize) -> NodeRead
+    ensures { λ r. ⌜ Reads (textIn (now (h .entry))) (nodeIn (now (h .entry)) i) r ⌝ }
+{
+    let text = part(h, 4, two_at(h, 0));
+    let x = slot_from(slot_bytes(h, i));
+    node_from(text, x.tag, x)
+}
