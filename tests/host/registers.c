@@ -37,7 +37,7 @@ static size_t check(const uint8_t *text, size_t len, size_t index) {
     if (!all(other, sizeof other, 0x5A)) fail("a short buffer was written", index);
     if (hostcall_pages(held, HELD - 1) != 65535) fail("a short form is a form", index);
     size_t pages = hostcall_pages(held, sizeof held);
-    for (size_t i = 0; i < HELD; i += 97) { /* a changed byte is another text, or no form at all: never a crash */
+    for (size_t i = 0; i < HELD; i += 997) { /* a changed byte is another text, or no form at all: never a crash */
         held[i] ^= 0x41;
         (void)hostcall_pages(held, sizeof held);
         held[i] ^= 0x41;
