@@ -41,6 +41,18 @@ def limits():
     yield full_register()
 
 
+def examples():
+    """The sample register, and an example of each number of the table, in its order."""
+    yield cases.SAMPLE.encode()
+    yield b' ' * 32769
+    yield b'(prop "A")\n'
+    yield b'(page "" "a:b")\n'
+    yield b'(page "" "a")\n(page "" "a")\n'
+    yield b'(page "" "a" (val "Q" "1"))\n'
+    yield b'(prop "Crates" number)\n(page "" "a" (val "Crates" "12,5"))\n'
+    yield b''.join(b'(page "" "p%d")\n' % i for i in range(257))
+
+
 def texts(vectors, seed, count):
     with open(vectors, encoding='utf-8') as lines:
         for line in lines:
@@ -51,6 +63,16 @@ def texts(vectors, seed, count):
         yield second
 
 
+def answers(host, wanted):
+    """What the host prints for the texts, and whether it ended well."""
+    with tempfile.NamedTemporaryFile(delete=False) as out:
+        for text in wanted:
+            out.write(len(text).to_bytes(4, 'little') + text)
+    done = subprocess.run([host, out.name], stdout=subprocess.PIPE, check=False)
+    os.unlink(out.name)
+    return done.stdout, done.returncode == 0
+
+
 def expected(text):
     number, reg = register.register_call(text)
     return b'%d' % number if number else b'0 %d' % len(reg.pages)
@@ -58,17 +80,17 @@ def expected(text):
 
 def main(host, vectors, seed, count):
     wanted = list(texts(vectors, int(seed), int(count)))
-    with tempfile.NamedTemporaryFile(delete=False) as out:
-        for text in wanted:
-            out.write(len(text).to_bytes(4, 'little') + text)
-    done = subprocess.run([host, out.name], stdout=subprocess.PIPE, check=False)
-    os.unlink(out.name)
-    got = done.stdout.splitlines()
+    printed, ended = answers(host, wanted)
+    got = printed.splitlines()
     bad = [i for i, text in enumerate(wanted) if i >= len(got) or got[i] != expected(text)]
     for i in bad[:10]:
         print('text', i, 'is', got[i] if i < len(got) else None, 'and not', expected(wanted[i]), repr(wanted[i][:120]))
-    failed = len(bad) + (done.returncode != 0)
-    print(f'{len(wanted) - len(bad)} passed, {failed} failed')
+    with open(os.path.join(HERE, 'examples.expected'), 'rb') as stored:
+        same = answers(host, list(examples())) == (stored.read(), True)
+    if not same:
+        print('the examples of the table are answered otherwise than stored')
+    failed = len(bad) + (not ended) + (not same)
+    print(f'{len(wanted) - len(bad) + same} passed, {failed} failed')
     return failed
 
 

@@ -6,7 +6,7 @@ use mathlib.Core.List.{List, [], _∷_, _++_, map}
 use mathlib.Core.Option.{Option, some, none}
 use native.Mathlib.Nat.{add-suc, add-zero, zero-add}
 use native.Mathlib.Omega.{arith}
-use lib.ListN.{length, getD, drop, List·getD-map}
+use lib.ListN.{length, getD, drop, List·getD-map, length-map}
 use lib.Seq.{drop-cons}
 use Rattle.text.specs.Bytes.{Bytes, same, any}
 use Rattle.text.specs.Table.{tabulate}
@@ -71,6 +71,10 @@ pages-from ps (close ∷ l) = pages-from ps l ∙ sym (shifted isPage (λ i. pag
 -- The pages, by the rows where their forms begin.
 pub page-rows : (ps : List Property) (n : ℕ) (f : ℕ → Entry) → pagesOf ps (tabulate n f) ≡ map (λ i. pageFrom ps (drop i (tabulate n f))) (placesTo n (λ i. isPage (f i)))
 page-rows ps n f = pages-from ps (tabulate n f) ∙ ap (map (λ i. pageFrom ps (drop i (tabulate n f)))) (places-rows isPage n f)
+
+-- A register has as many pages as there are page rows.
+pub page-count : (ps : List Property) (n : ℕ) (f : ℕ → Entry) → length (pagesOf ps (tabulate n f)) ≡ length (placesTo n (λ j. isPage (f j)))
+page-count ps n f = ap length (page-rows ps n f) ∙ length-map (placesTo n (λ j. isPage (f j))) (λ i. pageFrom ps (drop i (tabulate n f)))
 
 -- Page i of a register is the one whose form begins at the i-th of its page rows.
 pub page-at : (ps : List Property) (n : ℕ) (f : ℕ → Entry) (i : ℕ) → getD (pagesOf ps (tabulate n f)) i (pageFrom ps (drop 0 (tabulate n f))) ≡ pageFrom ps (drop (getD (placesTo n (λ j. isPage (f j))) i 0) (tabulate n f))

@@ -3,3 +3,4 @@ pub mod Standing
 pub mod Looking
 pub mod Links
 pub mod Abstract
+pub mod Others

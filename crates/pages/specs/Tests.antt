@@ -10,7 +10,7 @@ use Rattle.values.specs.declared.KindRead.{KindRead}
 use Rattle.values.specs.Names.{Identifier, sameIdentifier}
 use Rattle.values.specs.Values.{Value, readLink, readValue}
 use Rattle.language.specs.Answer.{_>>=_, found}
-use Rattle.language.specs.Register.{Typing}
+use Rattle.language.specs.Register.{sameKind}
 use Rattle.language.specs.RegisterText.{Entry, prop, page, cat, val, close}
 use Rattle.language.specs.Semantics.{Cv, noMixed}
 use Rattle.language.specs.declared.Comparator.{Comparator}
@@ -50,6 +50,15 @@ looks q k x (Look.Value test) e = holdsTest q k x test e
 abbrev pub kindOf : KindRead → Option Kind
 kindOf (KindRead.Kind k) = some k
 kindOf KindRead.Nothing = none
+
+-- The page whose form begins at a row holds a value under x, whose kind is k.
+abbrev pub holdsSome : Bytes → List ℕ → ℕ → Bytes → Option Kind → ℕ → Bool
+holdsSome s t n x k row = any (looks x k x (Look.Value Test.Any)) (innerAt s t n row)
+
+-- Some page of those rows holds, under x, a value of another kind than k; d is the kind that x is declared with.
+abbrev pub otherIn : Bytes → List ℕ → ℕ → List ℕ → Bytes → Option Kind → Kind → Bool
+otherIn s t n rows x none k = false
+otherIn s t n rows x (some d) k = not (sameKind d k) && any (holdsSome s t n x (some d)) rows
 
 abbrev pub innerTag : Tag → Bool
 innerTag Tag.Prop = false

@@ -6,19 +6,22 @@ ghost use lib.ListN.{take};
 ghost use Rattle.text.specs.Bytes.{any};
 ghost use Rattle.values.specs.Values.{readLink};
 ghost use Rattle.language.specs.Answer.{found};
+ghost use Rattle.language.specs.Register.{sameKind};
 ghost use Rattle.entries.specs.Items.{entryIn};
 ghost use Rattle.entries.specs.Table.{entryAt};
 ghost use Rattle.pages.specs.Forms.{inCategory};
-ghost use Rattle.pages.specs.Tests.{innerAt, innerTag, kindOf, valuePasses, holdsTest, looks, placeAmong, placeIn};
+ghost use Rattle.pages.specs.Tests.{innerAt, innerTag, kindOf, valuePasses, holdsTest, looks, holdsSome, otherIn};
 use super::Look;
 use super::Test;
 use super::value_stands;
 use entries::Item;
 use entries::Tag;
 use entries::table::item_at;
+use entries::table::num_at;
 use rows::checks::value_fits;
 use text::part;
 use text::same_bytes;
+use values::Kind;
 use values::KindRead;
 
 // Whether a value, read by a kind if there is one, passes a test.
@@ -121,4 +124,79 @@ pub fn some_inner(
         j += 1;
     }
     false
+}
+
+// Whether some page that begins at one of the first m of a list of rows holds a value under x, whose kind is k.
+pub fn some_page_holds(
+    s: &[u8],
+    t: &[u16],
+    n: usize,
+    rows: &[u16],
+    m: usize,
+    x: &[u8],
+    k: KindRead,
+) -> bool
+    ensures { λ r. ⌜ r ≡ any (holdsSome (now (s .entry)) (now (t .entry)) n (now (x .entry)) (kindOf k)) (take m (now (rows .entry))) ⌝ }
+{
+    let mut some = false;
+    let mut a: usize = 0;
+    while a < m {
+        if rows.len() <= a {
+            return some;
+        }
+        some = some | some_inner(s, t, n, num_at(rows, a), x, k, Look::Value(Test::Any), x);
+        a += 1;
+    }
+    some
+}
+
+// Whether two kinds are one.
+pub fn same_kind(a: Kind, b: Kind) -> bool
+    ensures { λ r. ⌜ r ≡ sameKind a b ⌝ }
+{
+    match a {
+        Kind::Page => match b {
+            Kind::Page => true,
+            Kind::Number => false,
+            Kind::Boolean => false,
+            Kind::String => false,
+        },
+        Kind::Number => match b {
+            Kind::Page => false,
+            Kind::Number => true,
+            Kind::Boolean => false,
+            Kind::String => false,
+        },
+        Kind::Boolean => match b {
+            Kind::Page => false,
+            Kind::Number => false,
+            Kind::Boolean => true,
+            Kind::String => false,
+        },
+        Kind::String => match b {
+            Kind::Page => false,
+            Kind::Number => false,
+            Kind::Boolean => false,
+            Kind::String => true,
+        },
+    }
+}
+
+// Whether some page holds, under x, a value of another kind than the given one; d is the kind that x is declared with.
+pub fn some_other(
+    s: &[u8],
+    t: &[u16],
+    n: usize,
+    rows: &[u16],
+    m: usize,
+    x: &[u8],
+    d: KindRead,
+    kind: Kind,
+) -> bool
+    ensures { λ r. ⌜ r ≡ otherIn (now (s .entry)) (now (t .entry)) n (take m (now (rows .entry))) (now (x .entry)) (kindOf d) kind ⌝ }
+{
+    match d {
+        KindRead::Kind(k) => !same_kind(k, kind) & some_page_holds(s, t, n, rows, m, x, d),
+        KindRead::Nothing => false,
+    }
 }

@@ -66,6 +66,8 @@ module _ (s : Bytes) (t₀ t : List ℕ) (short : length s ≤ 32768) (r : Rows)
           rows = read .0;
           properties = P .rows (omega (arith, read .1)) (omega (arith, read .1, room .properties));
           places = G .rows (omega (arith, read .1)) (omega (arith, read .1, room .places));
+          propertyCount = P .count;
+          pageCount = G .count;
         }
 
     pub judge-read : (v : ℕ) → v ≡ verdictOf s t (r .count) props np pages ng → Judges s t props pages (record { number = v; rows = r .count; props = np; pages = ng })

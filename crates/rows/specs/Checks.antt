@@ -89,11 +89,13 @@ abbrev pub numberOf : {A : Type 0} → Answer A → ℕ
 numberOf (refused n) = n
 numberOf (accepted a) = 0
 
--- The tables hold the entries of the text, and which of them are properties and pages.
+-- The tables hold the entries of the text, which of them are properties and pages, and how many.
 pub record Indexed (s : Bytes) (t props pages : List ℕ) (c : Judged) : Type 0 where
   pub rows : entries s ≡ some (entriesIn s t (c .rows))
   pub properties : take (c .props) props ≡ rowsThat Declared.Property t (c .rows)
   pub places : take (c .pages) pages ≡ rowsThat Declared.Page t (c .rows)
+  pub propertyCount : c .props ≡ length (rowsThat Declared.Property t (c .rows))
+  pub pageCount : c .pages ≡ length (rowsThat Declared.Page t (c .rows))
 
 -- Tables large enough for any text: every entry has at least two bytes.
 pub record Room (t props pages : List ℕ) : Type 0 where

@@ -1,0 +1,48 @@
+use Rattle.pieces.proofs.Laws.{ways, inner-yes}
+use borrow.Author.Needs.{needs}
+use Rattle.pieces.proofs.inner_end.Statement.{statement}
+use Rattle.pieces.proofs.inner_end.Tie as tie
+use Rattle.pieces.proofs.inner_end.Reads as reads
+use Rattle.pieces.proofs.inner_end.Lts as lts
+use Rattle.pieces.proofs.token.Reads as token-reads
+use Rattle.text.proofs.scan.Reads as scan-reads
+
+-- src/lib.rt:96:24
+slice-aggregate-token : tie.Need-slice-aggregate-token
+slice-aggregate-token c = search needs
+
+-- src/lib.rt:96:11
+token-requires : tie.Need-token-requires
+token-requires c κs = search needs
+
+-- src/lib.rt:97:19
+enum-known-i : tie.Need-enum-known-i
+enum-known-i c = search needs
+
+-- src/lib.rt:97:35
+scan-requires : tie.Need-scan-requires
+scan-requires c κs = search needs
+
+-- src/lib.rt:98:27
+enum-told : tie.Need-enum-told
+enum-told c = search needs
+
+-- src/lib.rt:93:1
+returns : tie.Need-returns
+returns c = inner-yes (c .before .before .before .before .before .before .before .args .s .now) _ _ (c .before .before .before .before .token .ensures) _ _ (c .before .before .i .given .1) (c .scan .ensures)
+
+-- src/lib.rt:93:1
+returns-2 : tie.Need-returns-2
+returns-2 c = search ways
+
+pub inner-end-spec : {M : Type 1} → statement M
+inner-end-spec =
+    tie.close
+    (tie.spec
+    slice-aggregate-token
+    token-requires
+    enum-known-i
+    scan-requires
+    enum-told
+    returns
+    returns-2)

@@ -1,0 +1,240 @@
+-- The ways through the readers that call each other: what each answers, from what its calls gave.
+use Prim.Native.Nat.{ℕ, zero, suc, _+_, _-_, _*_, _≤_, _<_}
+use mathlib.Core.Path.{_≡_, refl, ap, sym, _∙_}
+use mathlib.Core.Bool.{Bool, true, false, not}
+use mathlib.Core.List.{List, [], _∷_}
+use mathlib.Core.Option.{Option, some, none}
+use native.Mathlib.Omega.{arith}
+use borrow.Author.Tests.{not-true, not-false}
+use lib.ListN.{length, take, drop, length-drop}
+use lib.Seq.{drop-drop}
+use Rattle.text.specs.Bytes.{Bytes, bytes, isBlank, behind, after, all, part}
+use Rattle.text.specs.Class.{isFree}
+use Rattle.text.specs.declared.Span.{Span}
+use Rattle.values.specs.Values.{mapOption}
+use Rattle.language.specs.Answer.{_>>=_, found, onlyIf}
+use Rattle.language.specs.Surface.{Chain}
+use Rattle.language.specs.RawQuery.{RawQuery, RawAlternatives, token, nextTerm, headLength, splitDots, trimNames, pieceAt, plainBody, closedGroup, closedInner, closedBody, readQuery, readOr, readConjunction, readAnd, readTerm, readBody, readAlternatives, readMore, readAlternative}
+use Rattle.language.proofs.Readers.{query-eq, or-eq, conjunction-eq, and-eq, term-eq, body-eq, alternatives-eq, more-eq, alternative-eq}
+use Rattle.pieces.specs.Places.{from, textAt, restOf, placeOf, headAt, headOf, lastOf, innerEnd, pieceOf, tellsPiece}
+use Rattle.pieces.specs.declared.Found.{Found}
+use Rattle.pieces.specs.declared.Placed.{Placed}
+use Rattle.slots.specs.Slots.{Slot, slotFrom}
+use Rattle.slots.specs.Effects.{Effect, one, _then_, After, Connects, Wraps, Reads, ReadsOn}
+use Rattle.slots.specs.Trees.{deeper, effect, effectIn, chainEffect, propertyBody}
+use Rattle.slots.specs.declared.Seen.{Seen}
+use Rattle.slots.specs.declared.Outcome.{Outcome}
+use Rattle.slots.proofs.Table.{after-then}
+use Rattle.slots.proofs.Readings.{reads-on, reads-no}
+use Rattle.reader.proofs.Trees.{effect-or, effect-and, effect-group, effect-either, effect-inner, effect-property}
+
+-- Reading on behind what was read: f reads on, o reads what comes next, w finds where, behind a connective.
+module _ {A : Type 0} (e : A → Effect) (f : A → Bytes → Option (A × Bytes)) (o : Bytes → Option (A × Bytes)) (w : Bytes → Option Bytes) (tag : ℕ) where
+  abbrev pub Joined : Type 0
+  Joined = (s : Bytes) (at i next : ℕ) (t t₁ t₂ t₃ : List ℕ) (n n₁ n₂ : Seen) (x : Found) (y r : Outcome) → restOf s x ≡ w (from s at) → x ≡ Found.At i → Reads s e t n (o (from s i)) y t₁ → y ≡ Outcome.Got next n₁ → Connects tag t₁ n₁ t₂ n₂ → ReadsOn s e t₂ n₂ f next r t₃ → ReadsOn s e t n f at r t₃
+
+  abbrev pub Stopped : Type 0
+  Stopped = (s : Bytes) (at i : ℕ) (t t₁ : List ℕ) (n : Seen) (x : Found) (y : Outcome) → restOf s x ≡ w (from s at) → x ≡ Found.At i → Reads s e t n (o (from s i)) y t₁ → y ≡ Outcome.Refused → ReadsOn s e t n f at Outcome.Refused t₁
+
+  abbrev pub Done : Type 0
+  Done = (s : Bytes) (at : ℕ) (t : List ℕ) (n : Seen) (x : Found) → restOf s x ≡ w (from s at) → x ≡ Found.Nothing → ReadsOn s e t n f at (Outcome.Got at n) t
+
+  module _ (j : A → A → A) (eq : (s : Bytes) (a : A) → f a s ≡ found (w s) (λ r. o r >>= λ b. f (j a (b .0)) (b .1)) (some (a, s))) where
+    on-joined : ((a b : A) → e (j a b) ≡ e a then e b then one (slotFrom tag 0 [] [])) → Joined
+    unfolding restOf Reads ReadsOn Connects
+    on-joined joined s at i next t t₁ t₂ t₃ n n₁ n₂ x y r p g h k c l a t₀ n₀ before =
+        let b = rw k at h in
+        let m = after-then s t₀ t₁ t₂ n₀ n₁ n₂ (e a then e (b .0)) _ (after-then s t₀ t t₁ n₀ n n₁ (e a) (e (b .0)) before (b .2)) (c s) in
+        rw (eq (from s at) a, ← p, g, b .1) (l (j a (b .0)) t₀ n₀ (rw (joined a (b .0)) m))
+
+    on-stopped : Stopped
+    unfolding restOf Reads ReadsOn
+    on-stopped s at i t t₁ n x y p g h k a t₀ n₀ before =
+        let b = rw k at h in
+        (rw (eq (from s at) a, ← p, g, b .0), b .1 ∙ before .long)
+
+    on-done : Done
+    unfolding restOf Reads ReadsOn
+    on-done s at t n x p g a t₀ n₀ before = (a, rw (eq (from s at) a, ← p, g), before)
+
+module _ (d : ℕ) where
+  pub or-joined : Joined (effect d) readOr readConjunction (token (bytes "OR")) 1
+  unfolding slotFrom
+  or-joined = on-joined (effect d) readOr readConjunction (token (bytes "OR")) 1 RawQuery.disjunction or-eq (effect-or d)
+
+  pub or-stopped : Stopped (effect d) readOr readConjunction (token (bytes "OR")) 1
+  or-stopped = on-stopped (effect d) readOr readConjunction (token (bytes "OR")) 1 RawQuery.disjunction or-eq
+
+  pub or-done : Done (effect d) readOr readConjunction (token (bytes "OR")) 1
+  or-done = on-done (effect d) readOr readConjunction (token (bytes "OR")) 1 RawQuery.disjunction or-eq
+
+  pub and-joined : Joined (effect d) readAnd readTerm nextTerm 0
+  unfolding slotFrom
+  and-joined = on-joined (effect d) readAnd readTerm nextTerm 0 RawQuery.conjunction and-eq (effect-and d)
+
+  pub and-stopped : Stopped (effect d) readAnd readTerm nextTerm 0
+  and-stopped = on-stopped (effect d) readAnd readTerm nextTerm 0 RawQuery.conjunction and-eq
+
+  pub and-done : Done (effect d) readAnd readTerm nextTerm 0
+  and-done = on-done (effect d) readAnd readTerm nextTerm 0 RawQuery.conjunction and-eq
+
+  module _ (x : Bytes) where
+    pub more-joined : Joined (effectIn d x) readMore readAlternative (after (bytes "||")) 1
+    unfolding slotFrom
+    more-joined = on-joined (effectIn d x) readMore readAlternative (after (bytes "||")) 1 RawAlternatives.either more-eq (effect-either d x)
+
+    pub more-stopped : Stopped (effectIn d x) readMore readAlternative (after (bytes "||")) 1
+    more-stopped = on-stopped (effectIn d x) readMore readAlternative (after (bytes "||")) 1 RawAlternatives.either more-eq
+
+    pub more-done : Done (effectIn d x) readMore readAlternative (after (bytes "||")) 1
+    more-done = on-done (effectIn d x) readMore readAlternative (after (bytes "||")) 1 RawAlternatives.either more-eq
+
+-- A reading and what comes behind it.
+module _ (s : Bytes) (d at next : ℕ) (t t′ t″ : List ℕ) (n n′ : Seen) (x r : Outcome) where
+  pub query-got : Reads s (effect d) t n (readConjunction (from s at)) x t′ → x ≡ Outcome.Got next n′ → ReadsOn s (effect d) t′ n′ readOr next r t″ → Reads s (effect d) t n (readQuery (from s at)) r t″
+  query-got h g k = rw (query-eq (from s at)) (reads-on s (effect d) t t′ n (readConjunction (from s at)) readOr next n′ x r t″ h g k)
+
+  pub conjunction-got : Reads s (effect d) t n (readTerm (from s at)) x t′ → x ≡ Outcome.Got next n′ → ReadsOn s (effect d) t′ n′ readAnd next r t″ → Reads s (effect d) t n (readConjunction (from s at)) r t″
+  conjunction-got h g k = rw (conjunction-eq (from s at)) (reads-on s (effect d) t t′ n (readTerm (from s at)) readAnd next n′ x r t″ h g k)
+
+  pub alternatives-got : (y : Bytes) → Reads s (effectIn d y) t n (readAlternative (from s at)) x t′ → x ≡ Outcome.Got next n′ → ReadsOn s (effectIn d y) t′ n′ readMore next r t″ → Reads s (effectIn d y) t n (readAlternatives (from s at)) r t″
+  alternatives-got y h g k = rw (alternatives-eq (from s at)) (reads-on s (effectIn d y) t t′ n (readAlternative (from s at)) readMore next n′ x r t″ h g k)
+
+module _ (s : Bytes) (d at : ℕ) (t t′ : List ℕ) (n : Seen) (x : Outcome) (g : x ≡ Outcome.Refused) where
+  pub query-not : Reads s (effect d) t n (readConjunction (from s at)) x t′ → Reads s (effect d) t n (readQuery (from s at)) Outcome.Refused t′
+  query-not h = rw (query-eq (from s at)) (reads-no s (effect d) t t′ n (readConjunction (from s at)) (effect d) _ x h g)
+
+  pub conjunction-not : Reads s (effect d) t n (readTerm (from s at)) x t′ → Reads s (effect d) t n (readConjunction (from s at)) Outcome.Refused t′
+  conjunction-not h = rw (conjunction-eq (from s at)) (reads-no s (effect d) t t′ n (readTerm (from s at)) (effect d) _ x h g)
+
+  pub alternatives-not : (y : Bytes) → Reads s (effectIn d y) t n (readAlternative (from s at)) x t′ → Reads s (effectIn d y) t n (readAlternatives (from s at)) Outcome.Refused t′
+  alternatives-not y h = rw (alternatives-eq (from s at)) (reads-no s (effectIn d y) t t′ n (readAlternative (from s at)) (effectIn d y) _ x h g)
+
+-- A group, or a bracket.
+module _ (s : Bytes) (d at i : ℕ) (t t′ : List ℕ) (n : Seen) (a : Found) (p : restOf s a ≡ token (bytes "<q>") (from s at)) where
+  module _ (g : a ≡ Found.At i) (k : ℕ) (e : k ≡ deeper d) (y : Outcome) (h : Reads s (effect k) t n (readQuery (from s i)) y t′) where
+    module _ (next : ℕ) (n′ : Seen) (l : y ≡ Outcome.Got next n′) (b : Found) (q : restOf s b ≡ token (bytes "</q>") (from s next)) where
+      pub term-group : (end : ℕ) → b ≡ Found.At end → Reads s (effect d) t n (readTerm (from s at)) (Outcome.Got end n′) t′
+      unfolding restOf Reads closedGroup
+      term-group end f =
+          let z = rw l at h in
+          (RawQuery.group (z .0), closes (z .0) (z .1), rw (effect-group d (z .0), ← e) (z .2))
+        where
+          closes : (x : RawQuery) → readQuery (from s i) ≡ some (x, from s next) → readTerm (from s at) ≡ some (RawQuery.group x, from s end)
+          closes x m = rw (term-eq (from s at), ← p, g, m, ← q, f)
+
+      pub term-open : b ≡ Found.Nothing → Reads s (effect d) t n (readTerm (from s at)) Outcome.Refused t′
+      unfolding restOf Reads closedGroup
+      term-open f =
+          let z = rw l at h in
+          (rw (term-eq (from s at), ← p, g, z .1, ← q, f), z .2 .long)
+
+    pub term-not : y ≡ Outcome.Refused → Reads s (effect d) t n (readTerm (from s at)) Outcome.Refused t′
+    unfolding restOf Reads
+    term-not l =
+        let z = rw l at h in
+        (rw (term-eq (from s at), ← p, g, z .0), z .1)
+
+module _ (s : Bytes) (d at : ℕ) (t : List ℕ) (n : Seen) (a b : Found) (p : restOf s a ≡ token (bytes "<q>") (from s at)) (g : a ≡ Found.Nothing) (q : restOf s b ≡ token (bytes "[[") (from s at)) where
+  pub term-bracket : (i : ℕ) (t′ : List ℕ) (r : Outcome) → b ≡ Found.At i → Reads s (effect d) t n (readBody (from s i)) r t′ → Reads s (effect d) t n (readTerm (from s at)) r t′
+  unfolding restOf
+  term-bracket i t′ r f h = rw (term-eq (from s at), ← p, g, ← q, f) h
+
+  pub term-none : b ≡ Found.Nothing → Reads s (effect d) t n (readTerm (from s at)) Outcome.Refused t
+  unfolding restOf Reads
+  term-none f = (rw (term-eq (from s at), ← p, g, ← q, f), refl)
+
+-- A bracket with `::`, or without.
+head-some : (at e : ℕ) (o : Option ℕ) → some e ≡ mapOption (λ k. at + k) o → o ≡ some (e - at)
+head-some at e none h = cc
+head-some at e (some k) h = let l : e ≡ at + k = cc in ap some (omega arith)
+
+head-no : (at : ℕ) (o : Option ℕ) → none ≡ mapOption (λ k. at + k) o → o ≡ none
+head-no at none h = refl
+head-no at (some k) h = cc
+
+module _ (s : Bytes) (d at : ℕ) (t t′ : List ℕ) (n : Seen) (a : Found) (r : Outcome) (p : placeOf a ≡ headAt s at) where
+  pub bracket-property : (e : ℕ) → a ≡ Found.At e → Reads s (effect d) t n (propertyBody (from s at) (e - at)) r t′ → Reads s (effect d) t n (readBody (from s at)) r t′
+  unfolding placeOf headAt propertyBody
+  bracket-property e g h = rw (body-eq (from s at), head-some at e (headLength (from s at)) (rw g at p)) h
+
+  pub bracket-plain : a ≡ Found.Nothing → Reads s (effect d) t n (plainBody (from s at)) r t′ → Reads s (effect d) t n (readBody (from s at)) r t′
+  unfolding placeOf headAt
+  bracket-plain g h = rw (body-eq (from s at), head-no at (headLength (from s at)) (rw g at p)) h
+
+-- The head, the alternatives and the `]]` of a property body.
+behind-head : (s : Bytes) (at len : ℕ) → drop (2 + len) (from s at) ≡ from s (at + len + 2)
+unfolding from
+behind-head s at len = let e : at + (2 + len) ≡ at + len + 2 = omega arith in drop-drop (2 + len) at s ∙ ap (λ k. drop k s) e
+
+module _ (s h : Bytes) (d at len : ℕ) (t : List ℕ) (n : Seen) (b : Bool) (e : h ≡ part s at len) (f : b ≡ all isFree h) where
+  free : {c : Bool} → b ≡ c → all isFree (take len (from s at)) ≡ c
+  unfolding from
+  free g = rw (← e) (sym f ∙ g)
+
+  pub property-unfree : not b ≡ true → Reads s (effect d) t n (propertyBody (from s at) len) Outcome.Refused t
+  unfolding Reads propertyBody
+  property-unfree g = (rw (free (not-true b g)), refl)
+
+  module _ (g : not b ≡ false) (t′ : List ℕ) (x : Span) (y : Outcome) (a : Reads s (effectIn d (textAt s x)) t n (readAlternatives (from s (at + len + 2))) y t′) where
+    pub property-not : y ≡ Outcome.Refused → Reads s (effect d) t n (propertyBody (from s at) len) Outcome.Refused t′
+    unfolding Reads propertyBody
+    property-not l =
+        let z = rw l at a in
+        (rw (free (not-false b g), behind-head s at len, z .0), z .1)
+
+    module _ (next : ℕ) (n′ : Seen) (l : y ≡ Outcome.Got next n′) (c : Found) (q : restOf s c ≡ after (bytes "]]") (from s next)) where
+      pub property-open : c ≡ Found.Nothing → Reads s (effect d) t n (propertyBody (from s at) len) Outcome.Refused t′
+      unfolding Reads propertyBody closedBody restOf
+      property-open m =
+          let z = rw l at a in
+          (rw (free (not-false b g), behind-head s at len, z .1, ← q, m), z .2 .long)
+
+      closed : (end : ℕ) (w : RawAlternatives) → c ≡ Found.At end → readAlternatives (from s (at + len + 2)) ≡ some (w, from s next) → propertyBody (from s at) len ≡ some (RawQuery.property (headOf s at len) w, from s end)
+      unfolding propertyBody closedBody restOf headOf from
+      closed end w m k = rw (free (not-false b g), behind-head s at len, k, ← q, m)
+
+      pub property-got : (end : ℕ) (t″ : List ℕ) (n″ : Seen) → c ≡ Found.At end → textAt s x ≡ lastOf (headOf s at len) → After s t′ n′ (chainEffect 0 (headOf s at len)) t″ n″ → Reads s (effect d) t n (propertyBody (from s at) len) (Outcome.Got end n″) t″
+      unfolding Reads
+      property-got end t″ n″ m u v =
+          let z = rw l at a in
+          (RawQuery.property (headOf s at len) (z .0), closed end (z .0) m (z .1), rw (effect-property d (headOf s at len) (z .0), ← u) (after-then s t t′ t″ n n′ n″ _ _ (z .2) v))
+
+-- A subquery, or a piece, under a property name.
+inner-is : (q : RawQuery) (s : Bytes) → closedInner q s ≡ (innerEnd s >>= λ r. some (RawAlternatives.subquery q, r))
+unfolding closedInner innerEnd
+inner-is q s = go (token (bytes "</q>") s)
+  where
+    go : (o : Option Bytes) → _>>=_ {B = RawAlternatives × Bytes} o (λ r. some (RawAlternatives.subquery q, behind isBlank r)) ≡ ((o >>= λ r. some (behind isBlank r)) >>= λ r. some (RawAlternatives.subquery q, r))
+    go none = refl
+    go (some r) = refl
+
+module _ (s : Bytes) (d at : ℕ) (t t′ : List ℕ) (n : Seen) (a : Found) (x : Span) (p : restOf s a ≡ token (bytes "<q>") (from s at)) where
+  module _ (i : ℕ) (g : a ≡ Found.At i) (k : ℕ) (e : k ≡ deeper d) (y : Outcome) (h : Reads s (effect k) t n (readQuery (from s i)) y t′) where
+    module _ (next : ℕ) (n′ : Seen) (l : y ≡ Outcome.Got next n′) (b : Found) (q : restOf s b ≡ innerEnd (from s next)) where
+      pub alternative-group : (end : ℕ) (t″ : List ℕ) (n″ : Seen) → b ≡ Found.At end → Wraps x t′ n′ t″ n″ → Reads s (effectIn d (textAt s x)) t n (readAlternative (from s at)) (Outcome.Got end n″) t″
+      unfolding restOf Reads Wraps textAt
+      alternative-group end t″ n″ f w =
+          let z = rw l at h in
+          (RawAlternatives.subquery (z .0), closes (z .0) (z .1), rw (effect-inner d _ (z .0), ← e) (after-then s t t′ t″ n n′ n″ _ _ (z .2) (w s)))
+        where
+          closes : (x : RawQuery) → readQuery (from s i) ≡ some (x, from s next) → readAlternative (from s at) ≡ some (RawAlternatives.subquery x, from s end)
+          closes x m = rw (alternative-eq (from s at), ← p, g, m, inner-is, ← q, f)
+
+      pub alternative-open : b ≡ Found.Nothing → Reads s (effectIn d (textAt s x)) t n (readAlternative (from s at)) Outcome.Refused t′
+      unfolding restOf Reads
+      alternative-open f =
+          let z = rw l at h in
+          (rw (alternative-eq (from s at), ← p, g, z .1, inner-is, ← q, f), z .2 .long)
+
+    pub alternative-not : y ≡ Outcome.Refused → Reads s (effectIn d (textAt s x)) t n (readAlternative (from s at)) Outcome.Refused t′
+    unfolding restOf Reads
+    alternative-not l =
+        let z = rw l at h in
+        (rw (alternative-eq (from s at), ← p, g, z .0), z .1)
+
+  pub alternative-piece : (c : Placed) (n′ : Seen) → a ≡ Found.Nothing → pieceAt (from s at) ≡ tellsPiece s c → After s t n (effectIn d (textAt s x) (RawAlternatives.piece (pieceOf s (c .comparator) (c .text)))) t′ n′ → Reads s (effectIn d (textAt s x)) t n (readAlternative (from s at)) (Outcome.Got (c .next) n′) t′
+  unfolding restOf Reads tellsPiece
+  alternative-piece c n′ g k h = (RawAlternatives.piece (pieceOf s (c .comparator) (c .text)), rw (alternative-eq (from s at), ← p, g, k), h)
+
+pub ruleset cycle = (or-joined, or-stopped, or-done, and-joined, and-stopped, and-done, more-joined, more-stopped, more-done, query-got, conjunction-got, alternatives-got, query-not, conjunction-not, alternatives-not, term-group, term-open, term-not, term-bracket, term-none, bracket-property, bracket-plain, property-unfree, property-not, property-open, property-got, alternative-group, alternative-open, alternative-not, alternative-piece)
