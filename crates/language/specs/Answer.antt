@@ -9,6 +9,20 @@ pub data Answer (A : Type 0) : Type 0 where
   refused : ℕ → Answer A
   accepted : A → Answer A
 
+-- The number that a call returns: 0 where it is accepted.
+abbrev pub numberOf : {A : Type 0} → Answer A → ℕ
+numberOf (refused n) = n
+numberOf (accepted a) = 0
+
+-- What was accepted, and what a call refuses by n where there is nothing.
+abbrev pub acceptedOf : {A : Type 0} → Answer A → Option A
+acceptedOf (refused n) = none
+acceptedOf (accepted a) = some a
+
+abbrev pub orRefuse : {A : Type 0} → ℕ → Option A → Answer A
+orRefuse n none = refused n
+orRefuse n (some a) = accepted a
+
 -- A number of the table, and whether its condition holds.
 infix 75 _if_
 pub data Check : Type 0 where

@@ -12,7 +12,7 @@ use lib.Seq.{drop-drop}
 use borrow.Author.Tests.{lt-ltb, le-ltb, ltb-false, ltb-true, eq-eqb, ne-eqb}
 use Rattle.text.specs.Bytes.{Bytes, isBlank, span, behind}
 use Rattle.text.specs.Table.{tabulate}
-use Rattle.language.specs.Answer.{Answer, refused, accepted, Check, _if_, judge, _>>=_, found, onlyIf}
+use Rattle.language.specs.Answer.{Answer, refused, accepted, numberOf, Check, _if_, judge, _>>=_, found, onlyIf}
 use Rattle.language.specs.Surface.{Query}
 use Rattle.language.specs.RawQuery.{RawQuery, readQuery, readWhole}
 use Rattle.language.specs.QueryText.{depth, longest, breaks, breaksValue, surface, checks, readText}
@@ -21,7 +21,7 @@ use Rattle.pieces.specs.Places.{from}
 use Rattle.slots.specs.Slots.{Slot, flat, slotsIn}
 use Rattle.slots.specs.Effects.{After, Fits, Reads}
 use Rattle.slots.specs.Trees.{effect}
-use Rattle.reader.specs.Answers.{numberOf, verdictOf, ReadsText}
+use Rattle.reader.specs.Answers.{verdictOf, ReadsText}
 use Rattle.slots.specs.declared.Seen.{Seen}
 use Rattle.slots.specs.declared.Outcome.{Outcome}
 use Rattle.reader.specs.declared.Reading.{Reading}

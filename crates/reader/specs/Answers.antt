@@ -5,17 +5,12 @@ use mathlib.Core.Bool.{cond}
 use mathlib.Core.List.{List}
 use lib.ListN.{length}
 use Rattle.text.specs.Bytes.{Bytes}
-use Rattle.language.specs.Answer.{Answer, refused, accepted}
+use Rattle.language.specs.Answer.{Answer, accepted, numberOf}
 use Rattle.language.specs.Surface.{Query}
 use Rattle.language.specs.QueryText.{readText}
 use Rattle.slots.specs.Slots.{flat, slotsIn}
 use Rattle.reader.specs.declared.Reading.{Reading}
 use Rattle.slots.specs.declared.Seen.{Seen}
-
--- The number that is returned: 0 where accepted.
-abbrev pub numberOf : {A : Type 0} → Answer A → ℕ
-numberOf (refused n) = n
-numberOf (accepted a) = 0
 
 -- The lowest of 14, 15 and 16 whose condition was met, or 0.
 unfoldable pub verdictOf : Seen → ℕ

@@ -9,14 +9,14 @@ use borrow.Author.Tests.{lt-ltb, le-ltb}
 use lib.Dec.{ltb}
 use lib.ListN.{length, drop}
 use Rattle.text.specs.Bytes.{Bytes, any}
-use Rattle.language.specs.Answer.{Answer, refused, accepted, judge, _if_, andThen, found, onlyIf}
+use Rattle.language.specs.Answer.{Answer, refused, accepted, numberOf, acceptedOf, judge, _if_, andThen, found, onlyIf}
 use Rattle.language.specs.Register.{Register}
 use Rattle.language.specs.RegisterText.{Entry, entries, breaksRule, someTwice, isUndeclared, isUnfit, properties, overLimits, checks, registerOf, readRegister}
 use Rattle.entries.specs.Table.{entriesIn}
 use Rattle.held.specs.Form.{registerSize, formOf, withForm, textIn, sameForm}
-use Rattle.rows.specs.Checks.{numberOf, Indexed, Judges}
+use Rattle.rows.specs.Checks.{Indexed, Judges}
 use Rattle.rows.specs.declared.Judged.{Judged}
-use Rattle.register.specs.Held.{acceptedOf, heldRegister, registerCall, leftIn, Registers, Opens}
+use Rattle.register.specs.Held.{heldRegister, registerCall, leftIn, Registers, Opens}
 use Rattle.register.proofs.Forms.{HeldBy, held-by}
 
 -- a text whose number is 0 is accepted, and reads as entries

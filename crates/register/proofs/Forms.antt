@@ -12,12 +12,12 @@ use lib.Seq.{take-at, getD-take}
 use Rattle.text.specs.Bytes.{Bytes, same}
 use Rattle.text.proofs.Laws.{same-eq, same-refl}
 use Rattle.text.proofs.Tables.{getD-tabulate}
-use Rattle.language.specs.Answer.{Answer, refused, accepted, onlyIf}
+use Rattle.language.specs.Answer.{Answer, refused, accepted, acceptedOf, onlyIf}
 use Rattle.language.specs.Register.{Register}
 use Rattle.language.specs.RegisterText.{readRegister}
 use Rattle.held.specs.Form.{registerSize, formByte, formOf, textIn, sameForm}
 use Rattle.held.proofs.Forms.{form-length, text-back}
-use Rattle.register.specs.Held.{acceptedOf, heldRegister}
+use Rattle.register.specs.Held.{heldRegister}
 
 -- The law of the held register: the form of an accepted text, whatever is behind it, is the form of its register.
 pub held-form : (t b : Bytes) (R : Register) → length t ≤ 32768 → readRegister t ≡ accepted R → heldRegister (formOf t ++ b) ≡ some R

@@ -7,18 +7,13 @@ use mathlib.Core.Option.{Option, some, none}
 use lib.Dec.{ltb}
 use lib.ListN.{length, drop}
 use Rattle.text.specs.Bytes.{Bytes}
-use Rattle.language.specs.Answer.{Answer, refused, accepted, andThen, onlyIf}
+use Rattle.language.specs.Answer.{Answer, refused, accepted, numberOf, acceptedOf, andThen, onlyIf}
 use Rattle.language.specs.Register.{Register}
 use Rattle.language.specs.RegisterText.{registerOf, readRegister}
 use Rattle.entries.specs.Table.{entriesIn}
 use Rattle.held.specs.Form.{registerSize, formOf, textIn, sameForm}
-use Rattle.rows.specs.Checks.{numberOf, Indexed}
+use Rattle.rows.specs.Checks.{Indexed}
 use Rattle.rows.specs.declared.Judged.{Judged}
-
--- The register of an accepted text.
-abbrev pub acceptedOf : {A : Type 0} → Answer A → Option A
-acceptedOf (refused n) = none
-acceptedOf (accepted a) = some a
 
 -- "A held input is its first bytes of that size, and a shorter one is a form of nothing": the register that bytes hold, if they
 -- are the form of a text that gives one.

@@ -11,7 +11,7 @@ use lib.Seq.{length-take-le, getD-take}
 use Rattle.text.specs.Bytes.{Bytes, any}
 use Rattle.text.specs.Table.{tabulate}
 use Rattle.text.proofs.Tables.{count-ext}
-use Rattle.language.specs.Answer.{judge, _if_}
+use Rattle.language.specs.Answer.{numberOf, judge, _if_}
 use Rattle.language.specs.Register.{Property, Typing, kindAmong}
 use Rattle.language.specs.RegisterText.{Entry, prop, page, cat, val, close, entries, breaksRule, sameDeclared, someTwice, properties, isUndeclared, valueOf, isUnfit, isPage, isInner, countOf, overLimits, registerOf, checks, readRegister}
 use Rattle.values.specs.declared.Kind.{Kind}
@@ -19,7 +19,7 @@ use Rattle.entries.specs.Items.{entryBy}
 use Rattle.entries.specs.Table.{tagFrom, entryFrom, entryAt, entriesIn}
 use Rattle.entries.specs.declared.Tag.{Tag}
 use Rattle.rows.specs.Rows.{anyTo, placesTo, twiceTo, twiceAt, isProp, declaredKind, firstIn}
-use Rattle.rows.specs.Checks.{declares, rowsThat, kindsIn, fails, twiceIn, innerIn, numberOf, lowest, verdictOf}
+use Rattle.rows.specs.Checks.{declares, rowsThat, kindsIn, fails, twiceIn, innerIn, lowest, verdictOf}
 use Rattle.rows.specs.declared.Declared.{Declared}
 use Rattle.rows.specs.declared.Check.{Check}
 use Rattle.rows.proofs.Rows.{any-rows, count-rows, places-count, twice-rows, kind-rows, any-to-ext, twice-to-ext}

@@ -9,7 +9,7 @@ use lib.ListN.{length, take, getD}
 use Rattle.text.specs.Bytes.{Bytes}
 use Rattle.text.specs.Table.{countTo}
 use Rattle.values.specs.Values.{readValue}
-use Rattle.language.specs.Answer.{Answer, refused, accepted, _>>=_, found}
+use Rattle.language.specs.Answer.{numberOf, _>>=_, found}
 use Rattle.language.specs.Register.{Typing}
 use Rattle.language.specs.RegisterText.{Entry, prop, page, cat, val, close, isPage, isInner, breaksRule, sameDeclared, entries, readRegister}
 use Rattle.entries.specs.Table.{entryAt, entriesIn}
@@ -83,11 +83,6 @@ twiceIn s t rows m = twiceTo m (λ a b. sameDeclared (entryAt s t (getD rows a 0
 
 abbrev pub innerIn : List ℕ → ℕ → ℕ
 innerIn t n = countTo n (λ i. isInner (entryAt [] t i))
-
--- The number that an answer returns: 0 where it is accepted.
-abbrev pub numberOf : {A : Type 0} → Answer A → ℕ
-numberOf (refused n) = n
-numberOf (accepted a) = 0
 
 -- The tables hold the entries of the text, which of them are properties and pages, and how many.
 pub record Indexed (s : Bytes) (t props pages : List ℕ) (c : Judged) : Type 0 where

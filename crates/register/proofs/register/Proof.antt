@@ -5,7 +5,8 @@ use native.Mathlib.Omega.{arith}
 use lib.ListN.{replicate, length-replicate}
 use Rattle.text.specs.Bytes.{Bytes}
 use Rattle.language.specs.RegisterText.{readRegister}
-use Rattle.rows.specs.Checks.{numberOf, Room, Judges}
+use Rattle.rows.specs.Checks.{Room, Judges}
+use Rattle.language.specs.Answer.{numberOf}
 use Rattle.rows.specs.declared.Judged.{Judged}
 use Rattle.register.proofs.Calls.{call-refused, call-short, call-done}
 use borrow.Author.Needs.{needs}
