@@ -1,0 +1,73 @@
+/* Vetxarno: ask queries over a register of pages.
+ *
+ * A register text becomes a held register, a query text becomes a held query for a register's properties, and asking
+ * marks the pages that the query selects. Held forms are plain bytes of a fixed size: they may be copied, kept in a file
+ * and lent to a later call. docs/LAYOUT.md says how they lie.
+ *
+ * What holds of all three calls:
+ * - A negative number is a refusal: its number in the tables below, made negative. If several conditions hold, the
+ *   lowest number is returned. A refused call has changed no byte of any buffer.
+ * - Any bytes may be lent: a buffer that is no held form is refused, not trusted.
+ * - The buffers of one call must not overlap. A buffer of length 0 still needs a pointer that is not null.
+ * - No state is kept and no memory is allocated. Calls from several threads are fine as long as they share no buffer
+ *   that one of them writes.
+ * - A call needs about 0.6 MB of stack; see docs/BENCHMARKS.md. */
+#ifndef VETXARNO_H
+#define VETXARNO_H
+
+#include <stddef.h>
+#include <stdint.h>
+
+#ifdef __cplusplus
+extern "C" {
+#endif
+
+/* The size of a held register and of a held query. A longer buffer may be lent; only its first bytes count. */
+#define VETXARNO_REGISTER_BYTES 32770
+#define VETXARNO_QUERY_BYTES 6148
+
+/* Reads a register text and writes the held register into the first VETXARNO_REGISTER_BYTES bytes of `held`; later bytes
+ * stay as they are. Returns 0, or:
+ *
+ *   -1  the text is longer than 32,768 bytes
+ *   -2  the text is not lines of prop and page forms, each ended by byte 10
+ *   -3  a name, a namespace or a value breaks its rule
+ *   -4  a property, or a page (namespace and name), is declared twice
+ *   -5  a val form names a property that no prop line declares
+ *   -6  a value does not fit its property's kind
+ *   -7  more than 64 properties, 256 pages, or 2,048 cat and val forms together
+ *   -8  held_len is less than VETXARNO_REGISTER_BYTES */
+int32_t vetxarno_register(const uint8_t *text, size_t text_len, uint8_t *held, size_t held_len);
+
+/* Reads a query text, fits it to the properties of a held register, and writes the held query into the first
+ * VETXARNO_QUERY_BYTES bytes of `held_query`; later bytes stay as they are. Returns 0, or:
+ *
+ *   -11  held_register is not what vetxarno_register wrote for some text, or is too short for it
+ *   -12  the text is longer than 1,024 bytes
+ *   -13  the text does not read as a query
+ *   -14  <q> is nested deeper than 8, or a property chain has more than 8 names
+ *   -15  a name or reference outside property values breaks its rule, or a category has a comparator
+ *   -16  a property's piece breaks the rule for values
+ *   -17  a property is not declared in the register
+ *   -18  a piece does not fit its property's kind, or a subquery or chain goes through a property that is no link
+ *   -19  the query has more than 256 nodes
+ *   -20  held_query_len is less than VETXARNO_QUERY_BYTES */
+int32_t vetxarno_query(const uint8_t *held_register, size_t held_register_len, const uint8_t *text, size_t text_len,
+                       uint8_t *held_query, size_t held_query_len);
+
+/* Runs a held query on a held register, which need not be the one that the query was made with. Writes one byte for each
+ * page of the register, in the order of the page lines: 1 for a page that the query selects, 0 for any other. Later bytes
+ * stay as they are. 256 bytes are enough for any register. Returns the number of pages marked 1, or:
+ *
+ *   -21  held_query is no held query, or is too short for one
+ *   -22  held_register is not what vetxarno_register wrote for some text, or is too short for it
+ *   -23  the query compares values of two kinds: a property has values of another kind in this register
+ *   -24  marks_len is less than the number of pages */
+int32_t vetxarno_ask(const uint8_t *held_query, size_t held_query_len, const uint8_t *held_register,
+                     size_t held_register_len, uint8_t *marks, size_t marks_len);
+
+#ifdef __cplusplus
+}
+#endif
+
+#endif
