@@ -122,7 +122,7 @@ static bool read_constant(const uint8_t *at, struct span text, struct value *out
     uint64_t number = number_at(at + 12, 8);
     if (at[2] > STRING - NUMBER) return false;
     out->kind = (enum kind)(NUMBER + at[2]);
-    out->number = out->kind == BOOLEAN ? at[3] : (int64_t)number - BIAS;
+    out->number = out->kind == BOOLEAN ? at[3] : (int64_t)(number - (uint64_t)BIAS);
     out->string = span_at(at + 8, text);
     switch (out->kind) {
     case NUMBER: return 0 < number && number < 2 * (uint64_t)BIAS;
