@@ -1,0 +1,104 @@
+"""Records that are made and not drawn: stated answers, edges, pairs of faults, and forms that no text gives."""
+from itertools import permutations
+
+import cases
+import forms
+from core import And, Article, Existence, InNamespace, Or, Subquery
+from query import query_call
+from records import ask_case, case, query_case, register_case
+from register import register_call
+
+SAMPLE = cases.SAMPLE.encode()
+HELD_SAMPLE = forms.held_register(SAMPLE)
+
+
+def stated(found):
+    """A case of the papers or of the vectors, with their own answers."""
+    texts = [found.get(name, '').encode('latin-1') for name in ('register', 'query', 'second')]
+    content, line, doubts = case(*texts, forgeries=4)
+    words = line.split()
+    wanted = {0: found['register_number'], 2: found.get('query_number')}
+    bad = [f'{-number} is stated' for at, number in wanted.items() if number is not None and words[at] != str(-number)]
+    if 'marks' in found and words[3:5] != [str(found['count']), found['marks'] or '-']:
+        bad.append(f"{found['marks']} is stated")
+    if found.get('second_number') and words[5] != str(-found['second_number']):
+        bad.append(f"second {found['second_number']} is stated")
+    return content, line, doubts + bad
+
+
+def form_of(text):
+    return forms.held_query(query_call(register_call(SAMPLE)[1], text)[1], text)
+
+
+def edges():
+    """Buffer lengths, empty inputs and bytes that are no form."""
+    held, query, other = HELD_SAMPLE, form_of(b'[[Crates::>12]]'), forms.held_register(cases.STRINGS.encode())
+    for length in (0, 1, forms.HELD - 1, forms.HELD, forms.HELD + 1):
+        yield from (register_case(text, length) for text in (SAMPLE, b'', b'\n', b' ' * 32768, b' ' * 32769))
+    for length in (0, forms.QUERY - 1, forms.QUERY, forms.QUERY + 1):
+        for text in (b'[[D1]]', b'', b' ' * 1025, b'[[Qty::1]]'):
+            yield from (query_case(h, text, length) for h in (held, held + b'x', held[:-1], b'', b'\xff' * forms.HELD))
+    for q in (query, query + b'x', query[:-1], b'', b'\xff' * forms.QUERY, bytes(forms.QUERY)):
+        for h in (held, held + b'x', held[:-1], b'', b'\xff' * forms.HELD, other, bytes(forms.HELD)):
+            yield from (ask_case(q, h, length) for length in (0, 5, 6, 7, 300))
+
+
+REGISTER_FAULTS = (b'(page "" "a:b")\n', b'(page "" "a")\n' * 2, b'(page "" "b" (val "Q" "1"))\n', b'(page "" "c" (val "N" "x"))\n')
+OVER_LIMITS = (b'', b''.join(b'(prop "p%d" page)\n' % i for i in range(64)), b''.join(b'(page "" "p%d")\n' % i for i in range(257)),
+               b'(page "" "d"' + b' (cat "c")' * 2049 + b')\n')
+QUERY_FAULTS = (b'<q>' * 9 + b'[[a]]' + b'</q>' * 9, b'[[Category:+]]', b'[[Lot::~A]]', b'[[Qty::1]]', b'[[Crates::yes]]', b'[[a]]' * 65)
+
+
+def chosen(parts, which):
+    return [one for at, one in enumerate(parts) if which >> at & 1]
+
+
+def fault_sets():
+    """Every set of faults, in both orders: the lowest number is returned wherever the faults stand."""
+    for which in range(16):
+        for over in OVER_LIMITS:
+            parts = [b'(prop "N" number)\n', *chosen(REGISTER_FAULTS, which), over]
+            for text in (b''.join(parts), b''.join(reversed(parts))):
+                yield from (register_case(text + end, forms.HELD - which % 2) for end in (b'', b'(prop "A")\n', b' ' * 32769))
+    for which in range(64):
+        parts = [b'[[D1]]', *chosen(QUERY_FAULTS, which)]
+        for text in (b''.join(parts), b' OR '.join(reversed(parts))):
+            yield from (query_case(HELD_SAMPLE, text + end, forms.QUERY - which % 2) for end in (b'', b' AND', b' ' * 1025))
+
+
+def chains():
+    """A chain's names in every order, where only one order leads on."""
+    register = b'(prop "P" page)\n(prop "Q" page)\n(prop "R" page)\n(page "" "a" (val "P" "b"))\n(page "" "b" (val "Q" "c"))\n'
+    register += b'(page "" "c" (val "R" "d"))\n(page "" "d" (val "R" "a"))\n'
+    for names in permutations((b'P', b'Q', b'R')):
+        yield from (case(register, b'[[%s::%s]]' % (b'.'.join(names), piece), SAMPLE) for piece in (b'd', b'a', b'+', b'!x'))
+
+
+def by_hand():
+    """Core queries that no text gives, and node counts round 256."""
+    text, links = b'D1 Brought by In region', (b'Brought by', b'In region')
+    article, right, left, deep = Article('=', b'D1'), Article('=', b'D1'), Article('=', b'D1'), InNamespace(b'')
+    for count in range(1, 258):
+        if count < 9 or count > 250:
+            yield ask_case(forms.held_query(deep, text), HELD_SAMPLE, 6)
+        deep = Subquery(links[count % 2], deep)
+    for count in range(128):
+        right, left = And(article, right), Or(left, article)
+        if count < 4 or count > 124:
+            yield from (ask_case(forms.held_query(core, text), HELD_SAMPLE, 6) for core in (right, left))
+    yield ask_case(forms.held_query(And(right.right, Subquery(links[0], Existence(links[0]))), text), HELD_SAMPLE, 6)
+
+
+def field_edits():
+    """Every byte of every node of a query with all kinds of nodes, changed to each of a few values."""
+    query = b'[[Category:Delivery]] [[!a]] OR [[Crates::12]] OR [[Chilled::no]] OR [[Lot::A7]] OR [[Brought by::<q>[[In region::+]] [[:+]]</q>]]'
+    form = form_of(query)
+    count = int.from_bytes(form[2:4], 'little')
+    for at in [*range(4), *range(1028, 1028 + 20 * count)]:
+        for byte in {0, 1, 2, 3, 4, 8, 255, form[at] + 1, abs(form[at] - 1)} - {form[at]}:
+            yield ask_case(form[:at] + bytes([byte % 256]) + form[at + 1:], HELD_SAMPLE, 6)
+
+
+def handmade():
+    for some in (edges, fault_sets, chains, by_hand, field_edits):
+        yield from some()
