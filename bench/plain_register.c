@@ -163,13 +163,15 @@ int read_register(struct span text, struct reg *r) {
     return r->prop_count > 64 || r->page_count > 256 || r->form_count > 2048 ? 7 : 0;
 }
 
+static bool is_zero(const uint8_t *at, size_t len) {
+    return len == 0 || (at[0] == 0 && memcmp(at, at + 1, len - 1) == 0);
+}
+
 bool open_register(const uint8_t *held, size_t len, struct reg *r) {
     if (len < PLAIN_REGISTER_BYTES) return false;
     size_t text_len = held[0] | (size_t)held[1] << 8;
     if (text_len > 32768 || read_register(span_of(held + 2, text_len), r) != 0) return false;
-    for (size_t i = 2 + text_len; i < PLAIN_REGISTER_BYTES; i++)
-        if (held[i] != 0) return false;
-    return true;
+    return is_zero(held + 2 + text_len, 32768 - text_len);
 }
 
 int32_t plain_register(const uint8_t *text, size_t text_len, uint8_t *held, size_t held_len) {

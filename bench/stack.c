@@ -1,0 +1,121 @@
+/* How much stack a call needs: it runs in a thread whose stack was filled with a pattern. */
+#include <pthread.h>
+#include <stdio.h>
+#include <string.h>
+#include <sys/mman.h>
+
+#include "bench.h"
+
+enum { STACK = 32 << 20, PATTERN = 0xC7 };
+
+struct job {
+    const struct calls *calls;
+    char letter; /* R, Q, A, or - for none */
+    const uint8_t *text, *held, *query;
+    size_t len;
+    uint8_t *out;
+};
+
+static void *run_job(void *given) {
+    struct job *j = given;
+    if (j->letter == 'R') j->calls->reg(j->text, j->len, j->out, HELD_BYTES);
+    if (j->letter == 'Q') j->calls->query(j->held, HELD_BYTES, j->text, j->len, j->out, QUERY_BYTES);
+    if (j->letter == 'A') j->calls->ask(j->query, QUERY_BYTES, j->held, HELD_BYTES, j->out, MARK_BYTES);
+    return NULL;
+}
+
+/* The bytes from the deepest one that was written up to the stack's top. */
+static size_t depth_of(struct job *j) {
+    static uint8_t *stack;
+    pthread_attr_t attributes;
+    pthread_t thread;
+    size_t i = 0;
+    if (stack == NULL) {
+        stack = mmap(NULL, STACK, PROT_READ | PROT_WRITE, MAP_PRIVATE | MAP_ANONYMOUS | MAP_STACK, -1, 0);
+        if (stack == MAP_FAILED) stop("no memory");
+    }
+    memset(stack, PATTERN, STACK);
+    pthread_attr_init(&attributes);
+    if (pthread_attr_setstack(&attributes, stack, STACK) != 0 || pthread_create(&thread, &attributes, run_job, j) != 0)
+        stop("no thread");
+    pthread_join(thread, NULL);
+    while (i < STACK && stack[i] == PATTERN) i++;
+    return STACK - i;
+}
+
+/* A query made by hand as docs/LAYOUT.md says: one namespace node inside 255 subqueries on L. */
+static void write_nested(uint8_t query[QUERY_BYTES]) {
+    memset(query, 0, QUERY_BYTES);
+    query[0] = 1;
+    query[3] = 1; /* 256 nodes */
+    query[4] = 'L';
+    query[1028] = 3;
+    for (int i = 1; i < 256; i++) {
+        query[1028 + 20 * i] = 5;
+        query[1028 + 20 * i + 6] = 1;
+    }
+}
+
+/* 128 selectors and 127 ANDs behind them: as many queries wait at once as can. */
+static void write_waiting(uint8_t query[QUERY_BYTES]) {
+    memset(query, 0, QUERY_BYTES);
+    query[2] = 255;
+    for (int i = 0; i < 255; i++) query[1028 + 20 * i] = i < 128 ? 3 : 0;
+}
+
+static void repeat(char *out, const char *word, int count) {
+    for (*out = 0; count > 0; count--) strcat(out, word);
+}
+
+static size_t largest(size_t a, size_t b) { return a > b ? a : b; }
+
+/* Texts that nest as deep as 1,024 bytes allow, whether or not they are accepted, and the questions. */
+static size_t query_depth(struct job j) {
+    static const char *const nested[] = {"<q>", "[[L::<q>", "[[::<q>"};
+    struct question questions[QUESTIONS];
+    size_t most = 0;
+    char text[1100];
+    write_questions(1, questions);
+    for (size_t i = 0; i < QUESTIONS + 3; i++) {
+        if (i < QUESTIONS) strcpy(text, questions[i].query);
+        else repeat(text, nested[i - QUESTIONS], (int)(1024 / strlen(nested[i - QUESTIONS])));
+        j.text = (const uint8_t *)text;
+        j.len = strlen(text);
+        most = largest(most, depth_of(&j));
+    }
+    return most;
+}
+
+static size_t ask_depth(struct job j) {
+    static uint8_t query[QUERY_BYTES];
+    struct question questions[QUESTIONS];
+    size_t most = 0;
+    write_questions(1, questions);
+    j.query = query;
+    for (int i = 0; i < QUESTIONS + 2; i++) {
+        if (i == QUESTIONS) write_nested(query);
+        if (i == QUESTIONS + 1) write_waiting(query);
+        if (i < QUESTIONS)
+            j.calls->query(j.held, HELD_BYTES, (const uint8_t *)questions[i].query, strlen(questions[i].query), query, QUERY_BYTES);
+        if (j.calls->ask(query, QUERY_BYTES, j.held, HELD_BYTES, j.out, MARK_BYTES) < 0) stop("a question is refused");
+        most = largest(most, depth_of(&j));
+    }
+    return most;
+}
+
+void print_stacks(const uint8_t *text, size_t len) {
+    static uint8_t held[HELD_BYTES], out[HELD_BYTES];
+    const struct calls *const both[] = {&proved, &plain};
+    puts("| largest stack, bytes | register | query | ask |\n|---|---|---|---|");
+    for (int i = 0; i < 2; i++) {
+        struct job j = {both[i], '-', text, held, NULL, len, out};
+        size_t empty = depth_of(&j), reg, query;
+        both[i]->reg(text, len, held, HELD_BYTES);
+        j.letter = 'R';
+        reg = depth_of(&j);
+        j.letter = 'Q';
+        query = query_depth(j);
+        j.letter = 'A';
+        printf("| %s | %zu | %zu | %zu |\n", both[i]->name, reg - empty, query - empty, ask_depth(j) - empty);
+    }
+}
