@@ -10,21 +10,22 @@ enum { STACK = 32 << 20, PATTERN = 0xC7 };
 
 struct job {
     const struct calls *calls;
-    char letter; /* R, Q, A, or - for none */
+    char letter; /* R, Q or A */
     const uint8_t *text, *held, *query;
     size_t len;
-    uint8_t *out;
+    uint8_t *out, *top; /* top: where the caller's frame lies */
 };
 
 static void *run_job(void *given) {
     struct job *j = given;
+    j->top = __builtin_frame_address(0);
     if (j->letter == 'R') j->calls->reg(j->text, j->len, j->out, HELD_BYTES);
     if (j->letter == 'Q') j->calls->query(j->held, HELD_BYTES, j->text, j->len, j->out, QUERY_BYTES);
     if (j->letter == 'A') j->calls->ask(j->query, QUERY_BYTES, j->held, HELD_BYTES, j->out, MARK_BYTES);
     return NULL;
 }
 
-/* The bytes from the deepest one that was written up to the stack's top. */
+/* The bytes from the deepest one that was written up to the caller's frame. */
 static size_t depth_of(struct job *j) {
     static uint8_t *stack;
     pthread_attr_t attributes;
@@ -40,7 +41,7 @@ static size_t depth_of(struct job *j) {
         stop("no thread");
     pthread_join(thread, NULL);
     while (i < STACK && stack[i] == PATTERN) i++;
-    return STACK - i;
+    return (size_t)(j->top - (stack + i));
 }
 
 /* A query made by hand as docs/LAYOUT.md says: one namespace node inside 255 subqueries on L. */
@@ -108,14 +109,12 @@ void print_stacks(const uint8_t *text, size_t len) {
     const struct calls *const both[] = {&proved, &plain};
     puts("| largest stack, bytes | register | query | ask |\n|---|---|---|---|");
     for (int i = 0; i < 2; i++) {
-        struct job j = {both[i], '-', text, held, NULL, len, out};
-        size_t empty = depth_of(&j), reg, query;
+        struct job j = {both[i], 'R', text, held, NULL, len, out, NULL};
+        size_t reg = depth_of(&j), query;
         both[i]->reg(text, len, held, HELD_BYTES);
-        j.letter = 'R';
-        reg = depth_of(&j);
         j.letter = 'Q';
         query = query_depth(j);
         j.letter = 'A';
-        printf("| %s | %zu | %zu | %zu |\n", both[i]->name, reg - empty, query - empty, ask_depth(j) - empty);
+        printf("| %s | %zu | %zu | %zu |\n", both[i]->name, reg, query, ask_depth(j));
     }
 }
