@@ -78,9 +78,7 @@ static struct output lend_output(size_t len) {
 }
 
 static int is_filling(const uint8_t *at, size_t len) {
-    for (size_t i = 0; i < len; i++)
-        if (at[i] != filling) return 0;
-    return 1;
+    return len == 0 || (at[0] == filling && memcmp(at, at + 1, len - 1) == 0);
 }
 
 /* Only the first `written` bytes may have changed. */
