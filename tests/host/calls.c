@@ -5,7 +5,8 @@
  *   C  register text, query text, second register text, pages of both, number of forgeries: the calls one after the other
  *   R  register text, buffer length
  *   Q  held register, query text, buffer length
- *   A  held query, held register, buffer length, pages */
+ *   A  held query, held register, buffer length, pages
+ *   F  register text, query text: both forms in hexadecimal, without the zeros at their ends */
 #include <stdio.h>
 #include <stdlib.h>
 #include <string.h>
@@ -27,8 +28,8 @@ static uint32_t number_in(struct bytes b) {
 }
 
 static int read_record(struct bytes *file, struct record *r) {
-    static const char *const letters = "CRQA";
-    static const size_t parts[] = {6, 2, 3, 4};
+    static const char *const letters = "CRQAF";
+    static const size_t parts[] = {6, 2, 3, 4, 2};
     if (file->len == 0) return 0;
     r->letter = file->at[0];
     const char *found = strchr(letters, r->letter);
@@ -144,12 +145,26 @@ static void run_ask(const struct record *r) {
     print_marks(number, marks, pages);
 }
 
+static void print_form(const uint8_t *form, size_t size) {
+    while (size > 0 && form[size - 1] == 0) size--;
+    putchar(' ');
+    for (size_t i = 0; i < size; i++) printf("%02x", form[i]);
+}
+
+static void print_forms(const struct record *r) {
+    static uint8_t held[HELD], query[QUERY];
+    if (register_call(r->part[0], HELD, held) != 0) return;
+    print_form(held, HELD);
+    if (query_call((struct bytes){held, HELD}, r->part[1], QUERY, query) == 0) print_form(query, QUERY);
+}
+
 static void run_record(const struct record *r) {
     fenced = records % 2;
     if (r->letter == 'C') run_case(r);
     if (r->letter == 'R') printf("%d", register_call(r->part[0], number_in(r->part[1]), NULL));
     if (r->letter == 'Q') printf("%d", query_call(r->part[0], r->part[1], number_in(r->part[2]), NULL));
     if (r->letter == 'A') run_ask(r);
+    if (r->letter == 'F') print_forms(r);
     putchar('\n');
     records++;
 }

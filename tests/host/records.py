@@ -1,6 +1,7 @@
 """Records for the C host, each with the line that it has to print by the separate evaluator.
 
-A made record is (bytes, line, doubts); a doubt is where the evaluator differs from itself or from what is stated."""
+A made record is (bytes, line, doubts). Where the line is not fixed, it is a function that tells whether a line is right. A doubt is
+where the evaluator differs from itself or from what is stated."""
 import os
 import sys
 
@@ -60,3 +61,16 @@ def query_case(held_register, text, length):
 def register_case(text, length):
     number = register_call(text)[0] or (8 if length < forms.HELD else 0)
     return record(b'R', text, length), str(-number), []
+
+
+def form_case(first, query):
+    """The forms that the calls write: the register's text, and the core query meant, node for node. None for a refused case."""
+    register = register_call(first)[1]
+    core = query_call(register, query)[1] if register else None
+
+    def reads_back(line):
+        held, made = (bytes.fromhex(word) for word in line.split(' ')[1:])
+        read = forms.read_query(made.ljust(forms.QUERY, b'\0'))
+        return held.ljust(forms.HELD, b'\0') == forms.held_register(first) and repr(read) == repr(core)
+
+    return (record(b'F', first, query), reads_back, []) if core else None
