@@ -147,8 +147,8 @@ int main(int argc, char **argv) {
     if (argc != 3) stop("give the texts of the sample and of the full register");
     read_subject(&sample, "sample", argv[1], 0);
     read_subject(&full, "full", argv[2], 1);
-    printf("The sample register has %zu bytes, the full one %zu. Times in microseconds of processor time, the median of %d batches.\n\n", sample.len,
-           full.len, BATCHES);
+    printf("The sample register has %zu bytes, the full one %zu. Times in microseconds of processor time, the median of %d batches;\n"
+           "no buffer is cleared between calls.\n\n", sample.len, full.len, BATCHES);
     puts("| register | call | proved | plain | ratio | SQLite: load, prepare, step |\n|---|---|---|---|---|---|");
     time_register(&sample);
     time_register(&full);

@@ -16,16 +16,14 @@ static void add(char *to, size_t size, const char *more) {
     strcpy(to + len, more);
 }
 
-/* Links one after the other from page 1 of the chain to the last; `first` is the property of the first, `later` of the rest. */
+/* A chain of `count` links, the first under one property and the later ones under another. The caller ends both texts. */
 static void add_links(struct question *q, int count, const char *first, const char *later) {
     char line[160];
-    snprintf(line, sizeof line, "SELECT DISTINCT l1.place FROM links l1");
-    add(q->sql, sizeof q->sql, line);
+    add(q->sql, sizeof q->sql, "SELECT DISTINCT l1.place FROM links l1");
     for (int i = 2; i <= count; i++) {
         snprintf(line, sizeof line, " JOIN links l%d ON l%d.place = l%d.target AND l%d.prop = '%s'", i, i, i - 1, i, later);
         add(q->sql, sizeof q->sql, line);
     }
-    snprintf(line, sizeof line, "%s", first);
     add(q->query, sizeof q->query, "[[");
     add(q->query, sizeof q->query, first);
     for (int i = 2; i <= count; i++) {
