@@ -17,6 +17,10 @@ formByte t i = cond (eqb i 0) (length t % 256) (cond (eqb i 1) (length t / 256 %
 unfoldable pub formOf : Bytes → Bytes
 formOf t = tabulate registerSize (formByte t)
 
+-- How many bytes of a text its form holds.
+abbrev pub heldOf : Bytes → ℕ
+heldOf t = cond (ltb (length t) 32768) (length t) 32768
+
 -- A buffer with the form over its first bytes, where there is room.
 abbrev pub withForm : Bytes → Bytes → Bytes
 withForm t h = cond (ltb (length h) registerSize) h (formOf t ++ drop registerSize h)

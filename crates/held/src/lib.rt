@@ -1,22 +1,60 @@
 // The bytes of a held register: the only functions that know how they lie.
 ghost use mathlib.Core.Path.{_≡_};
 ghost use mathlib.Core.Bool.{Bool};
-ghost use Prim.Native.Nat.{ℕ};
-ghost use Rattle.held.specs.Form.{formByte, withForm, lengthIn, textIn, sameForm};
+ghost use Prim.Native.Nat.{ℕ, _≤_};
+ghost use lib.ListN.{length};
+ghost use Rattle.text.specs.Bytes.{Bytes};
+ghost use Rattle.held.specs.Loops.{Copied, Padded};
+ghost use Rattle.held.specs.Form.{formByte, heldOf, withForm, lengthIn, textIn, sameForm};
 use text::byte_at;
 use text::part;
 
-// Byte i of the form of a text.
-fn form_byte(text: &[u8], i: usize) -> u8
-    ensures { λ r. ⌜ r ≡ formByte (now (text .entry)) i ⌝ }
+// How many bytes of a text a form holds.
+fn held_of(text: &[u8]) -> usize
+    ensures { λ r. ⌜ r ≡ heldOf (now (text .entry)) ⌝ }
 {
-    if i == 0 {
-        return (text.len() % 256) as u8;
+    if text.len() < 32768 {
+        text.len()
+    } else {
+        32768
     }
-    if i == 1 {
-        return (text.len() / 256 % 256) as u8;
+}
+
+// The low and the high byte of a text's length.
+fn low_byte(text: &[u8]) -> u8
+    ensures { λ r. ⌜ r ≡ formByte (now (text .entry)) 0 ⌝ }
+{
+    (text.len() % 256) as u8
+}
+
+fn high_byte(text: &[u8]) -> u8
+    ensures { λ r. ⌜ r ≡ formByte (now (text .entry)) 1 ⌝ }
+{
+    (text.len() / 256 % 256) as u8
+}
+
+// Copies the first n bytes of a text behind its length. This loop and the next are the plain ones that compilers know.
+fn put_text(text: &[u8], n: usize, held: &mut [u8])
+    requires { ⌜ (n ≡ heldOf (now text)) × (n ≤ length (now text)) × (n ≤ 32768) × (32770 ≤ length (now held)) ⌝ }
+    ensures { λ _. ⌜ ((h : Bytes) → Copied (now (text .entry)) h (now (held .entry)) 0 → Copied (now (text .entry)) h (now (held .exit)) n) ⌝ }
+{
+    let mut i: usize = 0;
+    while i < n {
+        held[i + 2] = text[i];
+        i += 1;
     }
-    byte_at(text, i - 2)
+}
+
+// Zeros behind the text.
+fn put_zeros(n: usize, held: &mut [u8])
+    requires { ⌜ (n ≤ 32768) × (32770 ≤ length (now held)) ⌝ }
+    ensures { λ _. ⌜ ((t h : Bytes) → Padded t h (now (held .entry)) n → Padded t h (now (held .exit)) 32768) ⌝ }
+{
+    let mut i = n;
+    while i < 32768 {
+        held[i + 2] = 0;
+        i += 1;
+    }
 }
 
 // Writes the form of a text over the first bytes of a buffer, where there is room.
@@ -26,11 +64,11 @@ pub fn write_form(text: &[u8], held: &mut [u8])
     if held.len() < 32770 {
         return;
     }
-    let mut i: usize = 0;
-    while i < 32770 {
-        held[i] = form_byte(text, i);
-        i += 1;
-    }
+    let n = held_of(text);
+    held[0] = low_byte(text);
+    held[1] = high_byte(text);
+    put_text(text, n, held);
+    put_zeros(n, held);
 }
 
 // A byte as a number.
@@ -61,12 +99,16 @@ pub fn is_form(h: &[u8], text: &[u8]) -> bool
     if h.len() < 32770 {
         return false;
     }
-    let mut k: usize = 0;
-    while k < 32770 {
-        if h[k] != form_byte(text, k) {
-            return false;
-        }
-        k += 1;
+    let n = held_of(text);
+    let mut same = (h[0] == low_byte(text)) & (h[1] == high_byte(text));
+    let mut i: usize = 0;
+    while i < n {
+        same = same & (h[i + 2] == text[i]);
+        i += 1;
     }
-    true
+    while i < 32768 {
+        same = same & (h[i + 2] == 0);
+        i += 1;
+    }
+    same
 }

@@ -1,55 +1,107 @@
 use borrow.Author.Needs.{needs}
 use Prim.Native.Nat.{_-_}
+use mathlib.Core.Path.{refl}
 use native.Mathlib.Omega.{arith}
-use Rattle.held.specs.Form.{registerSize}
-use Rattle.held.proofs.Laws.{Alike, alike-none, alike-other, alike-more, alike-all, form-short}
+use Rattle.held.proofs.Laws.{Compared, Cleared, compared-none, compared-more, comparing}
 use Rattle.held.proofs.is_form.Statement.{statement}
 use Rattle.held.proofs.is_form.Tie as tie
 use Rattle.held.proofs.is_form.Reads as reads
 use Rattle.held.proofs.is_form.Lts as lts
-use Rattle.held.proofs.form_byte.Reads as form-byte-reads
+use Rattle.held.proofs.held_of.Reads as held-of-reads
+use Rattle.held.proofs.high_byte.Reads as high-byte-reads
+use Rattle.held.proofs.low_byte.Reads as low-byte-reads
 
 abbrev Inv-loop : tie.InvT-loop
-Inv-loop h text k₀ k = Alike h text k
+Inv-loop h text n same₀ i₀ same i = Compared h text n i same
 
 abbrev μ-loop : tie.MeasureT-loop
-μ-loop h text k₀ k = registerSize - k
+μ-loop h text n same₀ i₀ same i = n - i
 
--- src/lib.rt:62:9
-returns : tie.Need-returns Inv-loop μ-loop
-returns c = search (form-short, needs)
+abbrev Inv-loop2 : tie.InvT-loop2
+Inv-loop2 h text n same₀ i₀ same i = Cleared h text i same
 
--- src/lib.rt:65:5
-loop-holds : tie.Need-loop-holds Inv-loop μ-loop
-loop-holds c = alike-none _ _ (omega arith)
+abbrev μ-loop2 : tie.MeasureT-loop2
+μ-loop2 h text n same₀ i₀ same i = 32768 - i
 
--- src/lib.rt:66:12
-shared-slice-read-if2 : tie.Need-shared-slice-read-if2 Inv-loop μ-loop
-shared-slice-read-if2 c = omega (arith, c .before .before .loop .inv .room)
+-- src/lib.rt:76:9
+returns : tie.Need-returns Inv-loop μ-loop Inv-loop2 μ-loop2
+returns c = search (comparing, needs)
 
--- src/lib.rt:66:20
-form-byte-requires : tie.Need-form-byte-requires Inv-loop μ-loop
-form-byte-requires c κs = search needs
+-- src/lib.rt:78:9
+held-of-requires : tie.Need-held-of-requires Inv-loop μ-loop Inv-loop2 μ-loop2
+held-of-requires c κs = search (comparing, needs)
 
--- src/lib.rt:67:13
-returns-2 : tie.Need-returns-2 Inv-loop μ-loop
-returns-2 c = alike-other _ _ _ _ (c .before .before .before .before .loop .inv) (c .before .before .before .loop-test .taken) (c .before .form-byte .ensures) (c .if2 .taken)
+-- src/lib.rt:79:21
+shared-slice-read-same : tie.Need-shared-slice-read-same Inv-loop μ-loop Inv-loop2 μ-loop2
+shared-slice-read-same c = search (comparing, needs)
 
--- src/lib.rt:69:9
-add-k : tie.Need-add-k Inv-loop μ-loop
-add-k c = omega arith
+-- src/lib.rt:79:29
+low-byte-requires : tie.Need-low-byte-requires Inv-loop μ-loop Inv-loop2 μ-loop2
+low-byte-requires c κs = search (comparing, needs)
 
--- src/lib.rt:65:5
-loop-less : tie.Need-loop-less Inv-loop μ-loop
-loop-less c = omega arith
+-- src/lib.rt:79:48
+shared-slice-read-same-2 : tie.Need-shared-slice-read-same-2 Inv-loop μ-loop Inv-loop2 μ-loop2
+shared-slice-read-same-2 c = search (comparing, needs)
 
--- src/lib.rt:65:5
-loop-again : tie.Need-loop-again Inv-loop μ-loop
-loop-again c = alike-more _ _ _ _ (c .before .before .before .before .loop .inv) (c .before .before .before .loop-test .taken) (c .before .form-byte .ensures) (c .if2 .left)
+-- src/lib.rt:79:56
+high-byte-requires : tie.Need-high-byte-requires Inv-loop μ-loop Inv-loop2 μ-loop2
+high-byte-requires c κs = search (comparing, needs)
 
--- src/lib.rt:58:1
-returns-3 : tie.Need-returns-3 Inv-loop μ-loop
-returns-3 c = alike-all _ _ _ (c .before .loop .inv) (c .loop-test .left)
+-- src/lib.rt:81:5
+loop-holds : tie.Need-loop-holds Inv-loop μ-loop Inv-loop2 μ-loop2
+loop-holds c = compared-none _ _ _ _ _ (omega arith) (c .before .before .low-byte .ensures) (c .high-byte .ensures) (c .before .before .before .before .held-of .ensures)
+
+-- src/lib.rt:82:26
+add-same : tie.Need-add-same Inv-loop μ-loop Inv-loop2 μ-loop2
+add-same c = search (comparing, needs)
+
+-- src/lib.rt:82:24
+shared-slice-read-same-3 : tie.Need-shared-slice-read-same-3 Inv-loop μ-loop Inv-loop2 μ-loop2
+shared-slice-read-same-3 c = search (comparing, needs)
+
+-- src/lib.rt:82:36
+shared-slice-read-same-4 : tie.Need-shared-slice-read-same-4 Inv-loop μ-loop Inv-loop2 μ-loop2
+shared-slice-read-same-4 c = search (comparing, needs)
+
+-- src/lib.rt:83:9
+add-i : tie.Need-add-i Inv-loop μ-loop Inv-loop2 μ-loop2
+add-i c = search (comparing, needs)
+
+-- src/lib.rt:81:5
+loop-less : tie.Need-loop-less Inv-loop μ-loop Inv-loop2 μ-loop2
+loop-less c = search (comparing, needs)
+
+-- src/lib.rt:81:5
+loop-again : tie.Need-loop-again Inv-loop μ-loop Inv-loop2 μ-loop2
+loop-again c = compared-more _ _ _ _ _ _ (c .before .before .before .loop .inv) (c .before .before .loop-test .taken) refl
+
+-- src/lib.rt:85:5
+loop2-holds : tie.Need-loop2-holds Inv-loop μ-loop Inv-loop2 μ-loop2
+loop2-holds c = search (comparing, needs)
+
+-- src/lib.rt:86:26
+add-same-2 : tie.Need-add-same-2 Inv-loop μ-loop Inv-loop2 μ-loop2
+add-same-2 c = search (comparing, needs)
+
+-- src/lib.rt:86:24
+shared-slice-read-same-5 : tie.Need-shared-slice-read-same-5 Inv-loop μ-loop Inv-loop2 μ-loop2
+shared-slice-read-same-5 c = search (comparing, needs)
+
+-- src/lib.rt:87:9
+add-i-2 : tie.Need-add-i-2 Inv-loop μ-loop Inv-loop2 μ-loop2
+add-i-2 c = search (comparing, needs)
+
+-- src/lib.rt:85:5
+loop2-less : tie.Need-loop2-less Inv-loop μ-loop Inv-loop2 μ-loop2
+loop2-less c = search (comparing, needs)
+
+-- src/lib.rt:85:5
+loop2-again : tie.Need-loop2-again Inv-loop μ-loop Inv-loop2 μ-loop2
+loop2-again c = search (comparing, needs)
+
+-- src/lib.rt:72:1
+returns-2 : tie.Need-returns-2 Inv-loop μ-loop Inv-loop2 μ-loop2
+returns-2 c = search (comparing, needs)
 
 pub is-form-spec : {M : Type 1} → statement M
 is-form-spec =
@@ -57,12 +109,25 @@ is-form-spec =
     (tie.spec
     Inv-loop
     μ-loop
+    Inv-loop2
+    μ-loop2
     returns
+    held-of-requires
+    shared-slice-read-same
+    low-byte-requires
+    shared-slice-read-same-2
+    high-byte-requires
     loop-holds
-    shared-slice-read-if2
-    form-byte-requires
-    returns-2
-    add-k
+    add-same
+    shared-slice-read-same-3
+    shared-slice-read-same-4
+    add-i
     loop-less
     loop-again
-    returns-3)
+    loop2-holds
+    add-same-2
+    shared-slice-read-same-5
+    add-i-2
+    loop2-less
+    loop2-again
+    returns-2)

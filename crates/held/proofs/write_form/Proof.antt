@@ -1,68 +1,69 @@
-use borrow.Author.Needs.{needs}
-use Prim.Native.Nat.{_-_}
+use mathlib.Core.Path.{refl}
 use native.Mathlib.Omega.{arith}
-use Rattle.held.specs.Form.{registerSize}
-use Rattle.held.proofs.Laws.{Written, written-none, written-more, written-all, no-room}
+use lib.ListN.{set, length-set}
+use Rattle.held.proofs.Laws.{no-room, held-most, copied-none, copied-all, padded-all}
+use borrow.Author.Needs.{needs}
 use Rattle.held.proofs.write_form.Statement.{statement}
 use Rattle.held.proofs.write_form.Tie as tie
 use Rattle.held.proofs.write_form.Reads as reads
 use Rattle.held.proofs.write_form.Lts as lts
-use Rattle.held.proofs.form_byte.Reads as form-byte-reads
+use Rattle.held.proofs.held_of.Reads as held-of-reads
+use Rattle.held.proofs.high_byte.Reads as high-byte-reads
+use Rattle.held.proofs.low_byte.Reads as low-byte-reads
+use Rattle.held.proofs.put_text.Reads as put-text-reads
+use Rattle.held.proofs.put_zeros.Reads as put-zeros-reads
 
-abbrev Inv-loop : tie.InvT-loop
-Inv-loop text held₀ i₀ held i = Written text held₀ held i
-
-abbrev μ-loop : tie.MeasureT-loop
-μ-loop text held₀ i₀ held i = registerSize - i
-
--- src/lib.rt:27:9
-returns : tie.Need-returns Inv-loop μ-loop
+-- src/lib.rt:61:9
+returns : tie.Need-returns
 returns c = search (no-room, needs)
 
--- src/lib.rt:30:5
-loop-holds : tie.Need-loop-holds Inv-loop μ-loop
-loop-holds c = written-none _ _ (omega arith)
+-- src/lib.rt:63:9
+held-of-requires : tie.Need-held-of-requires
+held-of-requires c κs = search needs
 
--- src/lib.rt:31:19
-form-byte-requires : tie.Need-form-byte-requires Inv-loop μ-loop
-form-byte-requires c κs = search needs
+-- src/lib.rt:64:15
+low-byte-requires : tie.Need-low-byte-requires
+low-byte-requires c κs = search needs
 
--- src/lib.rt:31:9
-slice-write-held : tie.Need-slice-write-held Inv-loop μ-loop
-slice-write-held c = omega (arith, c .before .before .loop .inv .size, c .before .before .loop .inv .room)
+-- src/lib.rt:64:5
+slice-write-held : tie.Need-slice-write-held
+slice-write-held c = search needs
 
--- src/lib.rt:32:9
-add-i : tie.Need-add-i Inv-loop μ-loop
-add-i c = omega arith
+-- src/lib.rt:65:15
+high-byte-requires : tie.Need-high-byte-requires
+high-byte-requires c κs = search needs
 
--- src/lib.rt:30:5
-loop-less : tie.Need-loop-less Inv-loop μ-loop
-loop-less c = omega arith
+-- src/lib.rt:65:5
+slice-write-held-2 : tie.Need-slice-write-held-2
+slice-write-held-2 c = let y = length-set (c .before .before .before .before .before .before .args .held .now) 0 (c .before .low-byte .result) in let l = c .before .before .before .if1 .left in omega (arith, y, l)
 
--- src/lib.rt:30:5
-loop-again : tie.Need-loop-again Inv-loop μ-loop
-loop-again c = written-more _ _ _ _ _ (c .before .before .loop .inv) (c .before .loop-test .taken) (c .form-byte .ensures)
+-- src/lib.rt:66:5
+put-text-requires : tie.Need-put-text-requires
+put-text-requires c κs = (c .before .before .before .held-of .ensures, let m = held-most (c .before .before .before .before .before .before .before .args .text .now) in let e = c .before .before .before .held-of .ensures in omega (arith, m .1, e), let m = held-most (c .before .before .before .before .before .before .before .args .text .now) in let e = c .before .before .before .held-of .ensures in omega (arith, m .0, e), let y = length-set (c .before .before .before .before .before .before .before .args .held .now) 0 (c .before .before .low-byte .result) in let z = length-set (set (c .before .before .before .before .before .before .before .args .held .now) 0 (c .before .before .low-byte .result)) 1 (c .before .high-byte .result) in let l = c .before .before .before .before .if1 .left in omega (arith, y, z, l))
 
--- src/lib.rt:23:1
-same-length : tie.Need-same-length Inv-loop μ-loop
-same-length c = c .before .loop .inv .size
+-- src/lib.rt:67:5
+put-zeros-requires : tie.Need-put-zeros-requires
+put-zeros-requires c κs = (let m = held-most (c .before .before .before .before .before .before .before .before .before .before .before .args .text .now) in let e = c .before .before .before .before .before .before .before .held-of .ensures in omega (arith, m .0, e), let y = length-set (c .before .before .before .before .before .before .before .before .before .before .before .args .held .now) 0 (c .before .before .before .before .before .before .low-byte .result) in let z = length-set (set (c .before .before .before .before .before .before .before .before .before .before .before .args .held .now) 0 (c .before .before .before .before .before .before .low-byte .result)) 1 (c .before .before .before .before .before .high-byte .result) in let l = c .before .before .before .before .before .before .before .before .if1 .left in let k = c .before .slice-known2 .given in let q = c .before .before .held .given in omega (arith, y, z, l))
 
--- src/lib.rt:23:1
-returns-2 : tie.Need-returns-2 Inv-loop μ-loop
-returns-2 c = written-all _ _ _ _ (c .before .loop .inv) (c .loop-test .left)
+-- src/lib.rt:57:1
+same-length : tie.Need-same-length
+same-length c = (c .before .before .put-zeros .ensures (c .before .before .before .before .before .before .before .before .before .before .before .before .before .before .args .text .now) (c .before .before .before .before .before .before .before .before .before .before .before .before .before .before .args .held .now) (copied-all (c .before .before .before .before .before .before .before .before .before .before .before .before .before .before .args .text .now) (c .before .before .before .before .before .before .before .before .before .before .before .before .before .before .args .held .now) _ _ (c .before .before .before .before .before .before .before .before .before .before .held-of .ensures) (c .before .before .before .before .before .before .put-text .ensures (c .before .before .before .before .before .before .before .before .before .before .before .before .before .before .args .held .now) (copied-none (c .before .before .before .before .before .before .before .before .before .before .before .before .before .before .args .text .now) (c .before .before .before .before .before .before .before .before .before .before .before .before .before .before .args .held .now) _ _ _ refl (c .before .before .before .before .before .before .before .before .before .before .before .if1 .left) (c .before .before .before .before .before .before .before .before .before .low-byte .ensures) (c .before .before .before .before .before .before .before .before .high-byte .ensures))))) .done .size
+
+-- src/lib.rt:57:1
+returns-2 : tie.Need-returns-2
+returns-2 c = padded-all (c .before .before .before .before .before .before .before .before .before .before .before .before .before .before .args .text .now) (c .before .before .before .before .before .before .before .before .before .before .before .before .before .before .args .held .now) _ (c .before .before .put-zeros .ensures (c .before .before .before .before .before .before .before .before .before .before .before .before .before .before .args .text .now) (c .before .before .before .before .before .before .before .before .before .before .before .before .before .before .args .held .now) (copied-all (c .before .before .before .before .before .before .before .before .before .before .before .before .before .before .args .text .now) (c .before .before .before .before .before .before .before .before .before .before .before .before .before .before .args .held .now) _ _ (c .before .before .before .before .before .before .before .before .before .before .held-of .ensures) (c .before .before .before .before .before .before .put-text .ensures (c .before .before .before .before .before .before .before .before .before .before .before .before .before .before .args .held .now) (copied-none (c .before .before .before .before .before .before .before .before .before .before .before .before .before .before .args .text .now) (c .before .before .before .before .before .before .before .before .before .before .before .before .before .before .args .held .now) _ _ _ refl (c .before .before .before .before .before .before .before .before .before .before .before .if1 .left) (c .before .before .before .before .before .before .before .before .before .low-byte .ensures) (c .before .before .before .before .before .before .before .before .high-byte .ensures)))))
 
 pub write-form-spec : {M : Type 1} → statement M
 write-form-spec =
     tie.close
     (tie.spec
-    Inv-loop
-    μ-loop
     returns
-    loop-holds
-    form-byte-requires
+    held-of-requires
+    low-byte-requires
     slice-write-held
-    add-i
-    loop-less
-    loop-again
+    high-byte-requires
+    slice-write-held-2
+    put-text-requires
+    put-zeros-requires
     same-length
     returns-2)

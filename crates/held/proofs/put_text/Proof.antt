@@ -1,0 +1,71 @@
+use borrow.Author.Needs.{needs}
+use Prim.Native.Nat.{_-_, _≤_}
+use mathlib.Core.Path.{_≡_, refl, subst}
+use native.Mathlib.Omega.{arith}
+use lib.ListN.{length}
+use Rattle.text.specs.Bytes.{Bytes}
+use Rattle.held.specs.Loops.{Copied}
+use Rattle.held.proofs.Laws.{copied-more}
+use Rattle.held.proofs.put_text.Statement.{statement}
+use Rattle.held.proofs.put_text.Tie as tie
+use Rattle.held.proofs.put_text.Reads as reads
+use Rattle.held.proofs.put_text.Lts as lts
+
+abbrev Inv-loop : tie.InvT-loop
+Inv-loop text n held₀ i₀ held i = (length held ≡ length held₀) × (i ≤ n) × ((h : Bytes) → Copied text h held₀ 0 → Copied text h held i)
+
+abbrev μ-loop : tie.MeasureT-loop
+μ-loop text n held₀ i₀ held i = n - i
+
+-- src/lib.rt:38:5
+loop-holds : tie.Need-loop-holds Inv-loop μ-loop
+loop-holds c = search needs
+
+-- src/lib.rt:39:23
+shared-slice-read-held : tie.Need-shared-slice-read-held Inv-loop μ-loop
+shared-slice-read-held c = search needs
+
+-- src/lib.rt:39:14
+add-held : tie.Need-add-held Inv-loop μ-loop
+add-held c = search needs
+
+-- src/lib.rt:39:9
+slice-write-held : tie.Need-slice-write-held Inv-loop μ-loop
+slice-write-held c = search needs
+
+-- src/lib.rt:40:9
+add-i : tie.Need-add-i Inv-loop μ-loop
+add-i c = search needs
+
+-- src/lib.rt:38:5
+loop-less : tie.Need-loop-less Inv-loop μ-loop
+loop-less c = search needs
+
+-- src/lib.rt:38:5
+loop-again : tie.Need-loop-again Inv-loop μ-loop
+loop-again c =
+    (search needs, omega (arith, c .before .loop-test .taken), λ h k. copied-more _ _ _ _ _ (c .before .before .loop .inv .2 h k) (let e = c .before .before .before .pre .0 in let l = c .before .loop-test .taken in omega (arith, e, l)) refl)
+
+-- src/lib.rt:33:1
+same-length : tie.Need-same-length Inv-loop μ-loop
+same-length c = search needs
+
+-- src/lib.rt:33:1
+returns : tie.Need-returns Inv-loop μ-loop
+returns c = λ h k. subst (Copied _ h _) (let l = c .before .loop .inv .1 in let m = c .loop-test .left in let e : c .before .loop .i ≡ c .before .before .args .n = omega (arith, l, m) in e) (c .before .loop .inv .2 h k)
+
+pub put-text-spec : {M : Type 1} → statement M
+put-text-spec =
+    tie.close
+    (tie.spec
+    Inv-loop
+    μ-loop
+    loop-holds
+    shared-slice-read-held
+    add-held
+    slice-write-held
+    add-i
+    loop-less
+    loop-again
+    same-length
+    returns)

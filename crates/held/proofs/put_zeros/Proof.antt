@@ -1,0 +1,66 @@
+use borrow.Author.Needs.{needs}
+use Prim.Native.Nat.{_-_, _≤_}
+use mathlib.Core.Path.{_≡_, subst}
+use native.Mathlib.Omega.{arith}
+use lib.ListN.{length}
+use Rattle.text.specs.Bytes.{Bytes}
+use Rattle.held.specs.Loops.{Padded}
+use Rattle.held.proofs.Laws.{padded-more}
+use Rattle.held.proofs.put_zeros.Statement.{statement}
+use Rattle.held.proofs.put_zeros.Tie as tie
+use Rattle.held.proofs.put_zeros.Reads as reads
+use Rattle.held.proofs.put_zeros.Lts as lts
+
+abbrev Inv-loop : tie.InvT-loop
+Inv-loop n held₀ i₀ held i = (length held ≡ length held₀) × (i ≤ 32768) × ((t h : Bytes) → Padded t h held₀ n → Padded t h held i)
+
+abbrev μ-loop : tie.MeasureT-loop
+μ-loop n held₀ i₀ held i = 32768 - i
+
+-- src/lib.rt:50:5
+loop-holds : tie.Need-loop-holds Inv-loop μ-loop
+loop-holds c = search needs
+
+-- src/lib.rt:51:14
+add-held : tie.Need-add-held Inv-loop μ-loop
+add-held c = search needs
+
+-- src/lib.rt:51:9
+slice-write-held : tie.Need-slice-write-held Inv-loop μ-loop
+slice-write-held c = search needs
+
+-- src/lib.rt:52:9
+add-i : tie.Need-add-i Inv-loop μ-loop
+add-i c = search needs
+
+-- src/lib.rt:50:5
+loop-less : tie.Need-loop-less Inv-loop μ-loop
+loop-less c = search needs
+
+-- src/lib.rt:50:5
+loop-again : tie.Need-loop-again Inv-loop μ-loop
+loop-again c =
+    (search needs, omega (arith, c .loop-test .taken), λ t h k. padded-more _ _ _ _ (c .before .loop .inv .2 t h k) (c .loop-test .taken))
+
+-- src/lib.rt:45:1
+same-length : tie.Need-same-length Inv-loop μ-loop
+same-length c = search needs
+
+-- src/lib.rt:45:1
+returns : tie.Need-returns Inv-loop μ-loop
+returns c = λ t h k. subst (Padded t h _) (let l = c .before .loop .inv .1 in let m = c .loop-test .left in let e : c .before .loop .i ≡ 32768 = omega (arith, l, m) in e) (c .before .loop .inv .2 t h k)
+
+pub put-zeros-spec : {M : Type 1} → statement M
+put-zeros-spec =
+    tie.close
+    (tie.spec
+    Inv-loop
+    μ-loop
+    loop-holds
+    add-held
+    slice-write-held
+    add-i
+    loop-less
+    loop-again
+    same-length
+    returns)
