@@ -1,6 +1,5 @@
 pub mod Pages
 pub mod Standing
 pub mod Looking
-pub mod Links
 pub mod Abstract
 pub mod Others

@@ -1,22 +1,20 @@
 -- What is looked for among a page's inner forms.
-use Prim.Native.Nat.{ℕ, zero, suc, _+_, _≤_, _<_}
-use mathlib.Core.Path.{_≡_, refl, sym, ap, ap₂, _∙_}
-use mathlib.Core.Bool.{Bool, true, false, cond, not, _&&_, _||_}
+use Prim.Native.Nat.{ℕ, suc, _+_, _≤_, _<_}
+use mathlib.Core.Path.{_≡_, refl, sym, ap, _∙_}
+use mathlib.Core.Bool.{Bool, true, false, not, _&&_, _||_, false≢true, true≢false}
 use mathlib.Core.List.{List, [], _∷_}
-use mathlib.Core.Option.{Option, some, none}
+use mathlib.Core.Option.{Option}
 use native.Mathlib.Numerals.{add-one}
 use native.Mathlib.Omega.{arith}
 use borrow.Author.Tests.{not-true, not-false}
-use lib.ListN.{length, getD, drop, drop-of-length-le}
+use lib.ListN.{drop, drop-of-length-le}
 use lib.Seq.{drop-cons}
 use Rattle.text.specs.Bytes.{Bytes, same, part, any}
 use Rattle.values.specs.declared.Kind.{Kind}
 use Rattle.values.specs.declared.KindRead.{KindRead}
-use Rattle.values.specs.declared.NumberRead.{NumberRead}
-use Rattle.values.specs.declared.BooleanRead.{BooleanRead}
 use Rattle.values.specs.Values.{readValue}
-use Rattle.language.specs.Answer.{_>>=_, found}
-use Rattle.language.specs.RegisterText.{Entry, prop, page, cat, val, close}
+use Rattle.language.specs.Answer.{found}
+use Rattle.language.specs.RegisterText.{Entry, page, val, close}
 use Rattle.language.specs.Semantics.{Cv, noMixed}
 use Rattle.language.specs.declared.Comparator.{Comparator}
 use Rattle.text.specs.Parts.{partOf}
@@ -25,9 +23,10 @@ use Rattle.entries.specs.Table.{entryAt, entriesIn}
 use Rattle.entries.specs.declared.Tag.{Tag}
 use Rattle.entries.specs.declared.Item.{Item}
 use Rattle.entries.proofs.Cells.{rows-length, rows-at}
-use Rattle.pages.specs.Forms.{innerOf, inCategory}
+use Rattle.rows.specs.Checks.{innerTag}
+use Rattle.pages.specs.Forms.{innerOf, inCategory, onVal}
 use Rattle.nodes.specs.Reading.{constantBy}
-use Rattle.pages.specs.Tests.{innerAt, passes, valuePasses, holdsTest, looks, kindOf, innerTag}
+use Rattle.pages.specs.Tests.{innerAt, valuePasses, holdsTest, looks, kindOf, valTag}
 use Rattle.nodes.specs.declared.Constant.{Constant as Held}
 use Rattle.pages.specs.declared.Test.{Test}
 use Rattle.pages.specs.declared.Look.{Look}
@@ -45,34 +44,52 @@ module _ (q v : Bytes) (k : KindRead) (test : Test) (r : Bool) where
 
 pub ruleset passing = (passes-none, passes-any, passes-stands)
 
--- puts_in, holds_value, is_sought
+-- puts_in
 module _ (s : Bytes) (i : Item) (x p : Bytes) (r : Bool) where
   pub puts-cat : i .tag ≡ Tag.Cat → p ≡ part s (i .first .start) (i .first .len) → r ≡ same x p → r ≡ inCategory x (entryIn s i)
   puts-cat h e f = rw (h, ← e) f
 
-  module _ (q v : Bytes) (k : Option Kind) (test : Test) (u : Bool) where
-    pub holds-val : i .tag ≡ Tag.Val → p ≡ part s (i .first .start) (i .first .len) → r ≡ same p x → v ≡ part s (i .second .start) (i .second .len) → u ≡ valuePasses q k v test → (r && u) ≡ holdsTest q k x test (entryIn s i)
-    holds-val h e f g m = rw (h, ← e, ← g, f, m)
+-- a val form, and any other entry
+on-val : {A : Type 0} (f : Bytes → Bytes → A) (d : A) (g : Tag) (j : Kind) (a b : Bytes) → valTag g ≡ true → onVal f d (entryBy g j a b) ≡ f a b
+on-val f d Tag.Prop j a b h = absurd (false≢true h)
+on-val f d Tag.Page j a b h = absurd (false≢true h)
+on-val f d Tag.Cat j a b h = absurd (false≢true h)
+on-val f d Tag.Val j a b h = refl
+on-val f d Tag.Close j a b h = absurd (false≢true h)
+on-val f d Tag.Broken j a b h = absurd (false≢true h)
 
-abbrev pub valTag : Tag → Bool
-valTag Tag.Prop = false
-valTag Tag.Page = false
-valTag Tag.Cat = false
-valTag Tag.Val = true
-valTag Tag.Close = false
-valTag Tag.Broken = false
+on-other : {A : Type 0} (f : Bytes → Bytes → A) (d : A) (g : Tag) (j : Kind) (a b : Bytes) → valTag g ≡ false → onVal f d (entryBy g j a b) ≡ d
+on-other f d Tag.Prop j a b h = refl
+on-other f d Tag.Page j a b h = refl
+on-other f d Tag.Cat j a b h = refl
+on-other f d Tag.Val j a b h = absurd (true≢false h)
+on-other f d Tag.Close j a b h = refl
+on-other f d Tag.Broken j a b h = refl
 
-tag-other : (q x : Bytes) (k : Option Kind) (test : Test) (g : Tag) (j : Kind) (a b : Bytes) → valTag g ≡ false → false ≡ holdsTest q k x test (entryBy g j a b)
-tag-other q x k test Tag.Prop j a b h = refl
-tag-other q x k test Tag.Page j a b h = refl
-tag-other q x k test Tag.Cat j a b h = refl
-tag-other q x k test Tag.Val j a b h = absurd (let y : _≡_ {A = ℕ} 0 1 = cc in omega arith)
-tag-other q x k test Tag.Close j a b h = refl
-tag-other q x k test Tag.Broken j a b h = refl
+-- the same for an item whose tag was tested: b is the test's answer
+module _ {A : Type 0} (f : Bytes → Bytes → A) (d : A) (s : Bytes) (i : Item) (b : Bool) (is : b ≡ valTag (i .tag)) where
+  pub item-val : not b ≡ false → onVal f d (entryIn s i) ≡ f (partOf s (i .first)) (partOf s (i .second))
+  item-val h = on-val f d (i .tag) (i .kind) (partOf s (i .first)) (partOf s (i .second)) (sym is ∙ not-false b h)
 
-pub holds-other : (s q x : Bytes) (k : Option Kind) (test : Test) (i : Item) (g : Tag) → i .tag ≡ g → valTag g ≡ false → false ≡ holdsTest q k x test (entryIn s i)
-holds-other s q x k test i g e h = tag-other q x k test (i .tag) (i .kind) (partOf s (i .first)) (partOf s (i .second)) (ap valTag e ∙ h)
+  pub item-other : not b ≡ true → onVal f d (entryIn s i) ≡ d
+  item-other h = on-other f d (i .tag) (i .kind) (partOf s (i .first)) (partOf s (i .second)) (sym is ∙ not-true b h)
 
+-- holds_value
+module _ (s q x : Bytes) (k : Option Kind) (test : Test) (i : Item) (b : Bool) (is : b ≡ valTag (i .tag)) where
+  pub holds-other : not b ≡ true → false ≡ holdsTest q k x test (entryIn s i)
+  holds-other h = sym (item-other (λ y v. same y x && valuePasses q k v test) false s i b is h)
+
+  module _ (h : not b ≡ false) (p : Bytes) (e : p ≡ part s (i .first .start) (i .first .len)) (r : Bool) (f : r ≡ same p x) where
+    named : holdsTest q k x test (entryIn s i) ≡ r && valuePasses q k (partOf s (i .second)) test
+    named = item-val (λ y v. same y x && valuePasses q k v test) false s i b is h ∙ rw (← e, ← f)
+
+    pub holds-unlike : not r ≡ true → false ≡ holdsTest q k x test (entryIn s i)
+    holds-unlike g = sym (named ∙ rw (not-true r g))
+
+    pub holds-like : (v : Bytes) (u : Bool) → not r ≡ false → v ≡ part s (i .second .start) (i .second .len) → u ≡ valuePasses q k v test → u ≡ holdsTest q k x test (entryIn s i)
+    holds-like v u g d m = m ∙ ap (λ w. valuePasses q k w test) d ∙ sym (named ∙ rw (not-false r g))
+
+-- is_sought
 module _ (q x : Bytes) (k : Option Kind) (look : Look) (e : Entry) (r : Bool) where
   pub sought-category : look ≡ Look.Category → r ≡ inCategory x e → r ≡ looks q k x look e
   sought-category h f = rw h f
@@ -80,7 +97,7 @@ module _ (q x : Bytes) (k : Option Kind) (look : Look) (e : Entry) (r : Bool) wh
   pub sought-value : (test : Test) → look ≡ Look.Value test → r ≡ holdsTest q k x test e → r ≡ looks q k x look e
   sought-value test h f = rw h f
 
-pub ruleset seeking = (puts-cat, holds-val, holds-other, sought-category, sought-value)
+pub ruleset seeking = (puts-cat, holds-other, holds-unlike, holds-like, sought-category, sought-value)
 
 -- the loop over inner forms
 tag-stop : (g : Tag) (k : Kind) (a b : Bytes) (l : List Entry) → innerTag g ≡ false → innerOf (entryBy g k a b ∷ l) ≡ []

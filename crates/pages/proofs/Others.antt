@@ -1,9 +1,9 @@
 -- Whether some page holds a value, or one of another kind, under a property.
 use Prim.Native.Nat.{ℕ, suc, _+_, _≤_, _<_}
-use mathlib.Core.Path.{_≡_, refl, sym, ap, ap₂, _∙_}
-use mathlib.Core.Bool.{Bool, true, false, not, _&&_, _||_, or-false}
-use mathlib.Core.List.{List, [], _∷_}
-use mathlib.Core.Option.{Option, some, none}
+use mathlib.Core.Path.{_≡_, refl, sym, ap, _∙_}
+use mathlib.Core.Bool.{Bool, true, false, _||_, or-false}
+use mathlib.Core.List.{List, _∷_}
+use mathlib.Core.Option.{some}
 use native.Mathlib.Numerals.{add-one}
 use native.Mathlib.Omega.{arith}
 use lib.ListN.{length, getD, take, drop, length-take, drop-of-length-le}
@@ -54,7 +54,11 @@ module _ (s : Bytes) (t : List ℕ) (n : ℕ) (rows : List ℕ) (x : Bytes) (d :
   pub other-none : d ≡ KindRead.Nothing → false ≡ otherIn s t n rows x (kindOf d) k
   other-none e = rw e
 
-  pub other-some : (j : Kind) (b r : Bool) → d ≡ KindRead.Kind j → b ≡ sameKind j k → r ≡ any (holdsSome s t n x (some j)) rows → (not b && r) ≡ otherIn s t n rows x (kindOf d) k
-  other-some j b r e f g = rw (e, f, g)
+  module _ (j : Kind) (b : Bool) (e : d ≡ KindRead.Kind j) (f : b ≡ sameKind j k) where
+    pub other-same : b ≡ true → false ≡ otherIn s t n rows x (kindOf d) k
+    other-same h = rw (e, ← f, h)
 
-pub ruleset others = (other-none, other-some)
+    pub other-held : b ≡ false → (r : Bool) → r ≡ any (holdsSome s t n x (some j)) rows → r ≡ otherIn s t n rows x (kindOf d) k
+    other-held h r g = rw (e, ← f, h) g
+
+pub ruleset others = (other-none, other-same, other-held)

@@ -1,27 +1,21 @@
 -- What a page holds, by its inner forms: a repeat changes no test.
-use Prim.Native.Nat.{ℕ, zero, suc, _+_, _≤_, _<_}
-use mathlib.Core.Path.{_≡_, refl, sym, ap, ap₂, _∙_, subst}
-use mathlib.Core.Bool.{Bool, true, false, cond, _&&_, _||_, or-false, or-assoc, false≢true}
-use mathlib.Core.List.{List, [], _∷_, _++_, map, map-map}
+use Prim.Native.Nat.{ℕ}
+use mathlib.Core.Path.{_≡_, refl, sym, ap, _∙_}
+use mathlib.Core.Bool.{Bool, true, false, cond, _&&_, _||_, or-false, false≢true}
+use mathlib.Core.List.{List, [], _∷_}
 use mathlib.Core.Option.{Option, some, none}
-use native.Mathlib.Nat.{add-suc, add-zero, zero-add}
-use native.Mathlib.Numerals.{add-one}
 use native.Mathlib.Omega.{arith}
-use lib.ListN.{length, getD, drop}
 use lib.IntN.{ℤ, pos, negsuc}
 use lib.Dec.{ltb}
 use borrow.Author.Tests.{ltb-false}
 use Rattle.text.specs.Bytes.{Bytes, same, any, orderOf, numbers}
-use Rattle.text.specs.Table.{tabulate}
 use Rattle.text.specs.declared.Order.{Order}
-use Rattle.text.proofs.Laws.{same-eq, order-eq, any-append}
-use Rattle.text.proofs.Tables.{length-tabulate}
-use Rattle.values.specs.declared.Kind.{Kind}
+use Rattle.text.proofs.Laws.{same-eq, order-eq}
 use Rattle.values.specs.Names.{Identifier, sameIdentifier}
-use Rattle.values.specs.Values.{Constant, number, boolean, string, Value, plain, link, orderNumbers, orderBooleans, orderConstants, isEqualOrder, sameValue}
+use Rattle.values.specs.Values.{number, boolean, string, Value, plain, link, orderNumbers, orderBooleans, isEqualOrder, sameValue}
 use Rattle.language.specs.Answer.{found}
 use Rattle.language.specs.Register.{Property, Held, Page, holds}
-use Rattle.language.specs.RegisterText.{Entry, prop, page, cat, val, close, isPage, valueOf, sameHeld, addCategory, addHeld, withCategory, withValue, emptyPage, filled, pagesOf}
+use Rattle.language.specs.RegisterText.{Entry, prop, page, cat, val, close, valueOf, sameHeld, addCategory, addHeld, withCategory, withValue, filled}
 use Rattle.language.proofs.Members.{and-true, by-test}
 use Rattle.pages.specs.Forms.{innerOf, inCategory, heldBy}
 
@@ -53,7 +47,7 @@ order-booleans-eq true false h = absurd (let z : _≡_ {A = ℕ} 0 1 = cc in ome
 order-booleans-eq false true h = absurd (let z : _≡_ {A = ℕ} 0 1 = cc in omega arith)
 order-booleans-eq false false h = refl
 
-identifier-eq : (i j : Identifier) → sameIdentifier i j ≡ true → i ≡ j
+pub identifier-eq : (i j : Identifier) → sameIdentifier i j ≡ true → i ≡ j
 identifier-eq i j h =
     let t = and-true (same (i .namespace) (j .namespace)) (same (i .article) (j .article)) h in
     λ k. record { namespace = same-eq (i .namespace) (j .namespace) (t .0) k; article = same-eq (i .article) (j .article) (t .1) k }
@@ -116,6 +110,19 @@ moved false b c = refl
 
 -- what a page holds: what it held before, and what its inner forms put
 module _ (ps : List Property) where
+  pub filled-identifier : (p : Page) (l : List Entry) → filled ps p l .identifier ≡ p .identifier
+  unfolding filled
+  filled-identifier p [] = refl
+  filled-identifier p (prop y k ∷ l) = refl
+  filled-identifier p (page n y ∷ l) = refl
+  filled-identifier p (cat y ∷ l) = filled-identifier (withCategory y p) l
+  filled-identifier p (val y v ∷ l) = filled-identifier _ l ∙ go (valueOf ps y v)
+    where
+      go : (o : Option Value) → (found o (λ w. withValue y w p) p) .identifier ≡ p .identifier
+      go none = refl
+      go (some w) = refl
+  filled-identifier p (close ∷ l) = refl
+
   pub filled-category : (x : Bytes) (p : Page) (l : List Entry) → any (same x) (filled ps p l .categories) ≡ any (same x) (p .categories) || any (inCategory x) (innerOf l)
   unfolding filled innerOf any
   filled-category x p [] = sym (or-false _)

@@ -1,5 +1,5 @@
 -- How a value that was read stands to a constant.
-use Prim.Native.Nat.{ℕ, zero, suc, _+_, _-_, _≤_, _<_}
+use Prim.Native.Nat.{ℕ, suc, _+_, _-_}
 use mathlib.Core.Path.{_≡_, refl, sym, ap, _∙_}
 use mathlib.Core.Bool.{Bool, true, false, cond}
 use mathlib.Core.Option.{Option, some, none}
@@ -7,7 +7,6 @@ use native.Mathlib.Omega.{arith}
 use borrow.Author.Tests.{ltb-true, ltb-false}
 use lib.Dec.{ltb}
 use lib.IntN.{ℤ, pos, negsuc, subℕ}
-use lib.ListN.{length}
 use Rattle.text.specs.Bytes.{Bytes, part, numbers, orderOf}
 use Rattle.text.specs.Parts.{partOf}
 use Rattle.text.specs.declared.Order.{Order}
@@ -17,13 +16,12 @@ use Rattle.values.specs.declared.Kind.{Kind}
 use Rattle.values.specs.declared.NumberRead.{NumberRead}
 use Rattle.values.specs.declared.BooleanRead.{BooleanRead}
 use Rattle.values.specs.Names.{Identifier}
-use Rattle.values.specs.Values.{Constant, number, boolean, string, Value, plain, link, mapOption, orderNumbers, orderBooleans, orderConstants, readNumber, readBoolean, readLink, readValue}
+use Rattle.values.specs.Values.{Constant, number, boolean, string, plain, link, mapOption, orderNumbers, orderBooleans, orderConstants, readNumber, readBoolean, readLink, readValue}
 use Rattle.values.specs.Answers.{base, biased, numberRead, booleanRead}
 use Rattle.values.proofs.Numbers.{Small, read-small}
 use Rattle.language.specs.Answer.{found}
 use Rattle.language.specs.Semantics.{stands, Cv, noMixed}
 use Rattle.language.specs.declared.Comparator.{Comparator}
-use Rattle.language.proofs.Members.{by-test}
 use Rattle.entries.specs.Items.{entryIn}
 use Rattle.entries.specs.declared.Tag.{Tag}
 use Rattle.entries.specs.declared.Item.{Item}

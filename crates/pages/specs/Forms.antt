@@ -34,7 +34,7 @@ pageFrom ps (cat x ∷ l) = emptyPage [] []
 pageFrom ps (val x v ∷ l) = emptyPage [] []
 pageFrom ps (close ∷ l) = emptyPage [] []
 
--- An inner form that puts its page into the category x; one that puts a value under x that passes the test.
+-- An inner form that puts its page into the category x; below, one that puts a value under x that passes the test.
 abbrev pub inCategory : Bytes → Entry → Bool
 inCategory x (prop y k) = false
 inCategory x (page n y) = false
@@ -42,9 +42,13 @@ inCategory x (cat y) = same x y
 inCategory x (val y v) = false
 inCategory x close = false
 
+-- What f makes of a val form's property and value; d for any other entry.
+abbrev pub onVal : {A : Type 0} → (Bytes → Bytes → A) → A → Entry → A
+onVal f d (prop y k) = d
+onVal f d (page n y) = d
+onVal f d (cat y) = d
+onVal f d (val y v) = f y v
+onVal f d close = d
+
 abbrev pub heldBy : List Property → Bytes → (Value → Bool) → Entry → Bool
-heldBy ps x test (prop y k) = false
-heldBy ps x test (page n y) = false
-heldBy ps x test (cat y) = false
-heldBy ps x test (val y v) = found (valueOf ps y v) (λ w. same y x && test w) false
-heldBy ps x test close = false
+heldBy ps x test e = onVal (λ y v. found (valueOf ps y v) (λ w. same y x && test w) false) false e

@@ -1,7 +1,6 @@
-// The pages of a register by the rows of its table: names, categories, values and links.
+// The pages of a register by the rows of its table: names, categories and values.
 ghost use mathlib.Core.Path.{_≡_};
-ghost use mathlib.Core.Bool.{Bool, true, false};
-ghost use Prim.Native.Nat.{ℕ};
+ghost use mathlib.Core.Bool.{true, false};
 ghost use lib.IntN.{subℕ};
 ghost use Rattle.values.specs.declared.Kind.the-variants.{Number, Boolean};
 ghost use Rattle.values.specs.Values.{number, boolean, orderBooleans, readValue};
@@ -12,7 +11,6 @@ ghost use Rattle.entries.specs.Items.{entryIn};
 ghost use Rattle.pages.specs.Forms.{identifierOf};
 ghost use Rattle.nodes.specs.Reading.{constantBy};
 
-pub mod link; // link.rt: where links lead
 pub mod seek; // seek.rt: what is looked for among a page's inner forms
 
 use entries::Item;
@@ -20,14 +18,12 @@ use entries::Tag;
 use language::Comparator;
 use nodes::Constant;
 use text::Order;
-use text::Span;
 use text::compare;
 use text::compare_numbers;
 use text::part;
 use values::BooleanRead;
 use values::Kind;
 use values::NumberRead;
-use values::is_reference;
 use values::read_boolean;
 use values::read_number;
 
@@ -41,12 +37,6 @@ pub enum Test {
 pub enum Look {
     Category,
     Value(Test),
-}
-
-// A page's place, or none.
-pub enum Place {
-    At(usize),
-    Nowhere,
 }
 
 // Whether an order is what a comparator asks for.

@@ -1,16 +1,12 @@
 // What is looked for among a page's inner forms.
 ghost use mathlib.Core.Path.{_≡_};
-ghost use mathlib.Core.Bool.{Bool, false};
-ghost use Prim.Native.Nat.{ℕ};
+ghost use mathlib.Core.Bool.{false};
 ghost use lib.ListN.{take};
 ghost use Rattle.text.specs.Bytes.{any};
-ghost use Rattle.values.specs.Values.{readLink};
-ghost use Rattle.language.specs.Answer.{found};
 ghost use Rattle.language.specs.Register.{sameKind};
 ghost use Rattle.entries.specs.Items.{entryIn};
-ghost use Rattle.entries.specs.Table.{entryAt};
 ghost use Rattle.pages.specs.Forms.{inCategory};
-ghost use Rattle.pages.specs.Tests.{innerAt, innerTag, kindOf, valuePasses, holdsTest, looks, holdsSome, otherIn};
+ghost use Rattle.pages.specs.Tests.{innerAt, valTag, kindOf, valuePasses, holdsTest, looks, holdsSome, otherIn};
 use super::Look;
 use super::Test;
 use super::value_stands;
@@ -19,6 +15,7 @@ use entries::Tag;
 use entries::table::item_at;
 use entries::table::num_at;
 use rows::checks::value_fits;
+use rows::tests::is_inner;
 use text::part;
 use text::same_bytes;
 use values::Kind;
@@ -53,6 +50,20 @@ pub fn puts_in(s: &[u8], item: Item, x: &[u8]) -> bool
     }
 }
 
+// Whether an entry is a val form.
+pub fn is_val(tag: Tag) -> bool
+    ensures { λ r. ⌜ r ≡ valTag tag ⌝ }
+{
+    match tag {
+        Tag::Val => true,
+        Tag::Prop => false,
+        Tag::Page => false,
+        Tag::Cat => false,
+        Tag::Close => false,
+        Tag::Broken => false,
+    }
+}
+
 // Whether an entry holds a value under x that passes a test.
 pub fn holds_value(s: &[u8], item: Item, x: &[u8], k: KindRead, test: Test, q: &[u8]) -> bool
     ensures { λ r. ⌜ r ≡ holdsTest (now (q .entry)) (kindOf k) (now (x .entry)) test (entryIn (now (s .entry)) item) ⌝ }
@@ -60,15 +71,13 @@ pub fn holds_value(s: &[u8], item: Item, x: &[u8], k: KindRead, test: Test, q: &
     let tag = item.tag;
     let p = item.first;
     let v = item.second;
-    match tag {
-        Tag::Val => same_bytes(part(s, p.start, p.len), x)
-            & value_passes(k, part(s, v.start, v.len), test, q),
-        Tag::Prop => false,
-        Tag::Page => false,
-        Tag::Cat => false,
-        Tag::Close => false,
-        Tag::Broken => false,
+    if !is_val(tag) {
+        return false;
     }
+    if !same_bytes(part(s, p.start, p.len), x) {
+        return false;
+    }
+    value_passes(k, part(s, v.start, v.len), test, q)
 }
 
 // Whether an entry is what is looked for.
@@ -78,20 +87,6 @@ pub fn is_sought(s: &[u8], item: Item, x: &[u8], k: KindRead, look: Look, q: &[u
     match look {
         Look::Category => puts_in(s, item, x),
         Look::Value(test) => holds_value(s, item, x, k, test, q),
-    }
-}
-
-// Whether an entry is an inner form.
-pub fn is_inner(tag: Tag) -> bool
-    ensures { λ r. ⌜ r ≡ innerTag tag ⌝ }
-{
-    match tag {
-        Tag::Cat => true,
-        Tag::Val => true,
-        Tag::Prop => false,
-        Tag::Page => false,
-        Tag::Close => false,
-        Tag::Broken => false,
     }
 }
 
@@ -196,7 +191,12 @@ pub fn some_other(
     ensures { λ r. ⌜ r ≡ otherIn (now (s .entry)) (now (t .entry)) n (take m (now (rows .entry))) (now (x .entry)) (kindOf d) kind ⌝ }
 {
     match d {
-        KindRead::Kind(k) => !same_kind(k, kind) & some_page_holds(s, t, n, rows, m, x, d),
+        KindRead::Kind(k) => {
+            if same_kind(k, kind) {
+                return false;
+            }
+            some_page_holds(s, t, n, rows, m, x, d)
+        }
         KindRead::Nothing => false,
     }
 }

@@ -8,7 +8,7 @@ use Rattle.pages.proofs.seek.some_inner.Tie as tie
 use Rattle.pages.proofs.seek.some_inner.Reads as reads
 use Rattle.pages.proofs.seek.some_inner.Lts as lts
 use Rattle.entries.proofs.table.item_at.Reads as item-at-reads
-use Rattle.pages.proofs.seek.is_inner.Reads as is-inner-reads
+use Rattle.rows.proofs.tests.is_inner.Reads as is-inner-reads
 use Rattle.pages.proofs.seek.is_sought.Reads as is-sought-reads
 
 abbrev Inv-loop : tie.InvT-loop

@@ -1,0 +1,182 @@
+-- The code of the page that a link names: the search for it, its hashes, and the tables.
+use Prim.Native.Nat.{ℕ, suc, _+_, _*_, _%_, _≤_, _<_}
+use mathlib.Core.Path.{_≡_, refl, sym, ap, _∙_}
+use mathlib.Core.Bool.{Bool, true, false, cond, not, _&&_}
+use mathlib.Core.List.{List, _∷_}
+use mathlib.Core.Option.{Option, some, none}
+use native.Mathlib.Nat.{zero-add, add-zero, mod-eq-of-lt}
+use native.Mathlib.Numerals.{add-one}
+use native.Mathlib.Omega.{arith}
+use native.Mathlib.Decide.{ℕ-discrete}
+use borrow.Author.Tests.{not-true, not-false}
+use lib.ListN.{length, getD, take, drop, set, length-take, length-set, drop-of-length-le}
+use lib.Seq.{drop-cons, getD-take, getD-set-same, getD-set-other}
+use Rattle.text.specs.Bytes.{Bytes, same, part}
+use Rattle.text.specs.Parts.{partOf}
+use Rattle.values.specs.Names.{Identifier, sameIdentifier, bare, qualified, reference, isReference, identifier}
+use Rattle.values.specs.Values.{readLink}
+use Rattle.values.specs.Answers.{splitOf, Splits}
+use Rattle.values.specs.declared.Split.{Split}
+use Rattle.language.specs.Answer.{_>>=_}
+use Rattle.language.specs.RegisterText.{page}
+use Rattle.language.proofs.Members.{by-test}
+use Rattle.entries.specs.Items.{entryIn}
+use Rattle.entries.specs.Table.{entryAt}
+use Rattle.entries.specs.declared.Item.{Item}
+use Rattle.pages.specs.Forms.{identifierOf}
+use Rattle.pages.specs.Tests.{valTag}
+use Rattle.pages.proofs.Pages.{identifier-eq}
+use Rattle.pages.proofs.Looking.{item-val, item-other}
+use Rattle.lookup.specs.Linking.{placeAmong, placeOf, linkPlace, codeOf, linkCode, Tabled, Hashed, hashFrom, hashOf}
+
+-- tables that are filled from the start
+pub tabled-none : (f : ℕ → ℕ) (l : List ℕ) → Tabled f 0 l
+tabled-none f l = record { at = λ j h k. absurd (omega arith) }
+
+pub tabled-more : (f : ℕ → ℕ) (n : ℕ) (l u : List ℕ) (v : ℕ) → Tabled f n l → v ≡ f n → f n < 65536 → u ≡ set l n (v % 65536) → Tabled f (n + 1) u
+tabled-more f n l u v a e b g = record { at = λ j h k. go j (ℕ-discrete j n) h k }
+  where
+    there : v % 65536 ≡ f n
+    there = ap (λ w. w % 65536) e ∙ mod-eq-of-lt b
+
+    sized : length u ≡ length l
+    sized = ap length g ∙ length-set l n (v % 65536)
+
+    go : (j : ℕ) → Dec (j ≡ n) → j < n + 1 → j < length u → getD u j 0 ≡ f j
+    go j (yes p) h k =
+        ap (λ w. getD w j 0) g
+        ∙ ap (λ i. getD (set l n (v % 65536)) i 0) p
+        ∙ getD-set-same l n (v % 65536) 0 (omega (arith, sized))
+        ∙ there
+        ∙ ap f (sym p)
+    go j (no p) h k = ap (λ w. getD w j 0) g ∙ getD-set-other l n j (v % 65536) 0 p ∙ a .at j (omega (arith, p)) (omega (arith, sized))
+
+pub tabled-less : (f : ℕ → ℕ) (m n : ℕ) (l : List ℕ) → Tabled f n l → m ≤ n → Tabled f m l
+tabled-less f m n l a h = record { at = λ j k fit. a .at j (omega arith) fit }
+
+pub tabled-empty : (f : ℕ → ℕ) (n : ℕ) (l : List ℕ) → length l ≡ 0 → Tabled f n l
+tabled-empty f n l e = record { at = λ j h k. absurd (omega arith) }
+
+-- hashes
+module _ (s : Bytes) (i sum : ℕ) where
+  pub hash-step : i < length s → hashFrom sum (drop i s) ≡ hashFrom ((251 * (sum % 65536) + getD s i 0) % 65536) (drop (i + 1) s)
+  unfolding hashFrom
+  hash-step h = rw (add-one i, drop-cons s i 0 h)
+
+  pub hash-end : length s ≤ i → hashFrom sum (drop i s) ≡ sum
+  unfolding hashFrom
+  hash-end h = rw (drop-of-length-le s {i = i} h)
+
+pub hash-small : (i : Identifier) → hashOf i < 65536
+unfolding hashOf
+hash-small i = omega arith
+
+-- page_hashes
+pub hashed-more : (s : Bytes) (t rows : List ℕ) (k : ℕ) (l u : List ℕ) (row : ℕ) (x : Item) (p q : Bytes) (v : ℕ) → Hashed s t rows k l
+    → row ≡ getD rows k 0 → ((s : Bytes) → entryIn s x ≡ entryAt s t row) → p ≡ identifierOf (entryIn s x) .namespace → q ≡ identifierOf (entryIn s x) .article
+    → v ≡ hashOf (record { namespace = p; article = q }) → u ≡ set l k (v % 65536) → Hashed s t rows (k + 1) u
+hashed-more s t rows k l u row x p q v a e is hp hq hv g = tabled-more _ k l u v a (hv ∙ ap hashOf named) (hash-small _) g
+  where
+    named : record { namespace = p; article = q } ≡ identifierOf (entryAt s t (getD rows k 0))
+    named = (λ j. record { namespace = hp j; article = hq j }) ∙ ap identifierOf (is s ∙ ap (entryAt s t) e)
+
+-- a place counted from k on
+abbrev shifted : ℕ → Option ℕ → Option ℕ
+shifted k o = o >>= λ j. some (k + j)
+
+from-zero : (o : Option ℕ) → o ≡ shifted 0 o
+from-zero none = refl
+from-zero (some j) = ap some (sym (zero-add j))
+
+one-on : (k : ℕ) (o : Option ℕ) → shifted k (o >>= λ j. some (suc j)) ≡ shifted (k + 1) o
+one-on k none = refl
+one-on k (some j) = ap some (omega arith)
+
+module _ (s : Bytes) (t rows : List ℕ) (m : ℕ) (i : Identifier) where
+  -- the page is not among the first k
+  pub record Passed (k : ℕ) : Type 0 where
+    pub left : placeOf s t rows m i ≡ shifted k (placeAmong i (entryAt s t) (drop k (take m rows)))
+
+  pub passed-none : Passed 0
+  passed-none = record { left = from-zero (placeOf s t rows m i) }
+
+  module _ (k : ℕ) (a : Passed k) where
+    ended : length (take m rows) ≤ k → 65535 ≡ codeOf (placeOf s t rows m i)
+    unfolding placeAmong
+    ended l =
+        let z : placeOf s t rows m i ≡ none = a .left ∙ rw (drop-of-length-le (take m rows) {i = k} l) in sym (ap codeOf z)
+
+    pub passed-all : m ≤ k → 65535 ≡ codeOf (placeOf s t rows m i)
+    passed-all l = ended (omega (arith, length-take m rows))
+
+    pub passed-end : length rows ≤ k → 65535 ≡ codeOf (placeOf s t rows m i)
+    passed-end l = ended (omega (arith, length-take m rows))
+
+    module _ (l : k < m) (f : k < length rows) (b : Bool) (is : b ≡ sameIdentifier (identifierOf (entryAt s t (getD rows k 0))) i) where
+      here : drop k (take m rows) ≡ getD rows k 0 ∷ drop (suc k) (take m rows)
+      here =
+          drop-cons (take m rows) k 0 (omega (arith, length-take m rows))
+          ∙ ap (λ r. r ∷ drop (suc k) (take m rows)) (getD-take m rows k 0 l)
+
+      step : placeOf s t rows m i ≡ shifted k (cond b (some 0) (placeAmong i (entryAt s t) (drop (suc k) (take m rows)) >>= λ j. some (suc j)))
+      unfolding placeAmong
+      step = a .left ∙ ap (λ n. shifted k (placeAmong i (entryAt s t) n)) here ∙ ap (λ d. shifted k (cond d (some 0) (placeAmong i (entryAt s t) (drop (suc k) (take m rows)) >>= λ j. some (suc j)))) (sym is)
+
+      pub passed-found : b ≡ true → k ≡ codeOf (placeOf s t rows m i)
+      passed-found h = let z : placeOf s t rows m i ≡ some (k + 0) = step ∙ rw h in sym (ap codeOf z ∙ add-zero k)
+
+      pub passed-more : b ≡ false → Passed (k + 1)
+      passed-more h = record { left = step ∙ rw (h, one-on k (placeAmong i (entryAt s t) (drop (suc k) (take m rows))), add-one k) }
+
+-- is_page
+module _ (s : Bytes) (t rows hashes : List ℕ) (k h : ℕ) (i : Identifier) where
+  pub page-unlike : (m g : ℕ) → Hashed s t rows m hashes → k < m → k < length hashes → h ≡ hashOf i → g ≡ getD hashes k 0 → (g ≡ h → ⊥) → false ≡ sameIdentifier (identifierOf (entryAt s t (getD rows k 0))) i
+  page-unlike m g a l f e is other =
+      by-test (sameIdentifier (identifierOf (entryAt s t (getD rows k 0))) i)
+      (λ same. absurd (other (is ∙ a .at k l f ∙ ap hashOf (identifier-eq _ _ same) ∙ sym e)))
+      (λ unlike. sym unlike)
+
+pub page-like : (s : Bytes) (t rows : List ℕ) (k row : ℕ) (x : Item) (p q n a : Bytes) (b c : Bool) → row ≡ getD rows k 0 → ((s : Bytes) → entryIn s x ≡ entryAt s t row)
+    → p ≡ identifierOf (entryIn s x) .namespace → b ≡ same p n → q ≡ identifierOf (entryIn s x) .article → c ≡ same q a
+    → (b && c) ≡ sameIdentifier (identifierOf (entryAt s t (getD rows k 0))) (record { namespace = n; article = a })
+page-like s t rows k row x p q n a b c e is hp hb hq hc = rw (← e, ← is s, ← hp, ← hq, ← hb, ← hc)
+
+-- the parts of a reference
+module _ (v : Bytes) (r : Split) (p : Bytes) where
+  pub namespace-qualified : r .qualified ≡ true → p ≡ part v (r .namespace .start) (r .namespace .len) → p ≡ identifier (splitOf v r) .namespace
+  namespace-qualified h e = rw h e
+
+  pub namespace-bare : r .qualified ≡ false → p ≡ part v 0 0 → p ≡ identifier (splitOf v r) .namespace
+  namespace-bare h e = rw h e
+
+  article-split : identifier (splitOf v r) .article ≡ partOf v (r .article)
+  article-split = go (r .qualified)
+    where
+      go : (b : Bool) → identifier (cond b (qualified (partOf v (r .namespace)) (partOf v (r .article))) (bare (partOf v (r .article)))) .article ≡ partOf v (r .article)
+      go true = refl
+      go false = refl
+
+pub ruleset parts = (namespace-qualified, namespace-bare)
+
+-- value_code
+module _ (s : Bytes) (t rows : List ℕ) (m : ℕ) (v : Bytes) (b : Bool) (is : b ≡ isReference (reference v)) where
+  pub link-none : not b ≡ true → 65535 ≡ codeOf (linkPlace s t rows m v)
+  unfolding readLink
+  link-none h = rw (← is, not-true b h)
+
+  pub link-page : (r : Split) (n a : Bytes) (o : ℕ) → not b ≡ false → Splits v r → n ≡ identifier (splitOf v r) .namespace → a ≡ part v (r .article .start) (r .article .len)
+      → o ≡ codeOf (placeOf s t rows m (record { namespace = n; article = a })) → o ≡ codeOf (linkPlace s t rows m v)
+  unfolding readLink
+  link-page r n a o h k hn ha e =
+      e ∙ ap (λ i. codeOf (placeOf s t rows m i)) same-page ∙ rw (← is, not-false b h)
+    where
+      same-page : record { namespace = n; article = a } ≡ identifier (reference v)
+      same-page = (λ j. record { namespace = hn j; article = (ha ∙ sym (article-split v r n)) j }) ∙ ap identifier (k .is)
+
+-- item_code
+module _ (s : Bytes) (t rows : List ℕ) (m : ℕ) (i : Item) (b : Bool) (is : b ≡ valTag (i .tag)) where
+  pub code-other : not b ≡ true → 65535 ≡ linkCode s t rows m (entryIn s i)
+  code-other h = sym (item-other (λ y v. codeOf (linkPlace s t rows m v)) 65535 s i b is h)
+
+  pub code-val : (v : Bytes) (r : ℕ) → not b ≡ false → v ≡ part s (i .second .start) (i .second .len) → r ≡ codeOf (linkPlace s t rows m v) → r ≡ linkCode s t rows m (entryIn s i)
+  code-val v r h e f = f ∙ ap (λ w. codeOf (linkPlace s t rows m w)) e ∙ sym (item-val (λ y v. codeOf (linkPlace s t rows m v)) 65535 s i b is h)

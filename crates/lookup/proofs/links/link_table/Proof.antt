@@ -1,0 +1,45 @@
+use Rattle.lookup.specs.Linking.{Links}
+use Rattle.lookup.proofs.View.{view-few}
+use borrow.Author.Needs.{needs}
+use Rattle.lookup.proofs.links.link_table.Statement.{statement}
+use Rattle.lookup.proofs.links.link_table.Tie as tie
+use Rattle.lookup.proofs.links.link_table.Reads as reads
+use Rattle.lookup.proofs.links.link_table.Lts as lts
+use Rattle.lookup.proofs.codes.page_hashes.Reads as page-hashes-reads
+use Rattle.lookup.proofs.links.fill_links.Reads as fill-links-reads
+
+-- src/links.rt:57:33
+slice-aggregate-page-hashes : tie.Need-slice-aggregate-page-hashes
+slice-aggregate-page-hashes c = search needs
+
+-- src/links.rt:57:5
+page-hashes-requires : tie.Need-page-hashes-requires
+page-hashes-requires c κs = search needs
+
+-- src/links.rt:58:40
+slice-aggregate-fill-links : tie.Need-slice-aggregate-fill-links
+slice-aggregate-fill-links c = search needs
+
+-- src/links.rt:58:5
+fill-links-requires : tie.Need-fill-links-requires
+fill-links-requires c κs = search needs
+
+-- src/links.rt:52:1
+same-length : tie.Need-same-length
+same-length c = search needs
+
+-- src/links.rt:52:1
+returns : tie.Need-returns
+unfolding Links
+returns c = (λ R props v room. c .before .before .fill-links .ensures .0 (c .before .before .before .before .before .before .page-hashes .ensures) (view-few v), c .before .before .fill-links .ensures .1)
+
+pub link-table-spec : {M : Type 1} → statement M
+link-table-spec =
+    tie.close
+    (tie.spec
+    slice-aggregate-page-hashes
+    page-hashes-requires
+    slice-aggregate-fill-links
+    fill-links-requires
+    same-length
+    returns)
