@@ -23,7 +23,7 @@ module _ (Γ : Typing) where
   join-assoc (some a) (some b) none = refl
   join-assoc (some a) (some b) (some c) = ap some (append-assoc a b c)
 
-  emits-append : (l k : List Slot) → emits Γ (l ++ k) ≡ joinNodes (emits Γ l) (emits Γ k)
+  pub emits-append : (l k : List Slot) → emits Γ (l ++ k) ≡ joinNodes (emits Γ l) (emits Γ k)
   unfolding emits
   emits-append [] k = go (emits Γ k)
     where
@@ -33,7 +33,7 @@ module _ (Γ : Typing) where
   emits-append (s ∷ l) k = ap (joinNodes (emit Γ s)) (emits-append l k) ∙ sym (join-assoc (emit Γ s) (emits Γ l) (emits Γ k))
 
   -- one slot alone
-  emits-one : (s : Slot) → emits Γ (s ∷ []) ≡ emit Γ s
+  pub emits-one : (s : Slot) → emits Γ (s ∷ []) ≡ emit Γ s
   unfolding emits
   emits-one s = go (emit Γ s)
     where

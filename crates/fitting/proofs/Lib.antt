@@ -1,1 +1,5 @@
 pub mod Fitting
+pub mod Reading
+pub mod Looping
+pub mod Keeping
+pub mod Fitted

@@ -105,7 +105,7 @@ twice-take s t rows m fit =
 
 -- a text whose entries and properties the tables hold
 module _ (s : Bytes) (t props pages : List ℕ) (n np ng : ℕ) (P : take np props ≡ rowsThat Declared.Property t n) (G : take ng pages ≡ rowsThat Declared.Page t n) where
-  kinds-rows : (x : Bytes) → kindsIn s t props np x ≡ kindAmong (properties (entriesIn s t n)) x
+  pub kinds-rows : (x : Bytes) → kindsIn s t props np x ≡ kindAmong (properties (entriesIn s t n)) x
   unfolding entriesIn
   kinds-rows x = ap (firstIn (λ i. declaredKind x (entryAt s t i))) (P ∙ rows-that Declared.Property s t n) ∙ sym (kind-rows x n (entryAt s t))
 

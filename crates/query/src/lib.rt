@@ -1,0 +1,48 @@
+// The query call: fits a query text to a held register, and writes the held query.
+ghost use mathlib.Core.Path.{_≡_};
+ghost use Prim.Native.Nat.{ℕ};
+ghost use Rattle.text.specs.Bytes.{Bytes};
+ghost use Rattle.query.specs.Call.{Queries};
+ghost use Rattle.query.specs.Stages.{CoreIn};
+use held::text_in;
+use register::open_register;
+use stages::fit_text;
+use stages::write_at;
+
+mod stages; // stages.rt: from a text and kinds to the bytes of a query
+
+// How many bytes a held query has.
+pub const QUERY_BYTES: usize = 6148;
+
+// The core query of a text by a held register, in the buffer's bytes; 0 or the lowest of 11 to 19.
+fn core_in(register: &[u8], text: &[u8], scratch: &mut [u8]) -> usize
+    ensures { λ r. ⌜ CoreIn (now (register .entry)) (now (text .entry)) (now (scratch .entry)) (now (scratch .exit)) r ⌝ }
+{
+    let mut rows = [0u16; 81920];
+    let mut props = [0u16; 16384];
+    let mut pages = [0u16; 16384];
+    let opened = open_register(register, &mut rows, &mut props, &mut pages);
+    let number = opened.number;
+    if number != 0 {
+        return 11;
+    }
+    let np = opened.props;
+    let declared = text_in(register);
+    fit_text(text, declared, &rows, &props, np, scratch)
+}
+
+// The query call: writes the held query of a text, or answers the number that refuses it.
+pub fn query(register: &[u8], text: &[u8], held: &mut [u8]) -> usize
+    ensures { λ r. ⌜ Queries (now (register .entry)) (now (text .entry)) (now (held .entry)) (now (held .exit)) r ⌝ }
+{
+    let mut scratch = [0u8; 6148];
+    let number = core_in(register, text, &mut scratch);
+    if number != 0 {
+        return number;
+    }
+    if held.len() < 6148 {
+        return 20;
+    }
+    write_at(held, 0, &scratch);
+    0
+}
