@@ -1,0 +1,148 @@
+-- What a call returns to C, by the number of its answer.
+use Prim.Native.Nat.{ℕ, zero, suc, _≤_, _<_, _^_}
+use mathlib.Core.Path.{_≡_, refl, sym, ap, _∙_}
+use mathlib.Core.Bool.{Bool, true, false, cond}
+use mathlib.Core.List.{List, [], _∷_, map}
+use mathlib.Core.Option.{Option, some, none}
+use native.Mathlib.Omega.{arith}
+use lib.Dec.{ltb}
+use lib.ListN.{length, length-map}
+use lib.IntN.{ℤ, pos, negℤ, _-ℤ_, +ℤ-idl}
+use lib.Signed.{mag}
+use mir.Syntax.{w32}
+use mir.Val.{SFits, toZ, ofZ, hbits}
+use mir.ValLaws.{toZ-pos, toZ-ofZ}
+use Rattle.text.specs.Bytes.{Bytes}
+use Rattle.text.specs.Table.{bit}
+use Rattle.language.specs.Answer.{Answer, refused, accepted, numberOf, orRefuse, Check, andThen}
+use Rattle.language.specs.Register.{Register}
+use Rattle.language.specs.Core.{Core}
+use Rattle.language.specs.Semantics.{selects, run}
+use Rattle.language.proofs.Registers.{accepted-sound}
+use Rattle.held.specs.Form.{textIn}
+use Rattle.register.specs.Held.{heldRegister, registerCall, Registers}
+use Rattle.register.proofs.Forms.{held-by}
+use Rattle.nodes.specs.Held.{heldQuery}
+use Rattle.query.specs.Call.{queryCall, Queries}
+use Rattle.ask.specs.Call.{askCall, marked, asked, marksIn, Asks}
+use Rattle.ask.specs.declared.Asked.{Asked}
+use Rattle.vetxarno.specs.Calls.{returned, RegisterCall, QueryCall, AskCall}
+use Rattle.vetxarno.specs.Demands.{lowest, rises, registerTable, queryTable, askTable}
+use Rattle.vetxarno.proofs.Tables.{refusalOf, register-refuses, register-rises, query-refuses, query-rises, ask-refuses, ask-rises, lowest-between}
+use Rattle.vetxarno.proofs.Demands.{run-is, ran}
+
+-- a small number as 32 bits with a sign
+module _ (n : ℕ) (h : n ≤ 256) where
+  pub small-is : toZ w32 n ≡ pos n
+  small-is = toZ-pos w32 n (let y : n < 2147483648 = omega (arith, h) in y)
+
+  less : pos 0 -ℤ toZ w32 n ≡ negℤ (pos n)
+  less = ap (λ z. pos 0 -ℤ z) small-is ∙ +ℤ-idl (negℤ (pos n))
+
+  negative-fits : SFits w32 (negℤ (pos n))
+  negative-fits = record { sfits = go n h }
+    where
+      go : (n : ℕ) → n ≤ 256 → mag (negℤ (pos n)) < 2147483648
+      go zero h = omega arith
+      go (suc n) h = omega (arith, h)
+
+  pub negated-fits : SFits w32 (pos 0 -ℤ toZ w32 n)
+  negated-fits = rw less negative-fits
+
+  -- passed on as bits
+  pub negative-passed : (z : ℤ) → z ≡ negℤ (pos n) → toZ w32 (ofZ w32 z) ≡ negℤ (pos n)
+  negative-passed z e = rw e (toZ-ofZ w32 (negℤ (pos n)) negative-fits)
+
+  pub negated-is : toZ w32 (ofZ w32 (pos 0 -ℤ toZ w32 n)) ≡ negℤ (pos n)
+  negated-is = negative-passed (pos 0 -ℤ toZ w32 n) less
+
+  pub count-passed : (z : ℤ) → z ≡ pos n → toZ w32 (ofZ w32 z) ≡ pos n
+  count-passed z e = rw e (toZ-ofZ w32 (pos n) (record { sfits = let y : n < 2147483648 = omega (arith, h) in y }))
+
+module _ {A : Type 0} where
+  few : (table : List Check) (a : Answer A) → refusalOf a ≡ lowest table → rises 0 25 table ≡ true → numberOf a ≤ 24
+  few table (refused n) e h = let k = lowest-between 0 25 n table h (sym e) in omega (arith, k .1)
+  few table (accepted a) e h = omega arith
+
+  pub returned-number : (a : Answer A) → negℤ (pos (numberOf a)) ≡ returned (λ x. 0) a
+  returned-number (refused n) = refl
+  returned-number (accepted a) = refl
+
+module _ (t h after : Bytes) (n : ℕ) (r : Registers t h after n) where
+  pub register-few : n ≤ 24
+  register-few = rw (r .number) (few (registerTable t h) (registerCall t h) (register-refuses t h) (register-rises t h))
+
+  pub register-returns : (z : ℤ) → z ≡ negℤ (pos n) → RegisterCall t h after (toZ w32 (ofZ w32 z))
+  register-returns z e =
+      record { number = negative-passed n (omega (arith, register-few)) z e ∙ ap (λ m. negℤ (pos m)) (r .number) ∙ returned-number (registerCall t h); buffer = r .buffer }
+
+module _ (h s b after : Bytes) (n : ℕ) (r : Queries h s b after n) where
+  pub query-few : n ≤ 24
+  query-few = rw (r .number) (few (queryTable h s b) (queryCall h s b) (query-refuses h s b) (query-rises h s b))
+
+  pub query-returns : (z : ℤ) → z ≡ negℤ (pos n) → QueryCall h s b after (toZ w32 (ofZ w32 z))
+  query-returns z e =
+      record { number = negative-passed n (omega (arith, query-few)) z e ∙ ap (λ m. negℤ (pos m)) (r .number) ∙ returned-number (queryCall h s b); buffer = r .buffer }
+
+-- no more pages are marked than there are
+marked-few : (l : List Bool) → marked l ≤ length l
+unfolding marked
+marked-few [] = omega arith
+marked-few (true ∷ l) = let y = marked-few l in omega (arith, y)
+marked-few (false ∷ l) = let y = marked-few l in omega (arith, y)
+
+asked-few : (q h b : Bytes) (m : List Bool) → askCall q h b ≡ accepted m → marked m ≤ 256
+unfolding askCall
+asked-few q h b m e = go (heldQuery q) (heldRegister h) refl e
+  where
+    go : (o : Option Core) (w : Option Register) → heldRegister h ≡ w → andThen (orRefuse 21 o) (λ c. andThen (orRefuse 22 w) (λ R. andThen (run c R) (λ l. cond (ltb (length b) (length (R .pages))) (refused 24) (accepted l)))) ≡ accepted m → marked m ≤ 256
+    go none w p e = absurd (let y : _≡_ {A = ℕ} 0 1 = cc in omega arith)
+    go (some c) none p e = absurd (let y : _≡_ {A = ℕ} 0 1 = cc in omega arith)
+    go (some c) (some W) p e =
+        let is : m ≡ map (selects c W) (W .pages) = run-is c W m (ran (ltb (length b) (length (W .pages))) (run c W) m e) .1 in
+        let long : length m ≡ length (W .pages) = ap length is ∙ length-map (W .pages) (selects c W) in
+        let few = accepted-sound (textIn h) W (held-by h W p .text) .fewPages in
+        let y = marked-few m in
+        omega (arith, y, long, few)
+
+-- the enum's cases differ, and each holds its number
+held : Asked → ℕ
+held (Asked.Refused n) = n
+held (Asked.Marked n) = n
+
+case : Asked → ℕ
+case (Asked.Refused n) = 0
+case (Asked.Marked n) = 1
+
+module _ (q h b after : Bytes) (a : Asked) (r : Asks q h b after a) where
+  refused-by : (n : ℕ) → a ≡ Asked.Refused n → askCall q h b ≡ refused n
+  unfolding held case
+  refused-by n e = go (askCall q h b) (sym (r .answer) ∙ e)
+    where
+      go : (x : Answer (List Bool)) → asked x ≡ Asked.Refused n → x ≡ refused n
+      go (refused m) p = ap refused (ap held p)
+      go (accepted l) p = absurd (let y : _≡_ {A = ℕ} 1 0 = ap case p in omega (arith, y))
+
+  marked-by : (k : ℕ) → a ≡ Asked.Marked k → (m : List Bool) × (askCall q h b ≡ accepted m) × (k ≡ marked m)
+  unfolding held case
+  marked-by k e = go (askCall q h b) (sym (r .answer) ∙ e)
+    where
+      go : (x : Answer (List Bool)) → asked x ≡ Asked.Marked k → (m : List Bool) × (x ≡ accepted m) × (k ≡ marked m)
+      go (refused m) p = absurd (let y : _≡_ {A = ℕ} 0 1 = ap case p in omega (arith, y))
+      go (accepted l) p = (l, refl, sym (ap held p))
+
+  module _ (n : ℕ) where
+    pub refusal-few : a ≡ Asked.Refused n → n ≤ 24
+    refusal-few e = let k = few (askTable q h b) (askCall q h b) (ask-refuses q h b) (ask-rises q h b) in let i = ap numberOf (refused-by n e) in omega (arith, k, i)
+
+    pub refusal-returns : a ≡ Asked.Refused n → (z : ℤ) → z ≡ negℤ (pos n) → AskCall q h b after (toZ w32 (ofZ w32 z))
+    refusal-returns e z p =
+        record { number = negative-passed n (omega (arith, refusal-few e)) z p ∙ ap (returned marked) (sym (refused-by n e)); buffer = r .buffer }
+
+    pub marks-few : a ≡ Asked.Marked n → n ≤ 256
+    marks-few e = let k = marked-by n e in rw (k .2) (asked-few q h b (k .0) (k .1))
+
+    pub marks-return : a ≡ Asked.Marked n → (z : ℤ) → z ≡ pos n → AskCall q h b after (toZ w32 (ofZ w32 z))
+    marks-return e z p =
+        let k = marked-by n e in
+        record { number = count-passed n (marks-few e) z p ∙ ap pos (k .2) ∙ ap (returned marked) (sym (k .1)); buffer = r .buffer }

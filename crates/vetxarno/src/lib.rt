@@ -1,0 +1,54 @@
+// The three calls for C. A slice is a pointer and a length there; include/vetxarno.h has the prototypes.
+ghost use mathlib.Core.Path.{_≡_};
+ghost use Prim.Native.Nat.{ℕ, _≤_};
+ghost use lib.IntN.{pos, negℤ};
+ghost use Rattle.vetxarno.specs.Calls.{RegisterCall, QueryCall, AskCall};
+use ask::Asked;
+use ask::ask;
+
+// A number that refuses, made negative; 0 stays.
+fn negative(n: usize) -> i32
+    requires { ⌜ n ≤ 24 ⌝ }
+    ensures { λ r. ⌜ r ≡ negℤ (pos n) ⌝ }
+{
+    let m = n as i32;
+    0 - m
+}
+
+// How many pages are marked.
+fn count_of(n: usize) -> i32
+    requires { ⌜ n ≤ 256 ⌝ }
+    ensures { λ r. ⌜ r ≡ pos n ⌝ }
+{
+    n as i32
+}
+
+// The register call.
+#[no_mangle]
+pub extern "C" fn vetxarno_register(text: &[u8], held: &mut [u8]) -> i32
+    ensures { λ r. ⌜ RegisterCall (now (text .entry)) (now (held .entry)) (now (held .exit)) r ⌝ }
+{
+    let number = register::register(text, held);
+    negative(number)
+}
+
+// The query call.
+#[no_mangle]
+pub extern "C" fn vetxarno_query(register: &[u8], text: &[u8], held: &mut [u8]) -> i32
+    ensures { λ r. ⌜ QueryCall (now (register .entry)) (now (text .entry)) (now (held .entry)) (now (held .exit)) r ⌝ }
+{
+    let refusal = query::query(register, text, held);
+    negative(refusal)
+}
+
+// The ask call.
+#[no_mangle]
+pub extern "C" fn vetxarno_ask(query: &[u8], register: &[u8], marks: &mut [u8]) -> i32
+    ensures { λ r. ⌜ AskCall (now (query .entry)) (now (register .entry)) (now (marks .entry)) (now (marks .exit)) r ⌝ }
+{
+    let asked = ask(query, register, marks);
+    match asked {
+        Asked::Refused(n) => negative(n),
+        Asked::Marked(n) => count_of(n),
+    }
+}
