@@ -1,0 +1,56 @@
+use borrow.Author.Needs.{needs}
+use Prim.Native.Nat.{_-_, _≤_, _<_}
+use mathlib.Core.Path.{_≡_}
+use lib.ListN.{length}
+use Rattle.vectors.proofs.fill.Statement.{statement}
+use Rattle.vectors.proofs.fill.Tie as tie
+use Rattle.vectors.proofs.fill.Reads as reads
+use Rattle.vectors.proofs.fill.Lts as lts
+
+abbrev Inv-loop : tie.InvT-loop
+Inv-loop held₀ b i₀ held i = length held ≡ length held₀
+
+abbrev μ-loop : tie.MeasureT-loop
+μ-loop held₀ b i₀ held i = length held₀ - i
+
+-- src/main.rt:30:5
+loop-holds : tie.Need-loop-holds Inv-loop μ-loop
+loop-holds c = search needs
+
+-- src/main.rt:31:9
+slice-write-held : tie.Need-slice-write-held Inv-loop μ-loop
+slice-write-held c = search needs
+
+-- src/main.rt:32:9
+add-i : tie.Need-add-i Inv-loop μ-loop
+add-i c = search needs
+
+-- src/main.rt:30:5
+loop-less : tie.Need-loop-less Inv-loop μ-loop
+loop-less c = search needs
+
+-- src/main.rt:30:5
+loop-again : tie.Need-loop-again Inv-loop μ-loop
+loop-again c = search needs
+
+-- src/main.rt:28:1
+same-length : tie.Need-same-length Inv-loop μ-loop
+same-length c = search needs
+
+-- src/main.rt:28:1
+returns : tie.Need-returns Inv-loop μ-loop
+returns c = search needs
+
+pub fill-spec : {M : Type 1} → statement M
+fill-spec =
+    tie.close
+    (tie.spec
+    Inv-loop
+    μ-loop
+    loop-holds
+    slice-write-held
+    add-i
+    loop-less
+    loop-again
+    same-length
+    returns)
