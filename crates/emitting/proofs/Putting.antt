@@ -1,7 +1,7 @@
 -- Laws of nodes that are put one behind the other.
-use Prim.Native.Nat.{ℕ, zero, suc, _+_, _≤_, _<_, min}
+use Prim.Native.Nat.{ℕ, suc, _+_, _≤_, _<_, min}
 use mathlib.Core.Path.{_≡_, refl, sym, ap, _∙_}
-use mathlib.Core.Bool.{Bool, true, false, cond}
+use mathlib.Core.Bool.{Bool, true, false}
 use mathlib.Core.List.{List, [], _∷_, _++_, map, append-assoc, append-nil}
 use mathlib.Core.Option.{Option, some, none}
 use native.Mathlib.Omega.{arith}
@@ -20,11 +20,11 @@ use Rattle.nodes.specs.declared.Selector.{Selector}
 use Rattle.nodes.specs.declared.Node.{Node}
 use Rattle.nodes.specs.declared.Constant.{Constant}
 use Rattle.nodes.specs.Postfix as Postfix
-use Rattle.nodes.specs.Held.{twoAt, textIn, nodesTo}
-use Rattle.nodes.specs.Reading.{nodeBy, keeps}
-use Rattle.nodes.specs.Writing.{withNode, ShortNode}
+use Rattle.nodes.specs.Held.{nodesTo}
+use Rattle.nodes.specs.Reading.{nodeBy}
+use Rattle.nodes.specs.Writing.{withNode}
 use Rattle.nodes.proofs.Kept.{length-kept, two-kept, text-kept, nodes-there}
-use Rattle.emitting.specs.Emission.{counted, Puts, selectNode, joinNode, comparing, oneNode, eitherNodes, comparedNodes, writtenScope, scopeOf, scopedNodes, referenceNodes, Sound, Ready}
+use Rattle.emitting.specs.Emission.{counted, Puts, selectNode, joinNode, comparing, eitherNodes, comparedNodes, writtenScope, scopeOf, referenceNodes, Sound, Ready}
 use Rattle.emitting.specs.declared.Comparison.{Comparison}
 use Rattle.emitting.specs.declared.Scope.{Scope}
 

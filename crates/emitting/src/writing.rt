@@ -1,9 +1,7 @@
 // Nodes into a held query, each behind those that are there.
 ghost use mathlib.Core.Path.{_≡_};
-ghost use Prim.Native.Nat.{ℕ};
 ghost use mathlib.Core.List.{[], _∷_};
 ghost use mathlib.Core.Option.{some};
-ghost use Rattle.text.specs.Bytes.{Bytes};
 ghost use Rattle.emitting.specs.Emission.{counted, selectNode, joinNode, comparing, eitherNodes, comparedNodes, writtenScope, scopeOf, referenceNodes, Puts, KeepsReference, KeepsValue, Emits};
 ghost use Rattle.text.specs.Parts.{partOf};
 ghost use Rattle.values.specs.declared.Kind.the-variants.{Page};

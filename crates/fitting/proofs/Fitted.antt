@@ -1,8 +1,8 @@
 -- Fitting the slots of a surface query is fitting the query.
-use Prim.Native.Nat.{ℕ, _+_, _≤_, _<_, min}
+use Prim.Native.Nat.{ℕ, _≤_, min}
 use mathlib.Core.Path.{_≡_, refl, sym, ap, _∙_}
 use mathlib.Core.Bool.{Bool, true, false, cond}
-use mathlib.Core.List.{List, [], _∷_, _++_, map}
+use mathlib.Core.List.{List, map}
 use mathlib.Core.Option.{Option, some, none}
 use native.Mathlib.Omega.{arith}
 use borrow.Author.Tests.{lt-ltb, le-ltb, ltb-true, ltb-false}
@@ -10,11 +10,11 @@ use lib.Dec.{ltb}
 use lib.ListN.{length, length-map}
 use Rattle.text.specs.Bytes.{Bytes, any}
 use Rattle.values.specs.Values.{mapOption}
-use Rattle.language.specs.Answer.{Answer, refused, accepted, numberOf, found, _>>=_}
+use Rattle.language.specs.Answer.{Answer, refused, accepted, numberOf, found}
 use Rattle.language.specs.Register.{Typing}
-use Rattle.language.specs.Surface.{Query, propertiesOf}
+use Rattle.language.specs.Surface.{Query}
 use Rattle.language.specs.Core.{Core, nodes}
-use Rattle.language.specs.Elaboration.{elaborate, isUndeclared, fit}
+use Rattle.language.specs.Elaboration.{elaborate, fit}
 use Rattle.slots.specs.Slots.{flat}
 use Rattle.nodes.specs.declared.Node.{Node}
 use Rattle.nodes.specs.Postfix as Postfix

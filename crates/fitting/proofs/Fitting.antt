@@ -1,5 +1,5 @@
 -- Fitting slot by slot is elaboration.
-use mathlib.Core.Path.{_≡_, refl, sym, ap, ap₂, _∙_}
+use mathlib.Core.Path.{_≡_, refl, sym, ap, _∙_}
 use mathlib.Core.Bool.{Bool, true, false, _||_, or-false}
 use mathlib.Core.List.{List, [], _∷_, _++_, append-assoc, append-nil}
 use mathlib.Core.Option.{Option, some, none}
@@ -10,10 +10,10 @@ use Rattle.values.specs.Values.{mapOption}
 use Rattle.language.specs.Answer.{_>>=_}
 use Rattle.language.specs.Register.{Typing}
 use Rattle.language.specs.Surface.{Chain, single, chain, Categories, Identifiers, Alternatives, Query, namesOf, propertiesIn, propertiesOf}
-use Rattle.language.specs.Core.{Selector, Core}
-use Rattle.language.specs.Elaboration.{elaborateReference, elaborateIdentifiers, elaborateCategories, elaborateValue, inside, joined, along, elaborateIn, elaborate, isUndeclared}
+use Rattle.language.specs.Core.{Core}
+use Rattle.language.specs.Elaboration.{elaborateIdentifiers, elaborateCategories, inside, joined, along, elaborateIn, elaborate, isUndeclared}
 use Rattle.slots.specs.Slots.{Slot, flatCategories, flatIdentifiers, flatChain, flatIn, flat}
-use Rattle.nodes.specs.Postfix.{Node, post, postIn}
+use Rattle.nodes.specs.Postfix.{Node, post}
 use Rattle.fitting.specs.Fitting.{slotUndeclared, subqueryNode, emit, joinNodes, emits}
 
 module _ (Γ : Typing) where

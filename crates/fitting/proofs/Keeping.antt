@@ -1,6 +1,6 @@
 -- The slots of an accepted text keep their rules: 15 and 16 were judged when it was read.
 use Prim.Native.Nat.{ℕ, max}
-use mathlib.Core.Path.{_≡_, refl, sym, ap, _∙_}
+use mathlib.Core.Path.{_≡_, refl, _∙_}
 use mathlib.Core.Bool.{Bool, true, false, cond, not, _&&_, _||_, and-eq-true-iff, true≢false}
 use mathlib.Core.List.{List, [], _∷_, _++_}
 use mathlib.Core.Option.{Option, some, none}
@@ -11,7 +11,7 @@ use lib.ListN.{length}
 use Rattle.text.specs.Bytes.{Bytes, any, all}
 use Rattle.text.proofs.Laws.{all-append}
 use Rattle.values.specs.Names.{isName, isNamespace, isPropertyName, isValue, reference, isReference}
-use Rattle.language.specs.Answer.{Answer, refused, accepted, judge, _if_, found}
+use Rattle.language.specs.Answer.{refused, accepted, judge, _if_, found}
 use Rattle.language.specs.Surface.{Chain, single, chain, Categories, Identifiers, Alternatives, Query}
 use Rattle.language.specs.RawQuery.{Piece, RawAlternatives, RawQuery, readWhole}
 use Rattle.language.specs.QueryText.{isPlain, isCategory, articleOf, isNamespacePiece, namespaceOf, isExistence, depth, longest, breaksNames, breaksCategory, breaksReference, breaksPieces, breaksIn, breaks, breaksValueIn, breaksValue, categoriesFrom, identifierOf, identifiersFrom, piecesQuery, surfaceIn, surface, checks, readText}

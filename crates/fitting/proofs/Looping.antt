@@ -1,21 +1,18 @@
 -- Slots one after the other, and what fitting them answers.
-use Prim.Native.Nat.{ℕ, zero, suc, _+_, _≤_, _<_, min}
+use Prim.Native.Nat.{ℕ, zero, suc, _+_, _≤_, _<_}
 use mathlib.Core.Path.{_≡_, refl, sym, ap, _∙_}
-use mathlib.Core.Bool.{Bool, true, false, cond, _&&_, _||_, and-eq-true-iff, or-false, or-true}
-use mathlib.Core.List.{List, [], _∷_, _++_, map, map-append}
+use mathlib.Core.Bool.{Bool, true, false, _&&_, _||_, and-eq-true-iff, or-false}
+use mathlib.Core.List.{List, [], _∷_, _++_, map-append}
 use mathlib.Core.Logic.{⊎-elim}
-use mathlib.Core.Option.{Option, some, none}
-use native.Mathlib.Nat.{eq-or-lt-of-le, le-of-suc-le-suc}
+use mathlib.Core.Option.{some, none}
+use native.Mathlib.Nat.{eq-or-lt-of-le}
 use native.Mathlib.Numerals.{add-one}
 use native.Mathlib.Omega.{arith}
-use lib.Dec.{ltb}
-use lib.ListN.{length}
 use Rattle.text.specs.Bytes.{Bytes, any, all}
 use Rattle.text.specs.Table.{tabulate}
 use Rattle.text.proofs.Laws.{any-append, all-append}
 use Rattle.language.specs.Register.{Typing}
 use Rattle.slots.specs.Slots.{Slot, slotAt, slotsIn}
-use Rattle.nodes.specs.declared.Node.{Node}
 use Rattle.nodes.specs.Postfix as Postfix
 use Rattle.nodes.specs.Reading.{nodeBy}
 use Rattle.emitting.specs.Emission.{Puts, Sound, Emits}

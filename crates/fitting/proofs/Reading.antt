@@ -1,8 +1,8 @@
 -- A slot that is read from its row, and its nodes.
 use Prim.Native.Nat.{ℕ, _+_, _*_, _/_, _≤_, _<_}
-use mathlib.Core.Path.{_≡_, refl, sym, ap, _∙_}
-use mathlib.Core.Bool.{Bool, true, false, _&&_, and-eq-true-iff}
-use mathlib.Core.List.{List, [], _∷_, map}
+use mathlib.Core.Path.{_≡_, refl, ap, _∙_}
+use mathlib.Core.Bool.{Bool, true, false, and-eq-true-iff}
+use mathlib.Core.List.{List, [], _∷_}
 use mathlib.Core.Option.{Option, some, none}
 use native.Mathlib.Omega.{arith}
 use borrow.Author.Tests.{ne-eqb}
@@ -29,8 +29,8 @@ use Rattle.nodes.specs.Reading.{nodeBy}
 use Rattle.emitting.specs.Emission.{Puts, selectNode, joinNode, Sound, KeepsReference, KeepsValue, Emits}
 use Rattle.emitting.specs.declared.Emitted.{Emitted}
 use Rattle.emitting.proofs.Meanings.{sound-select, sound-join}
-use Rattle.fitting.specs.Fitting.{slotUndeclared, subqueryNode, emit}
-use Rattle.fitting.specs.Reading.{slotBy, ShortRead, ReadsSlot, SlotAt, keepsSlot, KeepsRead, undeclaredRead, kindOption, valueRead, subqueryRead}
+use Rattle.fitting.specs.Fitting.{slotUndeclared, emit}
+use Rattle.fitting.specs.Reading.{slotBy, ReadsSlot, SlotAt, keepsSlot, KeepsRead, undeclaredRead, kindOption, valueRead, subqueryRead}
 use Rattle.fitting.specs.declared.SlotRead.{SlotRead}
 
 -- A slot by its code.

@@ -1,5 +1,5 @@
 -- Working definitions: a slot of a surface query fitted by the kinds of a register, to nodes of the core.
-use mathlib.Core.Bool.{Bool, true, false}
+use mathlib.Core.Bool.{Bool, false}
 use mathlib.Core.List.{List, [], _∷_, _++_}
 use mathlib.Core.Option.{Option, some, none}
 use Rattle.text.specs.Bytes.{Bytes}

@@ -1,10 +1,7 @@
 // One slot after the other: whether its property is declared, and its nodes.
 ghost use mathlib.Core.Path.{_≡_};
-ghost use mathlib.Core.Bool.{Bool};
-ghost use Prim.Native.Nat.{ℕ};
 ghost use Rattle.text.specs.Bytes.{any};
 ghost use Rattle.text.specs.Parts.{partOf};
-ghost use Rattle.values.specs.Values.{mapOption};
 ghost use Rattle.values.specs.Answers.{kindRead};
 ghost use Rattle.slots.specs.Slots.{slotsIn};
 ghost use Rattle.rows.specs.Checks.{kindsIn};

@@ -1,7 +1,7 @@
 -- Bytes that are written into a buffer, and the held query at the front of one.
-use Prim.Native.Nat.{ℕ, suc, _+_, _*_, _≤_, _<_}
-use mathlib.Core.Path.{_≡_, refl, sym, ap, _∙_}
-use mathlib.Core.List.{List, [], _∷_, _++_}
+use Prim.Native.Nat.{ℕ, _+_, _≤_, _<_}
+use mathlib.Core.Path.{_≡_, refl, ap, _∙_}
+use mathlib.Core.List.{[], _∷_, _++_}
 use mathlib.Core.Option.{some}
 use native.Mathlib.Numerals.{add-one}
 use native.Mathlib.Omega.{arith}
@@ -10,12 +10,11 @@ use lib.Seq.{take-suc, take-all, length-take-le, sets-eq, take-append-le, drop-a
 use Rattle.text.specs.Bytes.{Bytes, part}
 use Rattle.language.specs.Core.{Core}
 use Rattle.nodes.specs.Held.{querySize, twoAt, textIn, countIn, slot, nodeIn, nodesTo, heldQuery}
-use Rattle.nodes.specs.Stack.{stackAt, Holds}
+use Rattle.nodes.specs.Stack.{stackAt}
 use Rattle.nodes.specs.Writing.{written, twoBytes}
 use Rattle.nodes.proofs.Written.{written-past, written-then, length-written, two-before, two-there, part-there}
 use Rattle.nodes.proofs.Kept.{nodes-alike}
 use Rattle.nodes.proofs.Stacks.{held-holds, holds-held}
-use Rattle.emitting.specs.Emission.{Ready}
 use Rattle.query.specs.Stages.{Lays}
 
 -- The first i bytes of v were written into b, from a place on; j is the next place.

@@ -1,12 +1,12 @@
 -- The ways through the stages of the query call.
-use Prim.Native.Nat.{ℕ, suc, _+_, _*_, _≤_, _<_, max}
+use Prim.Native.Nat.{ℕ, _≤_, _<_, max}
 use mathlib.Core.Path.{_≡_, refl, sym, ap, _∙_, fun-ext}
 use mathlib.Core.Bool.{Bool, true, false, cond}
 use mathlib.Core.List.{List, [], _∷_}
 use mathlib.Core.Option.{Option, some, none}
 use native.Mathlib.Omega.{arith}
-use borrow.Author.Tests.{lt-ltb, le-ltb, ltb-false}
-use lib.Dec.{ltb}
+use borrow.Author.Tests.{lt-ltb, le-ltb, ltb-false, ne-eqb, eqb-true, eqb-false}
+use lib.Dec.{ltb, eqb}
 use lib.ListN.{length, drop}
 use Rattle.text.specs.Bytes.{Bytes, any}
 use Rattle.language.specs.Answer.{Answer, refused, accepted, numberOf, orRefuse, andThen, judge, _if_, found}
@@ -15,7 +15,7 @@ use Rattle.language.specs.RegisterText.{registerOf}
 use Rattle.language.specs.RawQuery.{RawQuery, readWhole}
 use Rattle.language.specs.Surface.{Query, propertiesOf}
 use Rattle.language.specs.QueryText.{depth, longest, breaks, breaksValue, surface, checks, readText}
-use Rattle.language.specs.Core.{Selector, Core, nodes, nodesIn}
+use Rattle.language.specs.Core.{Selector, Core, nodes}
 use Rattle.language.specs.Elaboration.{elaborate, isUndeclared, fit}
 use Rattle.language.specs.Calls.{coreOf}
 use Rattle.slots.specs.Slots.{flat, slotsIn}
@@ -28,19 +28,17 @@ use Rattle.rows.specs.declared.Judged.{Judged}
 use Rattle.rows.proofs.Verdict.{kinds-rows}
 use Rattle.register.specs.Held.{heldRegister, Opens}
 use Rattle.nodes.specs.Held.{querySize, twoAt, countIn, nodesTo, heldQuery}
-use Rattle.nodes.specs.Stack.{Holds}
 use Rattle.nodes.specs.Postfix.{post}
 use Rattle.nodes.specs.Writing.{written, twoBytes}
 use Rattle.nodes.proofs.Written.{length-written, two-before}
 use Rattle.nodes.proofs.Kept.{count-there, nodes-beside}
 use Rattle.nodes.proofs.Stacks.{holds-held, stack-post}
-use Rattle.emitting.specs.Emission.{Ready}
-use Rattle.fitting.specs.Reading.{KeepsSlots, fitNumber, Fits}
+use Rattle.fitting.specs.Reading.{fitNumber, Fits}
 use Rattle.fitting.specs.declared.Fit.{Fit}
 use Rattle.fitting.proofs.Keeping.{accepted-keeps}
 use Rattle.fitting.proofs.Fitted.{Fitted, fitted-number, fitted-nodes}
 use Rattle.query.specs.Call.{queryCall, Stores, Queries}
-use Rattle.query.specs.Stages.{Lays, Finishes, Answers, textCall, FitsText, coreCall, CoreIn}
+use Rattle.query.specs.Stages.{Lays, Finishes, Answers, textCall, FitsText, coreCall, CoreIn, decided}
 use Rattle.query.proofs.Buffers.{copy-held, copy-behind}
 
 -- An answer whose number is 0 is accepted.
@@ -201,8 +199,36 @@ store-refused a n b e = rw e refl
 store-accepted : (a : Answer Core) (c : Core) (b after : Bytes) → a ≡ accepted c → heldQuery after ≡ some c → length after ≡ length b → drop querySize after ≡ drop querySize b → Stores a b after
 store-accepted a c b after e f g h = rw e (f, g, h)
 
+-- Deciding.
+module _ (n l : ℕ) where
+  pub decided-refused : (n ≡ 0 → ⊥) → n ≡ decided n l
+  unfolding decided
+  decided-refused f = rw (ne-eqb n 0 f)
+
+  module _ (e : n ≡ 0) where
+    pub decided-short : l < 6148 → 20 ≡ decided n l
+    unfolding decided
+    decided-short k = rw (e, lt-ltb l 6148 k)
+
+    pub decided-done : 6148 ≤ l → 0 ≡ decided n l
+    unfolding decided
+    decided-done k = rw (e, le-ltb l 6148 k)
+
+  decided-is : n ≡ 0 → decided n l ≡ cond (ltb l querySize) 20 0
+  unfolding decided
+  decided-is e = rw e
+
+  decided-zero : decided n l ≡ 0 → (n ≡ 0) × (6148 ≤ l)
+  unfolding decided
+  decided-zero h = go (eqb n 0) refl (ltb l 6148) refl h
+    where
+      go : (a : Bool) → eqb n 0 ≡ a → (b : Bool) → ltb l 6148 ≡ b → _≡_ {A = ℕ} (cond a (cond b 20 0) n) 0 → (n ≡ 0) × (6148 ≤ l)
+      go true e true f h = absurd (omega arith)
+      go true e false f h = (eqb-true n 0 e, ltb-false l 6148 f)
+      go false e b f h = absurd (eqb-false n 0 e h)
+
 -- The query call.
-module _ (h s b scratch after : Bytes) (n : ℕ) (C : CoreIn h s scratch after n) where
+module _ (h s b scratch after : Bytes) (n r : ℕ) (C : CoreIn h s scratch after n) (D : r ≡ decided n (length b)) where
   abbrev stored : Core → Answer Core
   stored c = cond (ltb (length b) querySize) (refused 20) (accepted c)
 
@@ -214,35 +240,36 @@ module _ (h s b scratch after : Bytes) (n : ℕ) (C : CoreIn h s scratch after n
       go none = refl
       go (some R) = refl
 
-  pub query-refused : (n ≡ 0 → ⊥) → Queries h s b b n
+  call-number : r ≡ numberOf (queryCall h s b)
   unfolding CoreIn
-  query-refused f = go (coreCall h s) refl
+  call-number = D ∙ go (coreCall h s) refl ∙ sym (ap numberOf call-is)
     where
-      go : (a : Answer Core) → coreCall h s ≡ a → Queries h s b b n
-      go (refused m) e =
-          let q : queryCall h s b ≡ refused m = call-is ∙ ap (λ x. andThen x stored) e in
-          record { number = C .number ∙ ap numberOf e ∙ sym (ap numberOf q); buffer = store-refused (queryCall h s b) m b q }
-      go (accepted c) e = absurd (f (C .number ∙ ap numberOf e))
+      short : (t : Bool) (c : Core) → cond t 20 0 ≡ numberOf (cond t (refused 20) (accepted c))
+      short true c = refl
+      short false c = refl
 
-  module _ (zero : n ≡ 0) where
-    accepted-core : (c : Core) × (coreCall h s ≡ accepted c)
-    unfolding CoreIn
-    accepted-core = zero-core h s (sym (C .number) ∙ zero)
+      no-zero : (m : ℕ) → coreCall h s ≡ refused m → n ≡ 0 → ⊥
+      no-zero m e z = let w = zero-core h s (sym (C .number) ∙ z) in let y : _≡_ {A = ℕ} 0 1 = cc (w .1) in omega arith
 
-    stored-is : queryCall h s b ≡ stored (accepted-core .0)
-    stored-is = call-is ∙ ap (λ x. andThen x stored) (accepted-core .1)
+      go : (a : Answer Core) → coreCall h s ≡ a → decided n (length b) ≡ numberOf (andThen a stored)
+      go (refused m) e = sym (decided-refused n (length b) (no-zero m e)) ∙ C .number ∙ ap numberOf e
+      go (accepted c) e = decided-is n (length b) (C .number ∙ ap numberOf e) ∙ short (ltb (length b) querySize) c
 
-    pub query-short : length b < 6148 → Queries h s b b 20
-    query-short l =
-        let q : queryCall h s b ≡ refused 20 = stored-is ∙ rw (lt-ltb (length b) 6148 l) refl in
-        record { number = sym (ap numberOf q); buffer = store-refused (queryCall h s b) 20 b q }
+  pub query-refused : (r ≡ 0 → ⊥) → Queries h s b b r
+  query-refused f = go (queryCall h s b) refl
+    where
+      go : (a : Answer Core) → queryCall h s b ≡ a → Queries h s b b r
+      go (refused m) e = record { number = call-number; buffer = store-refused (queryCall h s b) m b e }
+      go (accepted c) e = absurd (f (call-number ∙ ap numberOf e))
 
-    pub query-done : (b′ : Bytes) → 6148 ≤ length scratch → length after ≡ 6148 → 6148 ≤ length b → b′ ≡ written b 0 after → Queries h s b b′ 0
-    unfolding CoreIn
-    query-done b′ room size l e =
-        let q : queryCall h s b ≡ accepted (accepted-core .0) = stored-is ∙ rw (le-ltb (length b) 6148 l) refl in
-        let k = C .held (accepted-core .0) (accepted-core .1) room in
-        record {
-          number = sym (ap numberOf q);
-          buffer = store-accepted (queryCall h s b) (accepted-core .0) b b′ q (ap heldQuery e ∙ copy-held b after size l (accepted-core .0) k) (ap length e ∙ length-written b 0 after) (ap (drop querySize) e ∙ copy-behind b after size l);
-        }
+  pub query-done : (b′ : Bytes) → r ≡ 0 → 6148 ≤ length scratch → length after ≡ 6148 → b′ ≡ written b 0 after → Queries h s b b′ r
+  unfolding CoreIn
+  query-done b′ zero room size e =
+      let w = decided-zero n (length b) (sym D ∙ zero) in
+      let c = zero-core h s (sym (C .number) ∙ w .0) in
+      let q : queryCall h s b ≡ accepted (c .0) = call-is ∙ ap (λ x. andThen x stored) (c .1) ∙ rw (le-ltb (length b) 6148 (w .1)) refl in
+      let k = C .held (c .0) (c .1) room in
+      record {
+        number = call-number;
+        buffer = store-accepted (queryCall h s b) (c .0) b b′ q (ap heldQuery e ∙ copy-held b after size (w .1) (c .0) k) (ap length e ∙ length-written b 0 after) (ap (drop querySize) e ∙ copy-behind b after size (w .1));
+      }

@@ -1,7 +1,9 @@
 -- Working definitions: the stages of the query call, over the buffer that the core query is written into.
 use Prim.Native.Nat.{ℕ, _≤_}
 use mathlib.Core.Path.{_≡_}
+use mathlib.Core.Bool.{cond}
 use mathlib.Core.Option.{some}
+use lib.Dec.{eqb, ltb}
 use lib.ListN.{length}
 use Rattle.text.specs.Bytes.{Bytes}
 use Rattle.language.specs.Answer.{Answer, accepted, numberOf, orRefuse, andThen}
@@ -44,3 +46,7 @@ coreCall h s = andThen (orRefuse 11 (heldRegister h)) (λ R. coreOf R s)
 
 unfoldable pub CoreIn : Bytes → Bytes → Bytes → Bytes → ℕ → Type 0
 CoreIn h s b b′ r = Answers (coreCall h s) b b′ r
+
+-- The number of the call, by the lowest of 11 to 19 or 0, and the length of the buffer.
+unfoldable pub decided : ℕ → ℕ → ℕ
+decided n l = cond (eqb n 0) (cond (ltb l querySize) 20 0) n

@@ -1,9 +1,8 @@
 // The query call: fits a query text to a held register, and writes the held query.
 ghost use mathlib.Core.Path.{_≡_};
 ghost use Prim.Native.Nat.{ℕ};
-ghost use Rattle.text.specs.Bytes.{Bytes};
 ghost use Rattle.query.specs.Call.{Queries};
-ghost use Rattle.query.specs.Stages.{CoreIn};
+ghost use Rattle.query.specs.Stages.{CoreIn, decided};
 use held::text_in;
 use register::open_register;
 use stages::fit_text;
@@ -22,13 +21,23 @@ fn core_in(register: &[u8], text: &[u8], scratch: &mut [u8]) -> usize
     let mut props = [0u16; 16384];
     let mut pages = [0u16; 16384];
     let opened = open_register(register, &mut rows, &mut props, &mut pages);
-    let number = opened.number;
-    if number != 0 {
+    let refusal = opened.number;
+    if refusal != 0 {
         return 11;
     }
     let np = opened.props;
     let declared = text_in(register);
     fit_text(text, declared, &rows, &props, np, scratch)
+}
+
+// The number that the call answers, by the lowest of 11 to 19 and the length of the buffer.
+fn decide(number: usize, len: usize) -> usize
+    ensures { λ r. ⌜ r ≡ decided number len ⌝ }
+{
+    if number != 0 {
+        return number;
+    }
+    if len < 6148 { 20 } else { 0 }
 }
 
 // The query call: writes the held query of a text, or answers the number that refuses it.
@@ -37,12 +46,10 @@ pub fn query(register: &[u8], text: &[u8], held: &mut [u8]) -> usize
 {
     let mut scratch = [0u8; 6148];
     let number = core_in(register, text, &mut scratch);
-    if number != 0 {
-        return number;
-    }
-    if held.len() < 6148 {
-        return 20;
+    let answer = decide(number, held.len());
+    if answer != 0 {
+        return answer;
     }
     write_at(held, 0, &scratch);
-    0
+    answer
 }

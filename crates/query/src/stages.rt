@@ -1,7 +1,5 @@
 // From a text and the kinds of properties to the bytes of a held query.
 ghost use mathlib.Core.Path.{_≡_};
-ghost use Prim.Native.Nat.{ℕ};
-ghost use Rattle.text.specs.Bytes.{Bytes};
 ghost use Rattle.rows.specs.Checks.{kindsIn};
 ghost use Rattle.nodes.specs.Writing.{written};
 ghost use Rattle.query.specs.Stages.{Lays, Finishes, FitsText};

@@ -28,7 +28,7 @@ open-register-requires : tie.Need-open-register-requires
 open-register-requires c κs = search needs
 
 returns : tie.Need-returns
-returns c = core-refused _ _ _ _ _ _ _ (opened (c .before .before .before .before .open-register .ensures)) (c .if1 .taken)
+returns c = core-refused _ _ _ _ _ _ _ (opened (c .before .before .before .before .open-register .ensures)) (λ z. omega (arith, z, c .if1 .taken))
 
 text-in-requires : tie.Need-text-in-requires
 text-in-requires c κs = search needs

@@ -1,4 +1,4 @@
-use Rattle.emitting.proofs.Meanings.{constants}
+use Rattle.emitting.proofs.Constants.{constants}
 use borrow.Author.Needs.{needs}
 use Rattle.emitting.proofs.terms.constant_of.Statement.{statement}
 use Rattle.emitting.proofs.terms.constant_of.Tie as tie

@@ -1,6 +1,6 @@
 use native.Mathlib.Omega.{arith}
 use Rattle.pieces.proofs.Laws.{part-fits}
-use Rattle.emitting.proofs.Meanings.{split-places}
+use Rattle.emitting.proofs.Constants.{split-places}
 use borrow.Author.Needs.{needs}
 use Rattle.emitting.proofs.terms.split_at.Statement.{statement}
 use Rattle.emitting.proofs.terms.split_at.Tie as tie

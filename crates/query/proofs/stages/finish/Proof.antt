@@ -1,4 +1,5 @@
-use Rattle.query.proofs.Calls.{finishes}
+use native.Mathlib.Omega.{arith}
+use Rattle.query.proofs.Calls.{finish-many, finishes}
 use borrow.Author.Needs.{needs}
 use Rattle.query.proofs.stages.finish.Statement.{statement}
 use Rattle.query.proofs.stages.finish.Tie as tie
@@ -13,7 +14,7 @@ enum-known-fit : tie.Need-enum-known-fit
 enum-known-fit c = search needs
 
 returns : tie.Need-returns
-returns c = search (finishes, needs)
+returns c = finish-many _ _ _ (c .before .before .fit .given .1) (omega (arith, c .if1 .taken))
 
 put-two-requires : tie.Need-put-two-requires
 put-two-requires c κs = search needs
