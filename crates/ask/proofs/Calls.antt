@@ -66,7 +66,7 @@ module _ (s : Bytes) (t props pages : List ℕ) (c : Judged) (h b : Bytes) (m : 
         answers _ (refused 24) b b _ (run-is R v q k ∙ rw (lt-ltb (length b) (length (R .pages)) (rw (view-count v) at l))) refl refl
 
     pub run-done : (links : List ℕ) (n count : ℕ) (r : Evaluated) (after : Bytes) → c .pages ≤ length b
-        → ((R : Register) (props : List ℕ) → View R s t props pages c → 16384 ≤ length {A = ℕ} (replicate 16384 0) → Links s t pages c links)
+        → ((R : Register) (props : List ℕ) → View R s t props pages c → 5500 ≤ length {A = ℕ} (replicate 5500 0) → Links s t pages c links)
         → n ≡ countIn h → Evaluates s t props pages links c h n (stackAt h n) r
         → Written (r .set .marks) (c .pages) b after → count ≡ countTo 256 (λ i. getD (r .set .marks) i false)
         → Runs s t props pages c h b after (Asked.Marked count)
@@ -81,7 +81,7 @@ module _ (s : Bytes) (t props pages : List ℕ) (c : Judged) (h b : Bytes) (m : 
         stack = ap (stackAt h) g ∙ k .stack
 
         tables : Tables R s t props pages links c
-        tables = record { view = v; leads = f R props v (omega (arith, length-replicate {A = ℕ} 16384 0)) }
+        tables = record { view = v; leads = f R props v (omega (arith, length-replicate {A = ℕ} 5500 0)) }
 
         means : Means R (c .pages) h n (some (q ∷ [])) r
         means = rw stack at (i R tables)
@@ -90,13 +90,13 @@ module _ (s : Bytes) (t props pages : List ℕ) (c : Judged) (h b : Bytes) (m : 
         are = means .0
 
 -- the tables of the call are large enough
-pub opens-with-room : {h : Bytes} {t props pages : List ℕ} {o : Judged} → (Room (replicate 81920 0) (replicate 16384 0) (replicate 16384 0) → Opens h t props pages o) → Opens h t props pages o
+pub opens-with-room : {h : Bytes} {t props pages : List ℕ} {o : Judged} → (Room (replicate 27500 0) (replicate 5500 0) (replicate 5500 0) → Opens h t props pages o) → Opens h t props pages o
 opens-with-room f =
     f
     (record {
-      rows = omega (arith, length-replicate {A = ℕ} 81920 0);
-      properties = omega (arith, length-replicate {A = ℕ} 16384 0);
-      places = omega (arith, length-replicate {A = ℕ} 16384 0);
+      rows = omega (arith, length-replicate {A = ℕ} 27500 0);
+      properties = omega (arith, length-replicate {A = ℕ} 5500 0);
+      places = omega (arith, length-replicate {A = ℕ} 5500 0);
     })
 
 -- ask

@@ -75,7 +75,7 @@ fn run(
     if out.len() < n {
         return Asked::Refused(24);
     }
-    let mut links = [0u16; 16384];
+    let mut links = [0u16; 5500];
     link_table(s, t, pages, c, &mut links);
     let evaluated = eval(h, two_at(h, 2), s, t, props, pages, &links, c);
     let set = evaluated.set;
@@ -90,9 +90,9 @@ pub fn ask(query: &[u8], register: &[u8], marks: &mut [u8]) -> Asked
     if !is_query(query) {
         return Asked::Refused(21);
     }
-    let mut t = [0u16; 81920];
-    let mut props = [0u16; 16384];
-    let mut pages = [0u16; 16384];
+    let mut t = [0u16; 27500];
+    let mut props = [0u16; 5500];
+    let mut pages = [0u16; 5500];
     let opened = open_register(register, &mut t, &mut props, &mut pages);
     let number = opened.number;
     if number != 0 {

@@ -22,7 +22,7 @@ use Rattle.entries.specs.Items.{placeOf, isBroken, entryIn, Reads}
 use Rattle.entries.specs.Table.{entriesIn, withRow, rowsOf, Holds, Filled}
 use Rattle.entries.proofs.Ways.{is-read, is-none}
 use Rattle.entries.proofs.Cells.{row-size, rows-more}
-use Rattle.entries.proofs.Counting.{two-next, Few, few}
+use Rattle.entries.proofs.Counting.{owed, Six, six-next, Few, few}
 
 -- After n entries: those read so far, before what the rest reads, are the whole; and the table holds them.
 pub record Going (s : Bytes) (t u : List ℕ) (at n : ℕ) (inside : Bool) : Type 0 where
@@ -31,7 +31,7 @@ pub record Going (s : Bytes) (t u : List ℕ) (at n : ℕ) (inside : Bool) : Typ
   pub count : length past ≡ n
   pub held : length s ≤ 65535 → 5 * n ≤ length u → entriesIn s u n ≡ past
   pub size : length u ≡ length t
-  pub left : 2 * n + (length s - at) ≤ length s
+  pub left : 6 * n + (length s - at) + owed (placeOf inside) ≤ length s
 
 map-all : {A : Type 0} (o : Option (List A)) → mapOption (λ l. [] ++ l) o ≡ o
 map-all none = refl
@@ -65,11 +65,11 @@ module _ (s : Bytes) (t u : List ℕ) (at n : ℕ) (inside : Bool) (g : Going s 
       next-is : nextEntry (placeOf inside) (drop at s) ≡ some (record { entry = entryIn s x; place = placeOf (x .inner); rest = drop (x .next) s })
       next-is = sym (k .is) ∙ is-read (x .tag) _ (sym p ∙ h)
 
-      two : length (drop (x .next) s) + 2 ≤ length (drop at s)
-      two = rw next-is at (two-next (drop at s) (placeOf inside))
+      six : Six (placeOf inside) (drop at s) (record { entry = entryIn s x; place = placeOf (x .inner); rest = drop (x .next) s })
+      six = rw next-is at (six-next (drop at s) (placeOf inside))
 
       pub going-less : length s - x .next < length s - at
-      going-less = omega (arith, two, length-drop (x .next) s, length-drop at s)
+      going-less = omega (arith, six .shorter, length-drop (x .next) s, length-drop at s)
 
       pub going-on : (v : List ℕ) → v ≡ withRow u n x → Going s t v (x .next) (n + 1) (x .inner)
       going-on v e =
@@ -80,7 +80,7 @@ module _ (s : Bytes) (t u : List ℕ) (at n : ℕ) (inside : Bool) (g : Going s 
             count = length-append (g .past) (entryIn s x ∷ []) ∙ rw (g .count);
             held = λ short room. rw e (rows-more u n x s (omega arith) short (k .first) (k .second) ∙ ap (λ l. l ++ (entryIn s x ∷ [])) (g .held short (omega arith)));
             size = z ∙ g .size;
-            left = omega (arith, two, length-drop (x .next) s, length-drop at s, g .left);
+            left = omega (arith, six .spent, length-drop (x .next) s, length-drop at s, g .left);
           }
 
   pub going-end : (inside || ltb at (length s)) ≡ false → Filled s t u (record { ok = true; count = n })
@@ -100,7 +100,7 @@ module _ (s : Bytes) (t u : List ℕ) (at n : ℕ) (inside : Bool) (g : Going s 
 
 pub ruleset goings = (going-broken, going-less, going-on, going-end)
 
--- What the answer tells, of a text within its limit and a table of 16,384 rows.
+-- What the answer tells, of a text within its limit and a table of 5,500 rows.
 module _ (s : Bytes) (t u : List ℕ) (r : Rows) (f : Filled s t u r) where
   pub filled-none : r .ok ≡ false → entries s ≡ none
   filled-none e = go (entries s) (f .is)
@@ -110,14 +110,14 @@ module _ (s : Bytes) (t u : List ℕ) (r : Rows) (f : Filled s t u r) where
       go (some l) h = absurd (true≢false (ap (λ x. x .ok) (sym h) ∙ e))
 
   module _ (e : r .ok ≡ true) (short : length s ≤ 32768) where
-    whole : (o : Option (List Entry)) → r ≡ rowsOf o → Holds s u o → OnSome (Few s) o → (r .count ≤ 16384) × (81920 ≤ length t → o ≡ some (entriesIn s u (r .count)))
+    whole : (o : Option (List Entry)) → r ≡ rowsOf o → Holds s u o → OnSome (Few line s) o → (r .count ≤ 5500) × (27500 ≤ length t → o ≡ some (entriesIn s u (r .count)))
     whole none h k m = absurd (true≢false (sym e ∙ ap (λ x. x .ok) h))
     whole (some l) h k m =
         let c : r .count ≡ length l = ap (λ x. x .count) h in
         (omega arith, λ room. rw c (ap some (sym (k (omega arith) (omega (arith, f .size))))))
 
-    pub filled-few : r .count ≤ 16384
+    pub filled-few : r .count ≤ 5500
     filled-few = whole (entries s) (f .is) (f .rows) (few line s) .0
 
-    pub filled-some : 81920 ≤ length t → entries s ≡ some (entriesIn s u (r .count))
+    pub filled-some : 27500 ≤ length t → entries s ≡ some (entriesIn s u (r .count))
     filled-some = whole (entries s) (f .is) (f .rows) (few line s) .1

@@ -17,9 +17,9 @@ pub const QUERY_BYTES: usize = 6148;
 fn core_in(register: &[u8], text: &[u8], scratch: &mut [u8]) -> usize
     ensures { λ r. ⌜ CoreIn (now (register .entry)) (now (text .entry)) (now (scratch .entry)) (now (scratch .exit)) r ⌝ }
 {
-    let mut rows = [0u16; 81920];
-    let mut props = [0u16; 16384];
-    let mut pages = [0u16; 16384];
+    let mut rows = [0u16; 27500];
+    let mut props = [0u16; 5500];
+    let mut pages = [0u16; 5500];
     let opened = open_register(register, &mut rows, &mut props, &mut pages);
     let refusal = opened.number;
     if refusal != 0 {

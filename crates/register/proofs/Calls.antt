@@ -82,10 +82,10 @@ module _ (t h : Bytes) (n : ℕ) (is : n ≡ numberOf (readRegister t)) where
     pub call-short : length h < registerSize → Registers t h h 8
     call-short l = record { number = sym (ap numberOf (short-is l)); buffer = sym (ap (leftIn h) (short-is l)) }
 
-    pub call-done : (after : Bytes) → registerSize ≤ length h → after ≡ withForm t h → Registers t h after 0
+    pub call-done : (after : Bytes) → registerSize ≤ length h → after ≡ withForm t h → Registers t h after n
     call-done after l e =
         record {
-          number = sym (ap numberOf (done-is l));
+          number = zero ∙ sym (ap numberOf (done-is l));
           buffer = e ∙ ap (λ c. cond c h (formOf t ++ drop registerSize h)) (le-ltb (length h) registerSize l) ∙ sym (ap (leftIn h) (done-is l));
         }
 

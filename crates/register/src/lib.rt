@@ -17,9 +17,9 @@ pub const REGISTER_BYTES: usize = 32770;
 pub fn register(text: &[u8], held: &mut [u8]) -> usize
     ensures { λ r. ⌜ Registers (now (text .entry)) (now (held .entry)) (now (held .exit)) r ⌝ }
 {
-    let mut t = [0u16; 81920];
-    let mut props = [0u16; 16384];
-    let mut pages = [0u16; 16384];
+    let mut t = [0u16; 27500];
+    let mut props = [0u16; 5500];
+    let mut pages = [0u16; 5500];
     let judged = judge(text, &mut t, &mut props, &mut pages);
     let number = judged.number;
     if number != 0 {
@@ -29,7 +29,7 @@ pub fn register(text: &[u8], held: &mut [u8]) -> usize
         return 8;
     }
     write_form(text, held);
-    0
+    number
 }
 
 // Whether bytes are the form of a register, whose entries are then in the tables: number 0, else not.

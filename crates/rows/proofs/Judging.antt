@@ -37,8 +37,8 @@ read-none : (o : Option (List Entry)) (r : Rows) → r ≡ rowsOf o → r .ok �
 read-none none r e h = refl
 read-none (some l) r e h = absurd (true≢false (sym (ap (λ (q : Rows). q .ok) e) ∙ h))
 
-module _ (s : Bytes) (t : List ℕ) (short : length s ≤ 32768) (room : 81920 ≤ length t) where
-  read-some : (o : Option (List Entry)) (r : Rows) → r ≡ rowsOf o → r .ok ≡ true → OnSome (Few s) o → Holds s t o → (o ≡ some (entriesIn s t (r .count))) × (2 * r .count ≤ length s)
+module _ (s : Bytes) (t : List ℕ) (short : length s ≤ 32768) (room : 27500 ≤ length t) where
+  read-some : (o : Option (List Entry)) (r : Rows) → r ≡ rowsOf o → r .ok ≡ true → OnSome (Few line s) o → Holds s t o → (o ≡ some (entriesIn s t (r .count))) × (6 * r .count ≤ length s)
   read-some none r e h k q = absurd (false≢true (sym (ap (λ (q : Rows). q .ok) e) ∙ h))
   read-some (some l) r e h k q =
       let n : r .count ≡ length l = ap (λ (q : Rows). q .count) e in
@@ -53,10 +53,10 @@ module _ (s : Bytes) (t₀ t : List ℕ) (short : length s ≤ 32768) (r : Rows)
       }
 
   module _ (h : not (r .ok) ≡ false) (props₀ props pages₀ pages : List ℕ) (np ng : ℕ) (P : Collected Declared.Property t (r .count) props₀ props np) (G : Collected Declared.Page t (r .count) pages₀ pages ng) (room : Room t₀ props₀ pages₀) where
-    read : (entries s ≡ some (entriesIn s t (r .count))) × (2 * r .count ≤ length s)
+    read : (entries s ≡ some (entriesIn s t (r .count))) × (6 * r .count ≤ length s)
     read = read-some s t short (omega (arith, room .rows, f .size)) (entries s) r (f .is) (not-false (r .ok) h) (few line s) (f .rows)
 
-    most : (what : Declared) → length (rowsThat what t (r .count)) ≤ 16384
+    most : (what : Declared) → length (rowsThat what t (r .count)) ≤ 5500
     most what =
         omega (arith, read .1, places-count (r .count) (λ i. declares what (entryAt [] t i)), count-most (r .count) (λ i. declares what (entryAt [] t i)))
 

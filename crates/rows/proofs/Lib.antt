@@ -3,3 +3,4 @@ pub mod Verdict
 pub mod Ways
 pub mod Loops
 pub mod Judging
+pub mod Hashing

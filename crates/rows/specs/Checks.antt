@@ -92,11 +92,11 @@ pub record Indexed (s : Bytes) (t props pages : List ℕ) (c : Judged) : Type 0 
   pub propertyCount : c .props ≡ length (rowsThat Declared.Property t (c .rows))
   pub pageCount : c .pages ≡ length (rowsThat Declared.Page t (c .rows))
 
--- Tables large enough for any text: every entry has at least two bytes.
+-- Tables large enough for any text: it has at most one entry for every six bytes.
 pub record Room (t props pages : List ℕ) : Type 0 where
-  pub rows : 81920 ≤ length t
-  pub properties : 16384 ≤ length props
-  pub places : 16384 ≤ length pages
+  pub rows : 27500 ≤ length t
+  pub properties : 5500 ≤ length props
+  pub places : 5500 ≤ length pages
 
 -- The lowest of 3 to 7 whose condition holds, else 0.
 abbrev pub lowest : Bool → Bool → Bool → Bool → Bool → ℕ

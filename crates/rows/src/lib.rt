@@ -3,6 +3,7 @@ ghost use mathlib.Core.Path.{_≡_};
 ghost use Rattle.rows.specs.Checks.{Collected, lowest, verdictOf, Judges, Room};
 
 pub mod checks; // checks.rt: what one row, or two, must keep
+pub mod hashes; // hashes.rt: hashes of what rows declare
 pub mod tests; // tests.rt: some row fails, two rows are alike, how many are inner forms
 
 use checks::bit_of;

@@ -70,9 +70,9 @@ fn ask_step(held_query: &[u8], held_register: &[u8], room: usize) {
 
 // How many pages a held register has.
 fn pages_in(held: &[u8]) -> usize {
-    let mut t = [0u16; 81920];
-    let mut props = [0u16; 16384];
-    let mut pages = [0u16; 16384];
+    let mut t = [0u16; 27500];
+    let mut props = [0u16; 5500];
+    let mut pages = [0u16; 5500];
     let opened = open_register(held, &mut t, &mut props, &mut pages);
     opened.pages
 }

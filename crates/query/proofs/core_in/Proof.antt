@@ -12,8 +12,8 @@ use Rattle.query.proofs.core_in.Statement.{statement}
 use Rattle.query.proofs.core_in.Tie as tie
 
 -- the tables are large enough
-opened : {h : Bytes} {t props pages : List ℕ} {r : Judged} → (Room (replicate 81920 0) (replicate 16384 0) (replicate 16384 0) → Opens h t props pages r) → Opens h t props pages r
-opened h = h (record { rows = omega (arith, length-replicate {A = ℕ} 81920 0); properties = omega (arith, length-replicate {A = ℕ} 16384 0); places = omega (arith, length-replicate {A = ℕ} 16384 0) })
+opened : {h : Bytes} {t props pages : List ℕ} {r : Judged} → (Room (replicate 27500 0) (replicate 5500 0) (replicate 5500 0) → Opens h t props pages r) → Opens h t props pages r
+opened h = h (record { rows = omega (arith, length-replicate {A = ℕ} 27500 0); properties = omega (arith, length-replicate {A = ℕ} 5500 0); places = omega (arith, length-replicate {A = ℕ} 5500 0) })
 
 slice-aggregate-open-register : tie.Need-slice-aggregate-open-register
 slice-aggregate-open-register c = search needs

@@ -18,8 +18,8 @@ use Rattle.held.proofs.write_form.Reads as write-form-reads
 use Rattle.rows.proofs.judge.Reads as judge-reads
 
 -- the tables are large enough
-judged : {s : Bytes} {t props pages : List ℕ} {r : Judged} → (Room (replicate 81920 0) (replicate 16384 0) (replicate 16384 0) → Judges s t props pages r) → r .number ≡ numberOf (readRegister s)
-judged h = h (record { rows = omega (arith, length-replicate {A = ℕ} 81920 0); properties = omega (arith, length-replicate {A = ℕ} 16384 0); places = omega (arith, length-replicate {A = ℕ} 16384 0) }) .number
+judged : {s : Bytes} {t props pages : List ℕ} {r : Judged} → (Room (replicate 27500 0) (replicate 5500 0) (replicate 5500 0) → Judges s t props pages r) → r .number ≡ numberOf (readRegister s)
+judged h = h (record { rows = omega (arith, length-replicate {A = ℕ} 27500 0); properties = omega (arith, length-replicate {A = ℕ} 5500 0); places = omega (arith, length-replicate {A = ℕ} 5500 0) }) .number
 
 -- src/lib.rt:21:30
 slice-aggregate-judge : tie.Need-slice-aggregate-judge
@@ -39,7 +39,7 @@ judge-requires c κs = search needs
 
 -- src/lib.rt:24:9
 returns : tie.Need-returns
-returns c = call-refused _ _ _ (judged (c .before .before .before .before .judge .ensures)) (c .if1 .taken)
+returns c = call-refused _ _ _ (judged (c .before .before .before .before .judge .ensures)) (λ z. omega (arith, z, c .if1 .taken))
 
 -- src/lib.rt:27:9
 returns-2 : tie.Need-returns-2
