@@ -1,5 +1,5 @@
 -- Working definitions: where links lead, and the tables that say it.
-use Prim.Native.Nat.{ℕ, suc, _+_, _*_, _%_, _<_}
+use Prim.Native.Nat.{ℕ, suc, _+_, _*_, _%_, _≤_, _<_}
 use mathlib.Core.Path.{_≡_}
 use mathlib.Core.Bool.{Bool, false, cond, _&&_}
 use mathlib.Core.List.{List, [], _∷_}
@@ -62,3 +62,17 @@ hashOf i = hashFrom (hashFrom 0 (i .namespace)) (i .article) % 65536
 -- The table holds the hashes of the pages that begin at the first m of a list of rows.
 abbrev pub Hashed : Bytes → List ℕ → List ℕ → ℕ → List ℕ → Type 0
 Hashed s t rows m hashes = Tabled (λ k. hashOf (identifierOf (entryAt s t (getD rows k 0)))) m hashes
+
+-- The slot of each of the first m hashes, from place a on, holds no later place than the hash's. Hashes that are alike modulo 4,096 have one slot.
+pub record Slotted (hashes : List ℕ) (a m : ℕ) (slots : List ℕ) : Type 0 where
+  pub first : (j : ℕ) → a ≤ j → j < m → getD slots (getD hashes j 0 % 4096) 0 ≤ j
+
+-- None of the first m places has the hash h before the place r, up to which every hash is known.
+pub record NoneBefore (hashes : List ℕ) (m h r : ℕ) : Type 0 where
+  pub known : r ≤ length hashes
+  pub unlike : (j : ℕ) → j < r → j < m → getD hashes j 0 ≡ h → ⊥
+
+-- The tables by which the page with an identifier is looked for.
+pub record HashIndex (s : Bytes) (t rows : List ℕ) (m : ℕ) (hashes slots : List ℕ) : Type 0 where
+  pub hashed : Hashed s t rows m hashes
+  pub slotted : Slotted hashes 0 m slots

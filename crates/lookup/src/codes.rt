@@ -7,7 +7,7 @@ ghost use Rattle.values.specs.Answers.{splitOf};
 ghost use Rattle.entries.specs.Items.{entryIn};
 ghost use Rattle.entries.specs.Table.{entryAt};
 ghost use Rattle.pages.specs.Forms.{identifierOf};
-ghost use Rattle.lookup.specs.Linking.{placeOf, linkPlace, codeOf, linkCode, hashFrom, hashOf, Hashed};
+ghost use Rattle.lookup.specs.Linking.{placeOf, linkPlace, codeOf, linkCode, hashFrom, hashOf, Hashed, Slotted, NoneBefore, HashIndex};
 use entries::Item;
 use entries::table::item_at;
 use entries::table::num_at;
@@ -67,6 +67,26 @@ pub fn page_hashes(s: &[u8], t: &[u16], rows: &[u16], m: usize, hashes: &mut [u1
     }
 }
 
+// Writes into the slot of each of the first m hashes the first place of that slot, where there is room. Hashes that are alike
+// modulo 4,096 have one slot.
+pub fn page_slots(hashes: &[u16], m: usize, slots: &mut [u16])
+    ensures { λ _. ⌜ Slotted (now (hashes .entry)) 0 m (now (slots .exit)) ⌝ }
+{
+    let mut k = m;
+    while 0 < k {
+        k -= 1;
+        put(slots, num_at(hashes, k) % 4096, k);
+    }
+}
+
+// A place before which no page has the hash h, by the slot of h; no place where the slot is that of no page.
+fn first_like(hashes: &[u16], slots: &[u16], h: usize) -> usize
+    ensures { λ r. ⌜ ((m : ℕ) → Slotted (now (hashes .entry)) 0 m (now (slots .entry)) → NoneBefore (now (hashes .entry)) m h r) ⌝ }
+{
+    let k = num_at(slots, h % 4096);
+    if k < hashes.len() { k } else { hashes.len() }
+}
+
 // Whether the page of row k of a list has a namespace and an article name, whose hash is h: their bytes are compared only
 // where the page's hash, as far as it is known, is h.
 fn is_page(
@@ -97,13 +117,14 @@ fn page_code(
     rows: &[u16],
     m: usize,
     hashes: &[u16],
+    slots: &[u16],
     namespace: &[u8],
     article: &[u8],
 ) -> usize
-    ensures { λ r. ⌜ (Hashed (now (s .entry)) (now (t .entry)) (now (rows .entry)) m (now (hashes .entry)) → r ≡ codeOf (placeOf (now (s .entry)) (now (t .entry)) (now (rows .entry)) m (record { namespace = now (namespace .entry); article = now (article .entry) }))) ⌝ }
+    ensures { λ r. ⌜ (HashIndex (now (s .entry)) (now (t .entry)) (now (rows .entry)) m (now (hashes .entry)) (now (slots .entry)) → r ≡ codeOf (placeOf (now (s .entry)) (now (t .entry)) (now (rows .entry)) m (record { namespace = now (namespace .entry); article = now (article .entry) }))) ⌝ }
 {
     let h = hash_of(namespace, article);
-    let mut k: usize = 0;
+    let mut k = first_like(hashes, slots, h);
     while k < m {
         if rows.len() <= k {
             return NOWHERE;
@@ -128,34 +149,52 @@ fn namespace_in(v: &[u8], split: Split) -> &[u8]
     part(v, 0, 0)
 }
 
-// The code of the place that a link leads to: v is the link's value.
-fn value_code(s: &[u8], t: &[u16], rows: &[u16], m: usize, hashes: &[u16], v: &[u8]) -> usize
-    ensures { λ r. ⌜ (Hashed (now (s .entry)) (now (t .entry)) (now (rows .entry)) m (now (hashes .entry)) → r ≡ codeOf (linkPlace (now (s .entry)) (now (t .entry)) (now (rows .entry)) m (now (v .entry)))) ⌝ }
+// The code of the place that a link leads to: v is the link's value. Most values name no page, reference or not.
+fn value_code(
+    s: &[u8],
+    t: &[u16],
+    rows: &[u16],
+    m: usize,
+    hashes: &[u16],
+    slots: &[u16],
+    v: &[u8],
+) -> usize
+    ensures { λ r. ⌜ (HashIndex (now (s .entry)) (now (t .entry)) (now (rows .entry)) m (now (hashes .entry)) (now (slots .entry)) → r ≡ codeOf (linkPlace (now (s .entry)) (now (t .entry)) (now (rows .entry)) m (now (v .entry)))) ⌝ }
 {
-    if !is_reference(v) {
-        return NOWHERE;
-    }
     let split = split_reference(v);
     let a = split.article;
-    page_code(
+    let k = page_code(
         s,
         t,
         rows,
         m,
         hashes,
+        slots,
         namespace_in(v, split),
         part(v, a.start, a.len),
-    )
+    );
+    if k == NOWHERE {
+        return NOWHERE;
+    }
+    if is_reference(v) { k } else { NOWHERE }
 }
 
 // The code of the place that an entry's value leads to.
-pub fn item_code(s: &[u8], t: &[u16], rows: &[u16], m: usize, hashes: &[u16], item: Item) -> usize
-    ensures { λ r. ⌜ (Hashed (now (s .entry)) (now (t .entry)) (now (rows .entry)) m (now (hashes .entry)) → r ≡ linkCode (now (s .entry)) (now (t .entry)) (now (rows .entry)) m (entryIn (now (s .entry)) item)) ⌝ }
+pub fn item_code(
+    s: &[u8],
+    t: &[u16],
+    rows: &[u16],
+    m: usize,
+    hashes: &[u16],
+    slots: &[u16],
+    item: Item,
+) -> usize
+    ensures { λ r. ⌜ (HashIndex (now (s .entry)) (now (t .entry)) (now (rows .entry)) m (now (hashes .entry)) (now (slots .entry)) → r ≡ linkCode (now (s .entry)) (now (t .entry)) (now (rows .entry)) m (entryIn (now (s .entry)) item)) ⌝ }
 {
     let tag = item.tag;
     let v = item.second;
     if !is_val(tag) {
         return NOWHERE;
     }
-    value_code(s, t, rows, m, hashes, part(s, v.start, v.len))
+    value_code(s, t, rows, m, hashes, slots, part(s, v.start, v.len))
 }

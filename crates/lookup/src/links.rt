@@ -12,9 +12,10 @@ ghost use Rattle.entries.specs.Items.{entryIn};
 ghost use Rattle.entries.specs.Table.{entryAt};
 ghost use Rattle.pages.specs.Tests.{innerAt, kindOf};
 ghost use Rattle.lookup.specs.View.{pageAt, View};
-ghost use Rattle.lookup.specs.Linking.{linkCode, Linked, Links, linksTo, Hashed};
+ghost use Rattle.lookup.specs.Linking.{linkCode, Linked, Links, linksTo, HashIndex};
 use super::codes::item_code;
 use super::codes::page_hashes;
+use super::codes::page_slots;
 use entries::Item;
 use entries::table::item_at;
 use entries::table::num_at;
@@ -37,25 +38,32 @@ fn fill_links(
     m: usize,
     n: usize,
     hashes: &[u16],
+    slots: &[u16],
     links: &mut [u16],
 )
-    ensures { λ _. ⌜ (Hashed (now (s .entry)) (now (t .entry)) (now (rows .entry)) m (now (hashes .entry)) → m ≤ 256 → Linked (now (s .entry)) (now (t .entry)) (now (rows .entry)) m n (now (links .exit))) × (length (now (links .exit)) ≡ length (now (links .entry))) ⌝ }
+    ensures { λ _. ⌜ (HashIndex (now (s .entry)) (now (t .entry)) (now (rows .entry)) m (now (hashes .entry)) (now (slots .entry)) → m ≤ 256 → Linked (now (s .entry)) (now (t .entry)) (now (rows .entry)) m n (now (links .exit))) × (length (now (links .exit)) ≡ length (now (links .entry))) ⌝ }
 {
     let mut j: usize = 0;
     while j < n {
-        put(links, j, item_code(s, t, rows, m, hashes, item_at(t, j)));
+        put(
+            links,
+            j,
+            item_code(s, t, rows, m, hashes, slots, item_at(t, j)),
+        );
         j += 1;
     }
 }
 
 // Writes, for every row of a register, the code of the place that its value leads to as a link.
 pub fn link_table(s: &[u8], t: &[u16], pages: &[u16], c: Judged, links: &mut [u16])
-    ensures { λ _. ⌜ ((R : Register) (props : List ℕ) → View R (now (s .entry)) (now (t .entry)) props (now (pages .entry)) c → 16384 ≤ length (now (links .entry)) → Links (now (s .entry)) (now (t .entry)) (now (pages .entry)) c (now (links .exit))) × (length (now (links .exit)) ≡ length (now (links .entry))) ⌝ }
+    ensures { λ _. ⌜ ((R : Register) (props : List ℕ) → View R (now (s .entry)) (now (t .entry)) props (now (pages .entry)) c → 5500 ≤ length (now (links .entry)) → Links (now (s .entry)) (now (t .entry)) (now (pages .entry)) c (now (links .exit))) × (length (now (links .exit)) ≡ length (now (links .entry))) ⌝ }
 {
     let m = c.pages;
     let mut hashes = [0u16; 256];
     page_hashes(s, t, pages, m, &mut hashes);
-    fill_links(s, t, pages, m, c.rows, &hashes, links);
+    let mut slots = [65535u16; 4096];
+    page_slots(&hashes, m, &mut slots);
+    fill_links(s, t, pages, m, c.rows, &hashes, &slots, links);
 }
 
 // The code of the place that row j's value leads to, by the table as far as it goes; the item is the row's.
@@ -73,7 +81,7 @@ fn code_at(
     if j < links.len() {
         return num_at(links, j);
     }
-    item_code(s, t, rows, m, &links[..0], item)
+    item_code(s, t, rows, m, &links[..0], &links[..0], item)
 }
 
 // Whether the item of row j holds, under x, a value that leads to a place of a set.

@@ -1,32 +1,37 @@
 use Prim.Native.Nat.{_-_}
 use native.Mathlib.Omega.{arith}
 use borrow.Author.Needs.{needs}
-use Rattle.lookup.specs.Linking.{Hashed}
-use Rattle.lookup.proofs.Places.{Passed, passed-none, passed-end, passed-found, passed-more, passed-all}
+use Rattle.lookup.specs.Linking.{HashIndex}
+use Rattle.lookup.proofs.Places.{Passed, passed-start, passed-end, passed-found, passed-more, passed-all}
 use Rattle.lookup.proofs.codes.page_code.Statement.{statement}
 use Rattle.lookup.proofs.codes.page_code.Tie as tie
 use Rattle.lookup.proofs.codes.page_code.Reads as reads
 use Rattle.lookup.proofs.codes.page_code.Lts as lts
+use Rattle.lookup.proofs.codes.first_like.Reads as first-like-reads
 use Rattle.lookup.proofs.codes.hash_of.Reads as hash-of-reads
 use Rattle.lookup.proofs.codes.is_page.Reads as is-page-reads
 
 abbrev Inv-loop : tie.InvT-loop
-Inv-loop s t rows m hashes namespace article h k₀ k = Hashed s t rows m hashes → Passed s t rows m (record { namespace = namespace; article = article }) k
+Inv-loop s t rows m hashes slots namespace article h k₀ k = HashIndex s t rows m hashes slots → Passed s t rows m (record { namespace = namespace; article = article }) k
 
 abbrev μ-loop : tie.MeasureT-loop
-μ-loop s t rows m hashes namespace article h k₀ k = m - k
+μ-loop s t rows m hashes slots namespace article h k₀ k = m - k
 
 -- src/codes.rt:101:9
 hash-of-requires : tie.Need-hash-of-requires Inv-loop μ-loop
 hash-of-requires c κs = search needs
 
+-- src/codes.rt:127:9
+first-like-requires : tie.Need-first-like-requires Inv-loop μ-loop
+first-like-requires c κs = search needs
+
 -- src/codes.rt:103:5
 loop-holds : tie.Need-loop-holds Inv-loop μ-loop
-loop-holds c = λ a. passed-none _ _ _ _ _
+loop-holds c = λ a. passed-start _ _ _ _ _ _ _ _ _ a (c .before .hash-of .ensures) (c .first-like .ensures _ (a .slotted))
 
 -- src/codes.rt:105:13
 returns : tie.Need-returns Inv-loop μ-loop
-returns c = λ a. passed-end (c .before .before .before .before .before .before .before .before .before .before .args .s .now) (c .before .before .before .before .before .before .before .before .before .before .args .t .now) (c .before .before .before .before .before .before .before .before .before .before .args .rows .now) (c .before .before .before .before .before .before .before .before .before .before .args .m) (record { namespace = c .before .before .before .before .before .before .before .before .before .before .args .namespace .now; article = c .before .before .before .before .before .before .before .before .before .before .args .article .now }) _ (c .before .before .loop .inv a) (c .if1 .taken)
+returns c = λ a. passed-end (c .before .before .before .before .before .before .before .before .before .before .before .before .args .s .now) (c .before .before .before .before .before .before .before .before .before .before .before .before .args .t .now) (c .before .before .before .before .before .before .before .before .before .before .before .before .args .rows .now) (c .before .before .before .before .before .before .before .before .before .before .before .before .args .m) (record { namespace = c .before .before .before .before .before .before .before .before .before .before .before .before .args .namespace .now; article = c .before .before .before .before .before .before .before .before .before .before .before .before .args .article .now }) _ (c .before .before .loop .inv a) (c .if1 .taken)
 
 -- src/codes.rt:107:12
 is-page-requires : tie.Need-is-page-requires Inv-loop μ-loop
@@ -34,7 +39,7 @@ is-page-requires c κs = search needs
 
 -- src/codes.rt:108:13
 returns-2 : tie.Need-returns-2 Inv-loop μ-loop
-returns-2 c = λ a. passed-found (c .before .before .before .before .before .before .before .before .before .before .before .before .args .s .now) (c .before .before .before .before .before .before .before .before .before .before .before .before .args .t .now) (c .before .before .before .before .before .before .before .before .before .before .before .before .args .rows .now) (c .before .before .before .before .before .before .before .before .before .before .before .before .args .m) (record { namespace = c .before .before .before .before .before .before .before .before .before .before .before .before .args .namespace .now; article = c .before .before .before .before .before .before .before .before .before .before .before .before .args .article .now }) _ (c .before .before .before .before .loop .inv a) (c .before .before .before .loop-test .taken) (c .before .before .if1 .left) _ (c .before .is-page .ensures (c .before .before .before .before .before .before .before .before .before .before .before .before .args .m) a (c .before .before .before .loop-test .taken) (c .before .before .before .before .before .hash-of .ensures)) (c .if2 .taken)
+returns-2 c = λ a. passed-found (c .before .before .before .before .before .before .before .before .before .before .before .before .before .before .args .s .now) (c .before .before .before .before .before .before .before .before .before .before .before .before .before .before .args .t .now) (c .before .before .before .before .before .before .before .before .before .before .before .before .before .before .args .rows .now) (c .before .before .before .before .before .before .before .before .before .before .before .before .before .before .args .m) (record { namespace = c .before .before .before .before .before .before .before .before .before .before .before .before .before .before .args .namespace .now; article = c .before .before .before .before .before .before .before .before .before .before .before .before .before .before .args .article .now }) _ (c .before .before .before .before .loop .inv a) (c .before .before .before .loop-test .taken) (c .before .before .if1 .left) _ (c .before .is-page .ensures (c .before .before .before .before .before .before .before .before .before .before .before .before .before .before .args .m) (a .hashed) (c .before .before .before .loop-test .taken) (c .before .before .before .before .before .before .hash-of .ensures)) (c .if2 .taken)
 
 -- src/codes.rt:110:9
 add-k : tie.Need-add-k Inv-loop μ-loop
@@ -46,11 +51,11 @@ loop-less c = omega arith
 
 -- src/codes.rt:103:5
 loop-again : tie.Need-loop-again Inv-loop μ-loop
-loop-again c = λ a. passed-more (c .before .before .before .before .before .before .before .before .before .before .before .before .args .s .now) (c .before .before .before .before .before .before .before .before .before .before .before .before .args .t .now) (c .before .before .before .before .before .before .before .before .before .before .before .before .args .rows .now) (c .before .before .before .before .before .before .before .before .before .before .before .before .args .m) (record { namespace = c .before .before .before .before .before .before .before .before .before .before .before .before .args .namespace .now; article = c .before .before .before .before .before .before .before .before .before .before .before .before .args .article .now }) _ (c .before .before .before .before .loop .inv a) (c .before .before .before .loop-test .taken) (c .before .before .if1 .left) _ (c .before .is-page .ensures (c .before .before .before .before .before .before .before .before .before .before .before .before .args .m) a (c .before .before .before .loop-test .taken) (c .before .before .before .before .before .hash-of .ensures)) (c .if2 .left)
+loop-again c = λ a. passed-more (c .before .before .before .before .before .before .before .before .before .before .before .before .before .before .args .s .now) (c .before .before .before .before .before .before .before .before .before .before .before .before .before .before .args .t .now) (c .before .before .before .before .before .before .before .before .before .before .before .before .before .before .args .rows .now) (c .before .before .before .before .before .before .before .before .before .before .before .before .before .before .args .m) (record { namespace = c .before .before .before .before .before .before .before .before .before .before .before .before .before .before .args .namespace .now; article = c .before .before .before .before .before .before .before .before .before .before .before .before .before .before .args .article .now }) _ (c .before .before .before .before .loop .inv a) (c .before .before .before .loop-test .taken) (c .before .before .if1 .left) _ (c .before .is-page .ensures (c .before .before .before .before .before .before .before .before .before .before .before .before .before .before .args .m) (a .hashed) (c .before .before .before .loop-test .taken) (c .before .before .before .before .before .before .hash-of .ensures)) (c .if2 .left)
 
 -- src/codes.rt:90:1
 returns-3 : tie.Need-returns-3 Inv-loop μ-loop
-returns-3 c = λ a. passed-all (c .before .before .before .before .before .before .before .before .before .args .s .now) (c .before .before .before .before .before .before .before .before .before .args .t .now) (c .before .before .before .before .before .before .before .before .before .args .rows .now) (c .before .before .before .before .before .before .before .before .before .args .m) (record { namespace = c .before .before .before .before .before .before .before .before .before .args .namespace .now; article = c .before .before .before .before .before .before .before .before .before .args .article .now }) _ (c .before .loop .inv a) (c .loop-test .left)
+returns-3 c = λ a. passed-all (c .before .before .before .before .before .before .before .before .before .before .before .args .s .now) (c .before .before .before .before .before .before .before .before .before .before .before .args .t .now) (c .before .before .before .before .before .before .before .before .before .before .before .args .rows .now) (c .before .before .before .before .before .before .before .before .before .before .before .args .m) (record { namespace = c .before .before .before .before .before .before .before .before .before .before .before .args .namespace .now; article = c .before .before .before .before .before .before .before .before .before .before .before .args .article .now }) _ (c .before .loop .inv a) (c .loop-test .left)
 
 pub page-code-spec : {M : Type 1} → statement M
 page-code-spec =
@@ -59,6 +64,7 @@ page-code-spec =
     Inv-loop
     μ-loop
     hash-of-requires
+    first-like-requires
     loop-holds
     returns
     is-page-requires

@@ -3,7 +3,7 @@ use mathlib.Core.Path.{_≡_, refl, ap, _∙_}
 use native.Mathlib.Omega.{arith}
 use borrow.Author.Needs.{needs}
 use lib.ListN.{length, length-set}
-use Rattle.lookup.specs.Linking.{Hashed, Linked}
+use Rattle.lookup.specs.Linking.{HashIndex, Linked}
 use Rattle.lookup.proofs.Places.{tabled-none, tabled-less}
 use Rattle.lookup.proofs.Leading.{linked-more}
 use Rattle.lookup.proofs.links.fill_links.Statement.{statement}
@@ -15,10 +15,10 @@ use Rattle.entries.proofs.table.put.Reads as put-reads
 use Rattle.lookup.proofs.codes.item_code.Reads as item-code-reads
 
 abbrev Inv-loop : tie.InvT-loop
-Inv-loop s t rows m n hashes links₀ j₀ links j = (Hashed s t rows m hashes → m ≤ 256 → Linked s t rows m j links) × (length links ≡ length links₀)
+Inv-loop s t rows m n hashes slots links₀ j₀ links j = (HashIndex s t rows m hashes slots → m ≤ 256 → Linked s t rows m j links) × (length links ≡ length links₀)
 
 abbrev μ-loop : tie.MeasureT-loop
-μ-loop s t rows m n hashes links₀ j₀ links j = n - j
+μ-loop s t rows m n hashes slots links₀ j₀ links j = n - j
 
 -- src/links.rt:45:5
 loop-holds : tie.Need-loop-holds Inv-loop μ-loop
@@ -46,7 +46,7 @@ loop-less c = omega arith
 
 -- src/links.rt:45:5
 loop-again : tie.Need-loop-again Inv-loop μ-loop
-loop-again c = (λ a few. linked-more (c .before .before .before .before .before .before .before .before .before .before .before .before .before .args .s .now) (c .before .before .before .before .before .before .before .before .before .before .before .before .before .args .t .now) (c .before .before .before .before .before .before .before .before .before .before .before .before .before .args .rows .now) (c .before .before .before .before .before .before .before .before .before .before .before .before .before .args .m) (c .before .before .before .before .before .before .before .loop .j) (c .before .before .before .before .before .before .before .loop .links) (c .before .before .before .before .item-at .result) _ _ (c .before .before .before .before .before .before .before .loop .inv .0 a few) few (c .before .before .before .before .item-at .ensures) (c .before .before .before .item-code .ensures a) (c .before .before .put .ensures), ap length (c .before .before .put .ensures) ∙ simp length-set (c .before .before .before .before .before .before .before .loop .inv .1))
+loop-again c = (λ a few. linked-more (c .before .before .before .before .before .before .before .before .before .before .before .before .before .before .args .s .now) (c .before .before .before .before .before .before .before .before .before .before .before .before .before .before .args .t .now) (c .before .before .before .before .before .before .before .before .before .before .before .before .before .before .args .rows .now) (c .before .before .before .before .before .before .before .before .before .before .before .before .before .before .args .m) (c .before .before .before .before .before .before .before .loop .j) (c .before .before .before .before .before .before .before .loop .links) (c .before .before .before .before .item-at .result) _ _ (c .before .before .before .before .before .before .before .loop .inv .0 a few) few (c .before .before .before .before .item-at .ensures) (c .before .before .before .item-code .ensures a) (c .before .before .put .ensures), ap length (c .before .before .put .ensures) ∙ simp length-set (c .before .before .before .before .before .before .before .loop .inv .1))
 
 -- src/links.rt:33:1
 same-length : tie.Need-same-length Inv-loop μ-loop
