@@ -1,0 +1,44 @@
+use Rattle.listing.proofs.Lines.{page-unmarked, page-marked}
+use borrow.Author.Needs.{needs}
+use Rattle.listing.proofs.pagelist.put_page.Statement.{statement}
+use Rattle.listing.proofs.pagelist.put_page.Tie as tie
+use Rattle.listing.proofs.pagelist.put_page.Reads as reads
+use Rattle.listing.proofs.pagelist.put_page.Lts as lts
+use Rattle.listing.proofs.parts.put_line.Reads as put-line-reads
+use Rattle.lookup.proofs.article_at.Reads as article-at-reads
+use Rattle.lookup.proofs.namespace_at.Reads as namespace-at-reads
+
+-- src/pagelist.rt:29:9
+returns : tie.Need-returns
+returns c = page-unmarked _ _ _ _ _ _ _ (c .if1 .taken)
+
+-- src/pagelist.rt:31:9
+namespace-at-requires : tie.Need-namespace-at-requires
+namespace-at-requires c κs = search needs
+
+-- src/pagelist.rt:32:9
+article-at-requires : tie.Need-article-at-requires
+article-at-requires c κs = search needs
+
+-- src/pagelist.rt:33:5
+put-line-requires : tie.Need-put-line-requires
+put-line-requires c κs = search needs
+
+-- src/pagelist.rt:17:1
+same-length : tie.Need-same-length
+same-length c = search needs
+
+-- src/pagelist.rt:17:1
+returns-2 : tie.Need-returns-2
+returns-2 c = page-marked _ _ _ _ _ _ _ _ _ _ _ (c .before .before .before .before .before .before .if1 .left) (c .before .before .before .before .before .namespace-at .ensures) (c .before .before .before .before .article-at .ensures) (c .before .before .put-line .ensures)
+
+pub put-page-spec : {M : Type 1} → statement M
+put-page-spec =
+    tie.close
+    (tie.spec
+    returns
+    namespace-at-requires
+    article-at-requires
+    put-line-requires
+    same-length
+    returns-2)

@@ -1,0 +1,44 @@
+use Rattle.listing.proofs.Lines.{refusal-done}
+use borrow.Author.Needs.{needs}
+use Rattle.listing.proofs.pagelist.put_refusal.Statement.{statement}
+use Rattle.listing.proofs.pagelist.put_refusal.Tie as tie
+use Rattle.listing.proofs.pagelist.put_refusal.Reads as reads
+use Rattle.listing.proofs.pagelist.put_refusal.Lts as lts
+use Rattle.listing.proofs.parts.put.Reads as put-reads
+use Rattle.listing.proofs.parts.put_byte.Reads as put-byte-reads
+use Rattle.listing.proofs.parts.put_decimal.Reads as put-decimal-reads
+
+-- src/pagelist.rt:78:25
+slice-aggregate-put : tie.Need-slice-aggregate-put
+slice-aggregate-put c = search needs
+
+-- src/pagelist.rt:78:9
+put-requires : tie.Need-put-requires
+put-requires c κs = search needs
+
+-- src/pagelist.rt:79:9
+put-decimal-requires : tie.Need-put-decimal-requires
+put-decimal-requires c κs = search needs
+
+-- src/pagelist.rt:80:5
+put-byte-requires : tie.Need-put-byte-requires
+put-byte-requires c κs = search needs
+
+-- src/pagelist.rt:75:1
+same-length : tie.Need-same-length
+same-length c = search needs
+
+-- src/pagelist.rt:75:1
+returns : tie.Need-returns
+returns c = refusal-done _ _ _ _ _ _ _ _ (c .before .before .before .before .before .before .before .before .before .before .put .ensures) (c .before .before .before .before .before .before .put-decimal .ensures) (c .before .before .put-byte .ensures)
+
+pub put-refusal-spec : {M : Type 1} → statement M
+put-refusal-spec =
+    tie.close
+    (tie.spec
+    slice-aggregate-put
+    put-requires
+    put-decimal-requires
+    put-byte-requires
+    same-length
+    returns)

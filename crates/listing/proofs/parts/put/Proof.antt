@@ -1,0 +1,64 @@
+use Prim.Native.Nat.{_-_}
+use mathlib.Core.Path.{_≡_}
+use lib.ListN.{length, take}
+use borrow.Author.Needs.{needs}
+use Rattle.listing.specs.Puts.{Puts}
+use Rattle.listing.proofs.Putting.{put-ways}
+use Rattle.listing.proofs.parts.put.Statement.{statement}
+use Rattle.listing.proofs.parts.put.Tie as tie
+use Rattle.listing.proofs.parts.put.Reads as reads
+use Rattle.listing.proofs.parts.put.Lts as lts
+use Rattle.listing.proofs.parts.put_byte.Reads as put-byte-reads
+
+abbrev Inv-loop : tie.InvT-loop
+Inv-loop out₀ at part to₀ i₀ out to i = (length out ≡ length out₀) × Puts out₀ at (take i part) out to
+
+abbrev μ-loop : tie.MeasureT-loop
+μ-loop out₀ at part to₀ i₀ out to i = length part - i
+
+-- src/parts.rt:25:5
+loop-holds : tie.Need-loop-holds Inv-loop μ-loop
+loop-holds c = search (put-ways, needs)
+
+-- src/parts.rt:26:32
+shared-slice-read-put-byte : tie.Need-shared-slice-read-put-byte Inv-loop μ-loop
+shared-slice-read-put-byte c = search (put-ways, needs)
+
+-- src/parts.rt:26:9
+put-byte-requires : tie.Need-put-byte-requires Inv-loop μ-loop
+put-byte-requires c κs = search (put-ways, needs)
+
+-- src/parts.rt:27:9
+add-i : tie.Need-add-i Inv-loop μ-loop
+add-i c = search (put-ways, needs)
+
+-- src/parts.rt:25:5
+loop-less : tie.Need-loop-less Inv-loop μ-loop
+loop-less c = search (put-ways, needs)
+
+-- src/parts.rt:25:5
+loop-again : tie.Need-loop-again Inv-loop μ-loop
+loop-again c = search (put-ways, needs)
+
+-- src/parts.rt:20:1
+same-length : tie.Need-same-length Inv-loop μ-loop
+same-length c = search (put-ways, needs)
+
+-- src/parts.rt:20:1
+returns : tie.Need-returns Inv-loop μ-loop
+returns c = search (put-ways, needs)
+
+pub put-spec : {M : Type 1} → statement M
+put-spec =
+    tie.close
+    (tie.spec
+    Inv-loop
+    μ-loop
+    loop-holds
+    shared-slice-read-put-byte
+    put-byte-requires
+    add-i
+    loop-less
+    loop-again
+    same-length
+    returns)

@@ -1,0 +1,63 @@
+-- Working definitions: what each step of the answer writes.
+use Prim.Native.Nat.{ℕ, _≤_, _<_}
+use mathlib.Core.Path.{_≡_}
+use mathlib.Core.Bool.{Bool, cond}
+use mathlib.Core.List.{List, [], _∷_, _++_}
+use mathlib.Core.Option.{some}
+use lib.Dec.{eqb}
+use lib.ListN.{length, getD}
+use Rattle.text.specs.Bytes.{Bytes, bytes}
+use Rattle.language.specs.Answer.{refused, accepted, andThen}
+use Rattle.language.specs.Register.{Register}
+use Rattle.language.specs.Core.{Core}
+use Rattle.language.specs.Semantics.{run}
+use Rattle.language.specs.Calls.{coreOf}
+use Rattle.rows.specs.declared.Judged.{Judged}
+use Rattle.register.specs.Held.{heldRegister}
+use Rattle.nodes.specs.Held.{heldQuery}
+use Rattle.lookup.specs.View.{pageAt, View}
+use Rattle.ask.specs.declared.Asked.{Asked}
+use Rattle.listing.specs.Listing.{decimal, lineOf, linesTo, listing, outcome}
+use Rattle.listing.specs.Puts.{Puts}
+
+-- What is written for a core query, and for a query text, on a register.
+unfoldable pub ofCore : Register → Core → Bytes
+ofCore R c = outcome (andThen (run c R) (λ m. accepted (listing R m)))
+
+unfoldable pub ofText : Register → Bytes → Bytes
+ofText R s = outcome (andThen (coreOf R s) (λ c. andThen (run c R) (λ m. accepted (listing R m))))
+
+-- The page in place i is marked: its byte is 1.
+abbrev pub isMarked : Bytes → ℕ → Bool
+isMarked marks i = eqb (getD marks i 0) 1
+
+-- The line of a page whose byte is `mark`; the tables hold the register.
+unfoldable pub PutsPage : Bytes → List ℕ → List ℕ → ℕ → ℕ → Bytes → ℕ → Bytes → ℕ → Type 0
+PutsPage s t pages i mark b at after r =
+    (R : Register) (props : List ℕ) (c : Judged) → View R s t props pages c → i < c .pages → Puts b at (cond (eqb mark 1) (lineOf i (pageAt R i)) []) after r
+
+-- The lines of the first n pages.
+unfoldable pub PutsLines : Bytes → List ℕ → List ℕ → Bytes → ℕ → Bytes → ℕ → Bytes → ℕ → Type 0
+PutsLines s t pages marks n b at after r =
+    (R : Register) (props : List ℕ) (c : Judged) → View R s t props pages c → n ≤ c .pages → Puts b at (linesTo n (isMarked marks) (pageAt R)) after r
+
+-- The list of the register in h, with a count of marked pages.
+unfoldable pub PutsList : Bytes → ℕ → Bytes → Bytes → Bytes → ℕ → Type 0
+PutsList h count marks b after r =
+    (R : Register) → heldRegister h ≡ some R → count < 1000
+    → Puts b 0 (bytes "pages " ++ decimal count ++ (10 ∷ []) ++ linesTo (length (R .pages)) (isMarked marks) (pageAt R)) after r
+
+unfoldable pub PutsRefusal : ℕ → Bytes → Bytes → ℕ → Type 0
+PutsRefusal n b after r = n < 1000 → Puts b 0 (outcome (refused n)) after r
+
+-- What an ask call answered.
+abbrev pub PutsAsked : Bytes → Bytes → Bytes → Bytes → ℕ → Asked → Type 0
+PutsAsked h marks b after r (Asked.Refused n) = PutsRefusal n b after r
+PutsAsked h marks b after r (Asked.Marked n) = PutsList h n marks b after r
+
+-- The answer to a held query, and to a query text, on the register in h.
+unfoldable pub AnswersCore : Bytes → Bytes → Bytes → Bytes → ℕ → Type 0
+AnswersCore q h b after r = (c : Core) (R : Register) → heldQuery q ≡ some c → heldRegister h ≡ some R → Puts b 0 (ofCore R c) after r
+
+unfoldable pub AnswersText : Bytes → Bytes → Bytes → Bytes → ℕ → Type 0
+AnswersText h s b after r = (R : Register) → heldRegister h ≡ some R → Puts b 0 (ofText R s) after r

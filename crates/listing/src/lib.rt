@@ -1,0 +1,51 @@
+// What asklist writes for a register text and a query text.
+ghost use Prim.Native.Nat.{ℕ};
+ghost use Rattle.listing.specs.Listing.{asklist};
+ghost use Rattle.listing.specs.Puts.{Puts};
+ghost use Rattle.listing.specs.Answering.{AnswersCore, AnswersText};
+
+pub mod pagelist; // pagelist.rt: the list of the marked pages, and a refusal
+pub mod parts; // parts.rt: numbers and lines, one part after the other
+
+use ask::Asked;
+use ask::ask;
+use pagelist::put_list;
+use pagelist::put_refusal;
+use query::query;
+use register::register;
+
+// Writes the answer to a held query on a held register.
+fn answer_core(core: &[u8], held: &[u8], out: &mut [u8]) -> usize
+    ensures { λ r. ⌜ AnswersCore (now (core .entry)) (now (held .entry)) (now (out .entry)) (now (out .exit)) r ⌝ }
+{
+    let mut marks = [0u8; 256];
+    let asked = ask(core, held, &mut marks);
+    match asked {
+        Asked::Refused(n) => put_refusal(out, n),
+        Asked::Marked(n) => put_list(out, held, n, &marks),
+    }
+}
+
+// Writes the answer to a query text on a held register.
+fn answer_text(held: &[u8], question: &[u8], out: &mut [u8]) -> usize
+    ensures { λ r. ⌜ AnswersText (now (held .entry)) (now (question .entry)) (now (out .entry)) (now (out .exit)) r ⌝ }
+{
+    let mut core = [0u8; 6148];
+    let number = query(held, question, &mut core);
+    if number != 0 {
+        return put_refusal(out, number);
+    }
+    answer_core(&core, held, out)
+}
+
+// Writes the answer to a query text on a register text, as far as there is room, and answers the place behind it.
+pub fn answer(text: &[u8], question: &[u8], out: &mut [u8]) -> usize
+    ensures { λ r. ⌜ Puts (now (out .entry)) 0 (asklist (now (text .entry)) (now (question .entry))) (now (out .exit)) r ⌝ }
+{
+    let mut held = [0u8; 32770];
+    let number = register(text, &mut held);
+    if number != 0 {
+        return put_refusal(out, number);
+    }
+    answer_text(&held, question, out)
+}
