@@ -43,7 +43,7 @@ returns c = call-refused _ _ _ (judged (c .before .before .before .before .judge
 
 -- src/lib.rt:27:9
 returns-2 : tie.Need-returns-2
-returns-2 c = call-short _ _ _ (judged (c .before .before .before .before .before .judge .ensures)) (c .before .if1 .left) (c .if2 .taken)
+returns-2 c = call-short _ _ _ (judged (c .before .before .before .before .before .judge .ensures)) (c .before .if1 .left) (omega (arith, c .if2 .taken))
 
 -- src/lib.rt:29:5
 write-form-requires : tie.Need-write-form-requires
