@@ -116,7 +116,7 @@ module _ (s : Bytes) (t props pages links : List ℕ) (c : Judged) (h : Bytes) w
   -- eval_selector
   module _ (at : ℕ) (selector : Selector) (b : Bool) (is : b ≡ isSubquery selector) where
     pub eval-leaf : (inner set : PageSet) → b ≡ false → inner .marks ≡ replicate 256 false
-        → Selects s t props pages links c (textIn h) selector inner (c .pages) (set .marks)
+        → Selects s t props pages links c (textIn h) selector (inner .marks) (c .pages) (set .marks)
         → Evaluates s t props pages links c h (suc at) (stackWith h at selector) (record { set = set; next = at })
     unfolding Evaluates Selects S stepped
     eval-leaf inner set e f g R v =
@@ -137,7 +137,7 @@ module _ (s : Bytes) (t props pages links : List ℕ) (c : Judged) (h : Bytes) w
             leaf (Node.value (named h p) o (constantBy (textIn h) k)) (Core.Selector.value (named h p) o (constantBy (textIn h) k)) (λ st. refl) z
 
     pub eval-within : (inner : Evaluated) (set : PageSet) → b ≡ true → Evaluates s t props pages links c h at (stackAt h at) inner
-        → Selects s t props pages links c (textIn h) selector (inner .set) (c .pages) (set .marks)
+        → Selects s t props pages links c (textIn h) selector (inner .set .marks) (c .pages) (set .marks)
         → Evaluates s t props pages links c h (suc at) (stackWith h at selector) (record { set = set; next = inner .next })
     unfolding Evaluates Selects
     eval-within inner set e i g R v = go selector (sym is ∙ e) (g R v)

@@ -4,13 +4,12 @@ use mathlib.Core.Path.{_≡_}
 use mathlib.Core.Bool.{Bool, false}
 use mathlib.Core.List.{List}
 use native.Mathlib.Omega.{arith}
-use lib.ListN.{set, replicate}
+use lib.ListN.{length, set, replicate}
 use Rattle.text.specs.Bytes.{Bytes, same, any, orderOf}
 use Rattle.text.specs.Parts.{partOf}
 use Rattle.text.specs.declared.Span.{Span}
 use Rattle.text.specs.declared.Order.{Order}
 use Rattle.values.specs.declared.KindRead.{KindRead}
-use Rattle.pageset.specs.declared.PageSet.{PageSet}
 use Rattle.language.specs.Register.{Page, Register, kindsOf, holds}
 use Rattle.language.specs.Semantics.{stands, Ca, follows, noMixed}
 use Rattle.language.specs.declared.Comparator.{Comparator}
@@ -26,59 +25,59 @@ use Rattle.evaluation.specs.Meaning.{Capped, Agrees, nameSpan, matches, 
 use Rattle.evaluation.proofs.Marks.{marks-none, marks-more}
 
 -- page_passes, by the selector
-module _ (s : Bytes) (t pages links : List ℕ) (c : Judged) (q : Bytes) (selector : Selector) (x : Bytes) (k : KindRead) (set : PageSet) (i : ℕ) (r : Bool) where
+module _ (s : Bytes) (t pages links : List ℕ) (c : Judged) (q : Bytes) (selector : Selector) (x : Bytes) (k : KindRead) (marks : List Bool) (i : ℕ) (r : Bool) where
   pub passes-category : (p : Span) → selector ≡ Selector.Category p
       → ((R : Register) (props : List ℕ) → View R s t props pages c → i < c .pages → r ≡ any (same x) (pageAt R i .categories))
-      → Passes s t pages links c q selector x k set i r
+      → Passes s t pages links c q selector x k marks i r
   unfolding Passes
-  passes-category p e f R props v l g inner a = rw e (f R props (v .view) l)
+  passes-category p e f R props v l g inner a few = rw e (f R props (v .view) l)
 
   pub passes-namespace : (p : Span) (y : Bytes) → selector ≡ Selector.Namespace p
       → ((R : Register) (props : List ℕ) (d : Judged) → View R s t props pages d → i < d .pages → y ≡ pageAt R i .identifier .namespace)
-      → r ≡ same y x → Passes s t pages links c q selector x k set i r
+      → r ≡ same y x → Passes s t pages links c q selector x k marks i r
   unfolding Passes
-  passes-namespace p y e f h R props v l g inner a = rw (e, ← f R props c (v .view) l) h
+  passes-namespace p y e f h R props v l g inner a few = rw (e, ← f R props c (v .view) l) h
 
   pub passes-article : (o : Comparator) (p : Span) (y : Bytes) (d : Order) → selector ≡ Selector.Article o p
       → ((R : Register) (props : List ℕ) (d : Judged) → View R s t props pages d → i < d .pages → y ≡ pageAt R i .identifier .article)
-      → d ≡ orderOf y x → r ≡ stands o d → Passes s t pages links c q selector x k set i r
+      → d ≡ orderOf y x → r ≡ stands o d → Passes s t pages links c q selector x k marks i r
   unfolding Passes Ca
-  passes-article o p y d e f w h R props v l g inner a = rw (e, ← f R props c (v .view) l, ← w) h
+  passes-article o p y d e f w h R props v l g inner a few = rw (e, ← f R props c (v .view) l, ← w) h
 
   pub passes-existence : (p : Span) → selector ≡ Selector.Existence p
       → ((R : Register) (props : List ℕ) → View R s t props pages c → i < c .pages → kindOf k ≡ kindsOf R x → r ≡ holds x (passes q Test.Any) (pageAt R i))
-      → Passes s t pages links c q selector x k set i r
+      → Passes s t pages links c q selector x k marks i r
   unfolding Passes
-  passes-existence p e f R props v l g inner a = rw e (f R props (v .view) l g)
+  passes-existence p e f R props v l g inner a few = rw e (f R props (v .view) l g)
 
   pub passes-value : (p : Span) (o : Comparator) (w : Constant) → selector ≡ Selector.Value p o w
       → ((R : Register) (props : List ℕ) → View R s t props pages c → i < c .pages → kindOf k ≡ kindsOf R x → r ≡ holds x (passes q (Test.Stands o w)) (pageAt R i))
-      → Passes s t pages links c q selector x k set i r
+      → Passes s t pages links c q selector x k marks i r
   unfolding Passes
-  passes-value p o w e f R props v l g inner a = rw e (f R props (v .view) l g)
+  passes-value p o w e f R props v l g inner a few = rw e (f R props (v .view) l g)
 
   pub passes-subquery : (p : Span) → selector ≡ Selector.Subquery p
-      → ((R : Register) (props : List ℕ) → View R s t props pages c → Links s t pages c links → i < c .pages → kindOf k ≡ kindsOf R x
-      → (test : Page → Bool) → Agrees R (c .pages) (set .marks) test → r ≡ holds x (follows noMixed R test) (pageAt R i))
-      → Passes s t pages links c q selector x k set i r
+      → ((R : Register) (props : List ℕ) → View R s t props pages c → Links s t pages c links → i < c .pages → kindOf k ≡ kindsOf R x → length marks ≤ 256
+      → (test : Page → Bool) → Agrees R (c .pages) marks test → r ≡ holds x (follows noMixed R test) (pageAt R i))
+      → Passes s t pages links c q selector x k marks i r
   unfolding Passes
-  passes-subquery p e f R props v l g inner a = rw e (f R props (v .view) (v .leads) l g inner a)
+  passes-subquery p e f R props v l g inner a few = rw e (f R props (v .view) (v .leads) l g few inner a)
 
 pub ruleset passing = (passes-category, passes-namespace, passes-article, passes-existence, passes-value, passes-subquery)
 
 -- select: no place yet, one more, all of them
-module _ (s : Bytes) (t props pages links : List ℕ) (c : Judged) (q : Bytes) (selector : Selector) (inner : PageSet) where
+module _ (s : Bytes) (t props pages links : List ℕ) (c : Judged) (q : Bytes) (selector : Selector) (inner : List Bool) where
   pub selects-none : (marks : List Bool) → marks ≡ replicate 256 false → Selects s t props pages links c q selector inner 0 marks
   unfolding Selects
   selects-none marks e R v test a = marks-none 256 _ marks e
 
   module _ (i n : ℕ) (few : Capped (c .pages) n) (marks : List Bool) (so-far : Selects s t props pages links c q selector inner i marks) where
-    pub selects-more : (y x : Bytes) (p : Span) (k : KindRead) (b : Bool) → i < n → y ≡ q → p ≡ nameSpan selector → x ≡ partOf y p
+    pub selects-more : (y x : Bytes) (p : Span) (k : KindRead) (b : Bool) → i < n → length inner ≤ 256 → y ≡ q → p ≡ nameSpan selector → x ≡ partOf y p
         → ((R : Register) (pages : List ℕ) → View R s t props pages c → kindOf k ≡ kindsOf R x)
         → Passes s t pages links c y selector x k inner i b → Selects s t props pages links c q selector inner (i + 1) (set marks i b)
     unfolding Selects Passes
-    selects-more y x p k b l d m e f g R v test a =
-        let w : b ≡ matches y x R test selector (pageAt R i) = g R props v (omega (arith, few .below)) (f R pages (v .view)) test a in
+    selects-more y x p k b l few-marks d m e f g R v test a =
+        let w : b ≡ matches y x R test selector (pageAt R i) = g R props v (omega (arith, few .below)) (f R pages (v .view)) test a few-marks in
         marks-more 256 _ marks i b (omega (arith, few .places)) (rw (e, m, d) at w) (so-far R v test a)
 
     pub selects-all : i ≤ n → n ≤ i → Selects s t props pages links c q selector inner (c .pages) marks

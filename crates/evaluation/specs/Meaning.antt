@@ -5,7 +5,7 @@ use mathlib.Core.Bool.{Bool, true, false, _&&_, _||_}
 use mathlib.Core.List.{List, [], _∷_}
 use mathlib.Core.Option.{Option, some, none}
 use lib.Dec.{ltb}
-use lib.ListN.{getD}
+use lib.ListN.{length, getD}
 use Rattle.text.specs.Bytes.{Bytes, same, any}
 use Rattle.text.specs.Parts.{partOf}
 use Rattle.text.specs.Table.{tabulate}
@@ -74,17 +74,17 @@ matches q x R inner (Selector.Subquery p) page = holds x (follows noMixed R inne
 matches q x R inner (Selector.Article c p) page = Ca c (page .identifier .article) x
 matches q x R inner (Selector.Value p c v) page = holds x (Cv noMixed c (constantBy q v)) page
 
--- The marks of the first i places: the pages that match, where the set is what the subquery selects.
-unfoldable pub Selects : Bytes → List ℕ → List ℕ → List ℕ → List ℕ → Judged → Bytes → Selector → PageSet → ℕ → List Bool → Type 0
+-- The marks of the first i places: the pages that match, where the set's marks are what the subquery selects.
+unfoldable pub Selects : Bytes → List ℕ → List ℕ → List ℕ → List ℕ → Judged → Bytes → Selector → List Bool → ℕ → List Bool → Type 0
 Selects s t props pages links c q selector set i marks =
-    (R : Register) → Tables R s t props pages links c → (inner : Page → Bool) → Agrees R (c .pages) (set .marks) inner
+    (R : Register) → Tables R s t props pages links c → (inner : Page → Bool) → Agrees R (c .pages) set inner
     → marks ≡ tabulate 256 (λ j. ltb j i && matches q (partOf q (nameSpan selector)) R inner selector (pageAt R j))
 
 -- The same of the page in one place; x is the selector's name, and k the kind that it is declared with.
-unfoldable pub Passes : Bytes → List ℕ → List ℕ → List ℕ → Judged → Bytes → Selector → Bytes → KindRead → PageSet → ℕ → Bool → Type 0
-Passes s t pages links c q selector x k set i r =
+unfoldable pub Passes : Bytes → List ℕ → List ℕ → List ℕ → Judged → Bytes → Selector → Bytes → KindRead → List Bool → ℕ → Bool → Type 0
+Passes s t pages links c q selector x k marks i r =
     (R : Register) (props : List ℕ) → Tables R s t props pages links c → i < c .pages → kindOf k ≡ kindsOf R x
-    → (inner : Page → Bool) → Agrees R (c .pages) (set .marks) inner → r ≡ matches q x R inner selector (pageAt R i)
+    → (inner : Page → Bool) → Agrees R (c .pages) marks inner → length marks ≤ 256 → r ≡ matches q x R inner selector (pageAt R i)
 
 -- Two sets joined by a connective.
 abbrev pub Joined : Connective → List Bool → List Bool → List Bool → Type 0

@@ -84,7 +84,7 @@ fn is_selection(connective: Connective) -> bool
     }
 }
 
-// Whether the page in a place matches a selector with the name x, declared with the kind k; set is what its subquery selects.
+// Whether the page in a place matches a selector with the name x, declared with the kind k; the marks are what its subquery selects.
 fn page_passes(
     s: &[u8],
     t: &[u16],
@@ -95,16 +95,16 @@ fn page_passes(
     selector: Selector,
     x: &[u8],
     k: KindRead,
-    set: PageSet,
+    marks: &[bool],
     i: usize,
 ) -> bool
-    ensures { λ r. ⌜ Passes (now (s .entry)) (now (t .entry)) (now (pages .entry)) (now (links .entry)) c (now (q .entry)) selector (now (x .entry)) k set i r ⌝ }
+    ensures { λ r. ⌜ Passes (now (s .entry)) (now (t .entry)) (now (pages .entry)) (now (links .entry)) c (now (q .entry)) selector (now (x .entry)) k (now (marks .entry)) i r ⌝ }
 {
     match selector {
         Selector::Category(_) => in_category(s, t, pages, c, i, x),
         Selector::Namespace(_) => same_bytes(namespace_at(s, t, pages, i), x),
         Selector::Existence(_) => holds_passing(s, t, pages, c, i, x, k, Test::Any, q),
-        Selector::Subquery(_) => links_into(s, t, pages, links, c, i, x, k, set),
+        Selector::Subquery(_) => links_into(s, t, pages, links, c, i, x, k, marks),
         Selector::Article(o, _) => stands_as(o, compare(article_at(s, t, pages, i), x)),
         Selector::Value(_, o, v) => {
             holds_passing(s, t, pages, c, i, x, k, Test::Stands(o, v), q)
@@ -124,17 +124,18 @@ fn select(
     links: &[u16],
     c: Judged,
 ) -> PageSet
-    ensures { λ r. ⌜ Selects (now (s .entry)) (now (t .entry)) (now (props .entry)) (now (pages .entry)) (now (links .entry)) c (textIn (now (h .entry))) selector set (c .pages) (r .marks) ⌝ }
+    ensures { λ r. ⌜ Selects (now (s .entry)) (now (t .entry)) (now (props .entry)) (now (pages .entry)) (now (links .entry)) c (textIn (now (h .entry))) selector (set .marks) (c .pages) (r .marks) ⌝ }
 {
     let q = query_text(h);
     let p = name_of(selector);
     let x = part(q, p.start, p.len);
     let k = kind_of(s, t, props, c, x);
     let n = capped(c.pages);
+    let inner = set.marks;
     let mut marks = [false; 256];
     let mut i: usize = 0;
     while i < n {
-        marks[i] = page_passes(s, t, pages, links, c, q, selector, x, k, set, i);
+        marks[i] = page_passes(s, t, pages, links, c, q, selector, x, k, &inner, i);
         i += 1;
     }
     PageSet { marks: marks }

@@ -82,7 +82,7 @@ pub page-kind : (k : KindRead) (j : Kind) (r : Bool) → k ≡ KindRead.Kind j �
 page-kind k j r e f = rw e f
 
 -- the code of a place, and its mark
-code-mark : (marks : List Bool) (o : Option ℕ) → length marks ≡ 256 → getD marks (codeOf o) false ≡ found o (λ k. getD marks k false) false
+code-mark : (marks : List Bool) (o : Option ℕ) → length marks ≤ 256 → getD marks (codeOf o) false ≡ found o (λ k. getD marks k false) false
 code-mark marks none h = List·getD-eq-default marks false (omega arith)
 code-mark marks (some k) h = refl
 
@@ -121,7 +121,7 @@ module _ (s : Bytes) (t rows : List ℕ) (m : ℕ) (x : Bytes) (marks : List Boo
     pub leads-unlike : not r ≡ true → false ≡ linksTo s t rows m x marks (entryIn s i)
     leads-unlike g = sym (item-val leading false s i b is h ∙ rw (← e, ← f, not-true r g))
 
-    pub leads-like : (o : ℕ) (u : Bool) → not r ≡ false → length marks ≡ 256 → o ≡ linkCode s t rows m (entryIn s i) → u ≡ getD marks o false → u ≡ linksTo s t rows m x marks (entryIn s i)
+    pub leads-like : (o : ℕ) (u : Bool) → not r ≡ false → length marks ≤ 256 → o ≡ linkCode s t rows m (entryIn s i) → u ≡ getD marks o false → u ≡ linksTo s t rows m x marks (entryIn s i)
     leads-like o u g long c d =
         d
         ∙ ap (λ n. getD marks n false) (c ∙ item-val (λ y v. codeOf (linkPlace s t rows m v)) 65535 s i b is h)

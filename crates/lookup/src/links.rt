@@ -22,7 +22,7 @@ use entries::table::num_at;
 use entries::table::put;
 use pages::seek::is_val;
 use pages::seek::same_kind;
-use pageset::PageSet;
+use pageset::mark_at;
 use rows::Judged;
 use rows::tests::is_inner;
 use text::part;
@@ -94,9 +94,9 @@ fn leads_into(
     j: usize,
     item: Item,
     x: &[u8],
-    set: PageSet,
+    marks: &[bool],
 ) -> bool
-    ensures { λ r. ⌜ ((n : ℕ) → Linked (now (s .entry)) (now (t .entry)) (now (rows .entry)) m n (now (links .entry)) → j < n → entryIn (now (s .entry)) item ≡ entryAt (now (s .entry)) (now (t .entry)) j → r ≡ linksTo (now (s .entry)) (now (t .entry)) (now (rows .entry)) m (now (x .entry)) (set .marks) (entryIn (now (s .entry)) item)) ⌝ }
+    ensures { λ r. ⌜ ((n : ℕ) → Linked (now (s .entry)) (now (t .entry)) (now (rows .entry)) m n (now (links .entry)) → j < n → entryIn (now (s .entry)) item ≡ entryAt (now (s .entry)) (now (t .entry)) j → length (now (marks .entry)) ≤ 256 → r ≡ linksTo (now (s .entry)) (now (t .entry)) (now (rows .entry)) m (now (x .entry)) (now (marks .entry)) (entryIn (now (s .entry)) item)) ⌝ }
 {
     let tag = item.tag;
     let p = item.first;
@@ -106,7 +106,7 @@ fn leads_into(
     if !same_bytes(part(s, p.start, p.len), x) {
         return false;
     }
-    set.has(code_at(s, t, rows, m, links, j, item))
+    mark_at(marks, code_at(s, t, rows, m, links, j, item))
 }
 
 // Whether some inner form of the page whose form begins at a row holds, under x, a value that leads to a place of a set.
@@ -119,9 +119,9 @@ fn some_link(
     n: usize,
     row: usize,
     x: &[u8],
-    set: PageSet,
+    marks: &[bool],
 ) -> bool
-    ensures { λ r. ⌜ (Linked (now (s .entry)) (now (t .entry)) (now (rows .entry)) m n (now (links .entry)) → r ≡ any (linksTo (now (s .entry)) (now (t .entry)) (now (rows .entry)) m (now (x .entry)) (set .marks)) (innerAt (now (s .entry)) (now (t .entry)) n row)) ⌝ }
+    ensures { λ r. ⌜ (Linked (now (s .entry)) (now (t .entry)) (now (rows .entry)) m n (now (links .entry)) → length (now (marks .entry)) ≤ 256 → r ≡ any (linksTo (now (s .entry)) (now (t .entry)) (now (rows .entry)) m (now (x .entry)) (now (marks .entry))) (innerAt (now (s .entry)) (now (t .entry)) n row)) ⌝ }
 {
     if n <= row {
         return false;
@@ -133,7 +133,7 @@ fn some_link(
         if !is_inner(tag) {
             return false;
         }
-        if leads_into(s, t, rows, m, links, j, item, x, set) {
+        if leads_into(s, t, rows, m, links, j, item, x, marks) {
             return true;
         }
         j += 1;
@@ -161,9 +161,9 @@ pub fn links_into(
     i: usize,
     x: &[u8],
     k: KindRead,
-    set: PageSet,
+    marks: &[bool],
 ) -> bool
-    ensures { λ r. ⌜ ((R : Register) (props : List ℕ) → View R (now (s .entry)) (now (t .entry)) props (now (pages .entry)) c → Links (now (s .entry)) (now (t .entry)) (now (pages .entry)) c (now (links .entry)) → i < c .pages → kindOf k ≡ kindsOf R (now (x .entry)) → (test : Page → Bool) → ((j : ℕ) → j < c .pages → getD (set .marks) j false ≡ test (pageAt R j)) → r ≡ holds (now (x .entry)) (follows noMixed R test) (pageAt R i)) ⌝ }
+    ensures { λ r. ⌜ ((R : Register) (props : List ℕ) → View R (now (s .entry)) (now (t .entry)) props (now (pages .entry)) c → Links (now (s .entry)) (now (t .entry)) (now (pages .entry)) c (now (links .entry)) → i < c .pages → kindOf k ≡ kindsOf R (now (x .entry)) → length (now (marks .entry)) ≤ 256 → (test : Page → Bool) → ((j : ℕ) → j < c .pages → getD (now (marks .entry)) j false ≡ test (pageAt R j)) → r ≡ holds (now (x .entry)) (follows noMixed R test) (pageAt R i)) ⌝ }
 {
     if !is_page_kind(k) {
         return false;
@@ -177,6 +177,6 @@ pub fn links_into(
         c.rows,
         num_at(pages, i),
         x,
-        set,
+        marks,
     )
 }

@@ -8,6 +8,17 @@ pub struct PageSet {
     pub marks: [bool; 256],
 }
 
+// The mark at a page's place; there is none past the end.
+pub fn mark_at(marks: &[bool], page: usize) -> bool
+    ensures { λ r. ⌜ r ≡ getD (now (marks .entry)) page false ⌝ }
+{
+    if page < marks.len() {
+        marks[page]
+    } else {
+        false
+    }
+}
+
 impl PageSet {
     pub fn none() -> PageSet
         ensures { λ r. ⌜ r .marks ≡ replicate 256 false ⌝ }

@@ -1,4 +1,5 @@
-use Prim.Native.Nat.{_-_}
+use Prim.Native.Nat.{_-_, _≤_}
+use lib.ListN.{length}
 use native.Mathlib.Omega.{arith}
 use borrow.Author.Needs.{needs}
 use Rattle.pages.proofs.Looking.{Sought, sought-start, sought-outside, sought-end, sought-stop, sought-found, sought-next}
@@ -12,58 +13,46 @@ use Rattle.lookup.proofs.links.leads_into.Reads as leads-into-reads
 use Rattle.rows.proofs.tests.is_inner.Reads as is-inner-reads
 
 abbrev Inv-loop : tie.InvT-loop
-Inv-loop s t rows m links n row x set j₀ j = Linked s t rows m n links → Sought (linksTo s t rows m x (set .marks)) s t n row j
+Inv-loop s t rows m links n row x marks j₀ j = Linked s t rows m n links → length marks ≤ 256 → Sought (linksTo s t rows m x marks) s t n row j
 
 abbrev μ-loop : tie.MeasureT-loop
-μ-loop s t rows m links n row x set j₀ j = n - j
+μ-loop s t rows m links n row x marks j₀ j = n - j
 
--- src/links.rt:119:9
 returns : tie.Need-returns Inv-loop μ-loop
-returns c = λ a. sought-outside (linksTo (c .before .before .before .before .before .before .args .s .now) (c .before .before .before .before .before .before .args .t .now) (c .before .before .before .before .before .before .args .rows .now) (c .before .before .before .before .before .before .args .m) (c .before .before .before .before .before .before .args .x .now) (c .before .before .before .before .before .before .args .set .marks)) _ _ _ _ (c .if1 .taken)
+returns c = λ a few. sought-outside (linksTo (c .before .before .before .before .before .before .before .args .s .now) (c .before .before .before .before .before .before .before .args .t .now) (c .before .before .before .before .before .before .before .args .rows .now) (c .before .before .before .before .before .before .before .args .m) (c .before .before .before .before .before .before .before .args .x .now) (c .before .before .before .before .before .before .before .args .marks .now)) _ _ _ _ (c .if1 .taken)
 
--- src/links.rt:121:17
 add-j : tie.Need-add-j Inv-loop μ-loop
 add-j c = omega arith
 
--- src/links.rt:122:5
 loop-holds : tie.Need-loop-holds Inv-loop μ-loop
-loop-holds c = λ a. sought-start (linksTo (c .before .before .before .before .before .before .args .s .now) (c .before .before .before .before .before .before .args .t .now) (c .before .before .before .before .before .before .args .rows .now) (c .before .before .before .before .before .before .args .m) (c .before .before .before .before .before .before .args .x .now) (c .before .before .before .before .before .before .args .set .marks)) _ _ _ _ (c .if1 .left)
+loop-holds c = λ a few. sought-start (linksTo (c .before .before .before .before .before .before .before .args .s .now) (c .before .before .before .before .before .before .before .args .t .now) (c .before .before .before .before .before .before .before .args .rows .now) (c .before .before .before .before .before .before .before .args .m) (c .before .before .before .before .before .before .before .args .x .now) (c .before .before .before .before .before .before .before .args .marks .now)) _ _ _ _ (c .if1 .left)
 
--- src/links.rt:123:13
 item-at-requires : tie.Need-item-at-requires Inv-loop μ-loop
 item-at-requires c κs = search needs
 
--- src/links.rt:125:13
 is-inner-requires : tie.Need-is-inner-requires Inv-loop μ-loop
 is-inner-requires c κs = search needs
 
--- src/links.rt:126:13
 returns-2 : tie.Need-returns-2 Inv-loop μ-loop
-returns-2 c = λ a. sought-stop (linksTo (c .before .before .before .before .before .before .before .before .before .before .before .args .s .now) (c .before .before .before .before .before .before .before .before .before .before .before .args .t .now) (c .before .before .before .before .before .before .before .before .before .before .before .args .rows .now) (c .before .before .before .before .before .before .before .before .before .before .before .args .m) (c .before .before .before .before .before .before .before .before .before .before .before .args .x .now) (c .before .before .before .before .before .before .before .before .before .before .before .args .set .marks)) _ _ _ _ _ (c .before .before .before .before .loop .inv a) (c .before .before .before .loop-test .taken) (c .before .before .item-at .result) (c .before .before .item-at .ensures) _ (c .before .is-inner .ensures) (c .if2 .taken)
+returns-2 c = λ a few. sought-stop (linksTo (c .before .before .before .before .before .before .before .before .before .before .before .before .args .s .now) (c .before .before .before .before .before .before .before .before .before .before .before .before .args .t .now) (c .before .before .before .before .before .before .before .before .before .before .before .before .args .rows .now) (c .before .before .before .before .before .before .before .before .before .before .before .before .args .m) (c .before .before .before .before .before .before .before .before .before .before .before .before .args .x .now) (c .before .before .before .before .before .before .before .before .before .before .before .before .args .marks .now)) _ _ _ _ _ (c .before .before .before .before .loop .inv a few) (c .before .before .before .loop-test .taken) (c .before .before .item-at .result) (c .before .before .item-at .ensures) _ (c .before .is-inner .ensures) (c .if2 .taken)
 
--- src/links.rt:128:12
 leads-into-requires : tie.Need-leads-into-requires Inv-loop μ-loop
 leads-into-requires c κs = search needs
 
--- src/links.rt:129:13
 returns-3 : tie.Need-returns-3 Inv-loop μ-loop
-returns-3 c = λ a. sought-found (linksTo (c .before .before .before .before .before .before .before .before .before .before .before .before .before .args .s .now) (c .before .before .before .before .before .before .before .before .before .before .before .before .before .args .t .now) (c .before .before .before .before .before .before .before .before .before .before .before .before .before .args .rows .now) (c .before .before .before .before .before .before .before .before .before .before .before .before .before .args .m) (c .before .before .before .before .before .before .before .before .before .before .before .before .before .args .x .now) (c .before .before .before .before .before .before .before .before .before .before .before .before .before .args .set .marks)) _ _ _ _ _ (c .before .before .before .before .before .before .loop .inv a) (c .before .before .before .before .before .loop-test .taken) (c .before .before .before .before .item-at .result) (c .before .before .before .before .item-at .ensures) _ _ (c .before .before .before .is-inner .ensures) (c .before .before .if2 .left) (c .before .leads-into .ensures (c .before .before .before .before .before .before .before .before .before .before .before .before .before .args .n) a (c .before .before .before .before .before .loop-test .taken) (c .before .before .before .before .item-at .ensures (c .before .before .before .before .before .before .before .before .before .before .before .before .before .args .s .now))) (c .if3 .taken)
+returns-3 c = λ a few. sought-found (linksTo (c .before .before .before .before .before .before .before .before .before .before .before .before .before .before .args .s .now) (c .before .before .before .before .before .before .before .before .before .before .before .before .before .before .args .t .now) (c .before .before .before .before .before .before .before .before .before .before .before .before .before .before .args .rows .now) (c .before .before .before .before .before .before .before .before .before .before .before .before .before .before .args .m) (c .before .before .before .before .before .before .before .before .before .before .before .before .before .before .args .x .now) (c .before .before .before .before .before .before .before .before .before .before .before .before .before .before .args .marks .now)) _ _ _ _ _ (c .before .before .before .before .before .before .loop .inv a few) (c .before .before .before .before .before .loop-test .taken) (c .before .before .before .before .item-at .result) (c .before .before .before .before .item-at .ensures) _ _ (c .before .before .before .is-inner .ensures) (c .before .before .if2 .left) (c .before .leads-into .ensures (c .before .before .before .before .before .before .before .before .before .before .before .before .before .before .args .n) a (c .before .before .before .before .before .loop-test .taken) (c .before .before .before .before .item-at .ensures (c .before .before .before .before .before .before .before .before .before .before .before .before .before .before .args .s .now)) few) (c .if3 .taken)
 
--- src/links.rt:131:9
 add-j-2 : tie.Need-add-j-2 Inv-loop μ-loop
 add-j-2 c = omega arith
 
--- src/links.rt:122:5
 loop-less : tie.Need-loop-less Inv-loop μ-loop
 loop-less c = omega arith
 
--- src/links.rt:122:5
 loop-again : tie.Need-loop-again Inv-loop μ-loop
-loop-again c = λ a. sought-next (linksTo (c .before .before .before .before .before .before .before .before .before .before .before .before .before .args .s .now) (c .before .before .before .before .before .before .before .before .before .before .before .before .before .args .t .now) (c .before .before .before .before .before .before .before .before .before .before .before .before .before .args .rows .now) (c .before .before .before .before .before .before .before .before .before .before .before .before .before .args .m) (c .before .before .before .before .before .before .before .before .before .before .before .before .before .args .x .now) (c .before .before .before .before .before .before .before .before .before .before .before .before .before .args .set .marks)) _ _ _ _ _ (c .before .before .before .before .before .before .loop .inv a) (c .before .before .before .before .before .loop-test .taken) (c .before .before .before .before .item-at .result) (c .before .before .before .before .item-at .ensures) _ _ (c .before .before .before .is-inner .ensures) (c .before .before .if2 .left) (c .before .leads-into .ensures (c .before .before .before .before .before .before .before .before .before .before .before .before .before .args .n) a (c .before .before .before .before .before .loop-test .taken) (c .before .before .before .before .item-at .ensures (c .before .before .before .before .before .before .before .before .before .before .before .before .before .args .s .now))) (c .if3 .left)
+loop-again c = λ a few. sought-next (linksTo (c .before .before .before .before .before .before .before .before .before .before .before .before .before .before .args .s .now) (c .before .before .before .before .before .before .before .before .before .before .before .before .before .before .args .t .now) (c .before .before .before .before .before .before .before .before .before .before .before .before .before .before .args .rows .now) (c .before .before .before .before .before .before .before .before .before .before .before .before .before .before .args .m) (c .before .before .before .before .before .before .before .before .before .before .before .before .before .before .args .x .now) (c .before .before .before .before .before .before .before .before .before .before .before .before .before .before .args .marks .now)) _ _ _ _ _ (c .before .before .before .before .before .before .loop .inv a few) (c .before .before .before .before .before .loop-test .taken) (c .before .before .before .before .item-at .result) (c .before .before .before .before .item-at .ensures) _ _ (c .before .before .before .is-inner .ensures) (c .before .before .if2 .left) (c .before .leads-into .ensures (c .before .before .before .before .before .before .before .before .before .before .before .before .before .before .args .n) a (c .before .before .before .before .before .loop-test .taken) (c .before .before .before .before .item-at .ensures (c .before .before .before .before .before .before .before .before .before .before .before .before .before .before .args .s .now)) few) (c .if3 .left)
 
--- src/links.rt:105:1
 returns-4 : tie.Need-returns-4 Inv-loop μ-loop
-returns-4 c = λ a. sought-end (linksTo (c .before .before .before .before .before .before .before .before .args .s .now) (c .before .before .before .before .before .before .before .before .args .t .now) (c .before .before .before .before .before .before .before .before .args .rows .now) (c .before .before .before .before .before .before .before .before .args .m) (c .before .before .before .before .before .before .before .before .args .x .now) (c .before .before .before .before .before .before .before .before .args .set .marks)) _ _ _ _ _ (c .before .loop .inv a) (c .loop-test .left)
+returns-4 c = λ a few. sought-end (linksTo (c .before .before .before .before .before .before .before .before .before .args .s .now) (c .before .before .before .before .before .before .before .before .before .args .t .now) (c .before .before .before .before .before .before .before .before .before .args .rows .now) (c .before .before .before .before .before .before .before .before .before .args .m) (c .before .before .before .before .before .before .before .before .before .args .x .now) (c .before .before .before .before .before .before .before .before .before .args .marks .now)) _ _ _ _ _ (c .before .loop .inv a few) (c .loop-test .left)
 
 pub some-link-spec : {M : Type 1} → statement M
 some-link-spec =
