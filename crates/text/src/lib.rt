@@ -4,7 +4,7 @@ ghost use Prim.Native.Nat.{_+_};
 ghost use lib.Dec.{eqb};
 ghost use lib.ListN.{length, getD, drop};
 ghost use Rattle.text.specs.Bytes.{any, all, same, orderOf, numbers, span, starts, trimEnd, part as partFrom};
-ghost use Rattle.text.specs.Class.{inClass};
+ghost use Rattle.text.specs.Class.{oneOf, inClass};
 ghost use Rattle.text.specs.Parts.{Trimmed};
 
 // How two byte strings stand to one another.
@@ -130,16 +130,30 @@ pub fn one_of(b: u8, set: &[u8]) -> bool
     false
 }
 
+// Whether a byte is one that neither a name nor a value has.
+fn is_mark(b: u8) -> bool
+    ensures { λ r. ⌜ r ≡ oneOf "[]|<>" b ⌝ }
+{
+    (b == b'[') | ((b == b']') | ((b == b'|') | ((b == b'<') | (b == b'>'))))
+}
+
+// Whether a byte is one of the others that a name does not have.
+fn is_name_mark(b: u8) -> bool
+    ensures { λ r. ⌜ r ≡ oneOf ":#{}_\"" b ⌝ }
+{
+    (b == b':') | ((b == b'#') | ((b == b'{') | ((b == b'}') | ((b == b'_') | (b == b'"')))))
+}
+
 // Whether a byte is of a class.
 pub fn in_class(class: Class, b: u8) -> bool
     ensures { λ r. ⌜ r ≡ inClass class b ⌝ }
 {
     match class {
         Class::Blank => (b == 32) | (b == 10),
-        Class::Free => !one_of(b, b"[]|<>"),
+        Class::Free => !is_mark(b),
         Class::Quotable => !((b == 34) | (b == 10)),
-        Class::Name => (32 <= b) & (b != 127) & !one_of(b, b"[]|<>:#{}_\""),
-        Class::Value => (32 <= b) & (b != 127) & !one_of(b, b"[]|<>\""),
+        Class::Name => (32 <= b) & (b != 127) & !(is_mark(b) | is_name_mark(b)),
+        Class::Value => (32 <= b) & (b != 127) & !(is_mark(b) | (b == b'"')),
         Class::Digit => (48 <= b) & (b <= 57),
         Class::NoColon => b != 58,
         Class::NoDot => b != 46,

@@ -1,5 +1,9 @@
+use mathlib.Core.Bool.{or-false}
+use lib.Dec.{eqb}
 use borrow.Author.Needs.{needs}
 use Rattle.text.specs.Class.{isFree, isQuotable, isNameByte, isValueByte, isDigit}
+use Rattle.text.specs.Bytes.{bytes, any}
+use Rattle.text.proofs.Laws.{any-append}
 use Rattle.text.proofs.in_class.Statement.{statement}
 use Rattle.text.proofs.in_class.Tie as tie
 
@@ -9,11 +13,8 @@ enum-told c = search needs
 enum-told-2 : tie.Need-enum-told-2
 enum-told-2 c = search needs
 
-slice-aggregate-one-of : tie.Need-slice-aggregate-one-of
-slice-aggregate-one-of c = search needs
-
-one-of-requires : tie.Need-one-of-requires
-one-of-requires c κs = search needs
+is-mark-requires : tie.Need-is-mark-requires
+is-mark-requires c κs = search needs
 
 enum-told-3 : tie.Need-enum-told-3
 enum-told-3 c = search needs
@@ -21,20 +22,17 @@ enum-told-3 c = search needs
 enum-told-4 : tie.Need-enum-told-4
 enum-told-4 c = search needs
 
-slice-aggregate-one-of-2 : tie.Need-slice-aggregate-one-of-2
-slice-aggregate-one-of-2 c = search needs
+is-mark-requires-2 : tie.Need-is-mark-requires-2
+is-mark-requires-2 c κs = search needs
 
-one-of-requires-2 : tie.Need-one-of-requires-2
-one-of-requires-2 c κs = search needs
+is-name-mark-requires : tie.Need-is-name-mark-requires
+is-name-mark-requires c κs = search needs
 
 enum-told-5 : tie.Need-enum-told-5
 enum-told-5 c = search needs
 
-slice-aggregate-one-of-3 : tie.Need-slice-aggregate-one-of-3
-slice-aggregate-one-of-3 c = search needs
-
-one-of-requires-3 : tie.Need-one-of-requires-3
-one-of-requires-3 c κs = search needs
+is-mark-requires-3 : tie.Need-is-mark-requires-3
+is-mark-requires-3 c κs = search needs
 
 enum-told-6 : tie.Need-enum-told-6
 enum-told-6 c = search needs
@@ -50,7 +48,7 @@ returns c = rw (c .enum-told .given .1)
 
 returns-2 : tie.Need-returns-2
 unfolding isFree
-returns-2 c = rw (c .before .before .enum-told2 .given .1, c .one-of .ensures)
+returns-2 c = rw (c .before .enum-told2 .given .1, c .is-mark .ensures)
 
 returns-3 : tie.Need-returns-3
 unfolding isQuotable
@@ -58,11 +56,11 @@ returns-3 c = rw (c .enum-told3 .given .1)
 
 returns-4 : tie.Need-returns-4
 unfolding isNameByte
-returns-4 c = rw (c .before .before .enum-told4 .given .1, c .one-of2 .ensures)
+returns-4 c = rw (c .before .before .enum-told4 .given .1, c .before .is-mark2 .ensures, c .is-name-mark .ensures, any-append (eqb (c .before .before .before .before .args .b)) (bytes "[]|<>") (bytes ":#{}_\""))
 
 returns-5 : tie.Need-returns-5
-unfolding isValueByte
-returns-5 c = rw (c .before .before .enum-told5 .given .1, c .one-of3 .ensures)
+unfolding isValueByte any
+returns-5 c = rw (c .before .enum-told5 .given .1, c .is-mark3 .ensures, any-append (eqb (c .before .before .before .args .b)) (bytes "[]|<>") (bytes "\""), or-false (eqb (c .before .before .before .args .b) 34))
 
 returns-6 : tie.Need-returns-6
 unfolding isDigit
@@ -80,15 +78,13 @@ in-class-spec =
     (tie.spec
     enum-told
     enum-told-2
-    slice-aggregate-one-of
-    one-of-requires
+    is-mark-requires
     enum-told-3
     enum-told-4
-    slice-aggregate-one-of-2
-    one-of-requires-2
+    is-mark-requires-2
+    is-name-mark-requires
     enum-told-5
-    slice-aggregate-one-of-3
-    one-of-requires-3
+    is-mark-requires-3
     enum-told-6
     enum-told-7
     enum-told-8
