@@ -10,6 +10,7 @@ use lib.Dec.{ltb}
 use lib.ListN.{length, getD, drop, replicate, length-replicate, length-map}
 use Rattle.text.specs.Bytes.{Bytes}
 use Rattle.text.specs.Table.{countTo}
+use Rattle.pageset.specs.declared.PageSet.{PageSet}
 use Rattle.language.specs.Answer.{Answer, refused, accepted, orRefuse, andThen}
 use Rattle.language.specs.Core.{Core}
 use Rattle.language.specs.Register.{Register}
@@ -31,7 +32,7 @@ use Rattle.lookup.proofs.View.{view-count, view-few}
 use Rattle.evaluation.specs.Meaning.{Tables, marksOf, Means, Evaluates}
 use Rattle.evaluation.specs.declared.Evaluated.{Evaluated}
 use Rattle.ask.specs.Call.{askCall, asked, marksIn, Asks}
-use Rattle.ask.specs.Running.{Mismatches, Written, runInto, Answers, Runs}
+use Rattle.ask.specs.Running.{Mismatches, Written, runInto, Answers, Selected, Runs}
 use Rattle.ask.specs.declared.Asked.{Asked}
 use Rattle.ask.proofs.Writing.{marks-bytes, marks-count}
 
@@ -65,29 +66,31 @@ module _ (s : Bytes) (t props pages : List ℕ) (c : Judged) (h b : Bytes) (m : 
     run-short l R v q k =
         answers _ (refused 24) b b _ (run-is R v q k ∙ rw (lt-ltb (length b) (length (R .pages)) (rw (view-count v) at l))) refl refl
 
-    pub run-done : (links : List ℕ) (n count : ℕ) (r : Evaluated) (after : Bytes) → c .pages ≤ length b
-        → ((R : Register) (props : List ℕ) → View R s t props pages c → 5500 ≤ length {A = ℕ} (replicate 5500 0) → Links s t pages c links)
-        → n ≡ countIn h → Evaluates s t props pages links c h n (stackAt h n) r
-        → Written (r .set .marks) (c .pages) b after → count ≡ countTo 256 (λ i. getD (r .set .marks) i false)
+    pub run-done : (set : PageSet) (count : ℕ) (after : Bytes) → c .pages ≤ length b → Selected s t props pages c h (set .marks)
+        → Written (set .marks) (c .pages) b after → count ≡ countTo 256 (λ i. getD (set .marks) i false)
         → Runs s t props pages c h b after (Asked.Marked count)
-    unfolding Runs Evaluates Means Written
-    run-done links n count r after l f g i w z R v q k =
+    unfolding Runs Selected Written
+    run-done set count after l i w z R v q k =
         answers _ (accepted (map (selects q R) (R .pages))) b after _
         (run-is R v q k ∙ rw (le-ltb (length b) (length (R .pages)) (rw (view-count v) at l)))
-        (ap Asked.Marked (z ∙ marks-count R q (c .pages) (view-count v) (view-few v) (r .set .marks) are))
-        (w (view-few v) l ∙ ap₂ (λ x y. x ++ drop y b) (marks-bytes R q (c .pages) (view-count v) (view-few v) (r .set .marks) are) (view-count v ∙ sym (length-map (R .pages) (selects q R))))
-      where
-        stack : stackAt h n ≡ some (q ∷ [])
-        stack = ap (stackAt h) g ∙ k .stack
+        (ap Asked.Marked (z ∙ marks-count R q (c .pages) (view-count v) (view-few v) (set .marks) (i R v q k)))
+        (w (view-few v) l ∙ ap₂ (λ x y. x ++ drop y b) (marks-bytes R q (c .pages) (view-count v) (view-few v) (set .marks) (i R v q k)) (view-count v ∙ sym (length-map (R .pages) (selects q R))))
 
-        tables : Tables R s t props pages links c
-        tables = record { view = v; leads = f R props v (omega (arith, length-replicate {A = ℕ} 5500 0)) }
+-- select: by a table of links, and by an empty one
+module _ (s : Bytes) (t props pages : List ℕ) (c : Judged) (h : Bytes) (n : ℕ) (is : n ≡ countIn h) (links : List ℕ) (r : Evaluated) (found : Evaluates s t props pages links c h n (stackAt h n) r) where
+  pub selected-by : ((R : Register) (props : List ℕ) → View R s t props pages c → Links s t pages c links) → Selected s t props pages c h (r .set .marks)
+  unfolding Selected Evaluates Means
+  selected-by f R v q k = means .0
+    where
+      means : Means R (c .pages) h n (some (q ∷ [])) r
+      means = rw (ap (stackAt h) is ∙ k .stack) at (found R (record { view = v; leads = f R props v }))
 
-        means : Means R (c .pages) h n (some (q ∷ [])) r
-        means = rw stack at (i R tables)
+  pub selected-linked : ((R : Register) (props : List ℕ) → View R s t props pages c → 5500 ≤ length {A = ℕ} (replicate 5500 0) → Links s t pages c links) → Selected s t props pages c h (r .set .marks)
+  selected-linked f = selected-by (λ R props v. f R props v (omega (arith, length-replicate {A = ℕ} 5500 0)))
 
-        are : r .set .marks ≡ marksOf R (c .pages) q
-        are = means .0
+  pub selected-plain : links ≡ [] → Selected s t props pages c h (r .set .marks)
+  unfolding Links
+  selected-plain e = selected-by (λ R props v. record { at = λ j l m. absurd (omega (arith, m, ap (length {A = ℕ}) e)) })
 
 -- the tables of the call are large enough
 pub opens-with-room : {h : Bytes} {t props pages : List ℕ} {o : Judged} → (Room (replicate 27500 0) (replicate 5500 0) (replicate 5500 0) → Opens h t props pages o) → Opens h t props pages o

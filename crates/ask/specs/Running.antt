@@ -22,6 +22,7 @@ use Rattle.nodes.specs.declared.Constant.{Constant}
 use Rattle.nodes.specs.declared.Selector.{Selector}
 use Rattle.nodes.specs.declared.Connective.{Connective}
 use Rattle.lookup.specs.View.{View}
+use Rattle.evaluation.specs.Meaning.{marksOf}
 use Rattle.ask.specs.Call.{asked, marksIn}
 use Rattle.ask.specs.declared.Asked.{Asked}
 use Rattle.ask.specs.declared.Wanted.{Wanted}
@@ -78,6 +79,10 @@ runInto b q R = andThen (run q R) (λ marks. cond (ltb (length b) (length (R .pa
 pub record Answers (a : Answer (List Bool)) (b after : Bytes) (r : Asked) : Type 0 where
   pub answer : r ≡ asked a
   pub buffer : after ≡ marksIn b a
+
+-- The marks are those of the pages that a held query selects.
+unfoldable pub Selected : Bytes → List ℕ → List ℕ → List ℕ → Judged → Bytes → List Bool → Type 0
+Selected s t props pages c h marks = (R : Register) → View R s t props pages c → (q : Core) → Holds h q → marks ≡ marksOf R (c .pages) q
 
 unfoldable pub Runs : Bytes → List ℕ → List ℕ → List ℕ → Judged → Bytes → Bytes → Bytes → Asked → Type 0
 Runs s t props pages c h b after r = (R : Register) → View R s t props pages c → (q : Core) → Holds h q → Answers (runInto b q R) b after r

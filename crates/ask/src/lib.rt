@@ -4,16 +4,19 @@ ghost use mathlib.Core.Bool.{Bool};
 ghost use Prim.Native.Nat.{ℕ};
 ghost use Rattle.text.specs.Table.{bit};
 ghost use Rattle.ask.specs.Call.{Asks};
-ghost use Rattle.ask.specs.Running.{Written, Runs};
+ghost use Rattle.ask.specs.Running.{Written, Selected, Runs};
 
 pub mod mismatch; // mismatch.rt: number 23's test
 
 use evaluation::capped;
 use evaluation::eval;
+use evaluation::is_subquery;
 use held::text_in;
 use lookup::link_table;
 use mismatch::has_mismatch;
+use nodes::NodeRead;
 use nodes::is_query;
+use nodes::node_at;
 use nodes::two_at;
 use pageset::PageSet;
 use register::open_register;
@@ -56,6 +59,39 @@ fn write_marks(set: PageSet, n: usize, out: &mut [u8])
     }
 }
 
+// Whether a node of a held query follows links. Nothing but time hangs on it.
+fn follows_links(h: &[u8]) -> bool {
+    let n = two_at(h, 2);
+    let mut i: usize = 0;
+    while i < n {
+        let read = node_at(h, i);
+        let NodeRead::Is(node) = read else {
+            return false;
+        };
+        let selector = node.selector;
+        if is_subquery(selector) {
+            return true;
+        }
+        i += 1;
+    }
+    false
+}
+
+// The pages that a held query selects. The table of links is made where a node follows links; an empty one is as true.
+fn select(h: &[u8], s: &[u8], t: &[u16], props: &[u16], pages: &[u16], c: Judged) -> PageSet
+    ensures { λ r. ⌜ Selected (now (s .entry)) (now (t .entry)) (now (props .entry)) (now (pages .entry)) c (now (h .entry)) (r .marks) ⌝ }
+{
+    let n = two_at(h, 2);
+    if !follows_links(h) {
+        let plain = eval(h, n, s, t, props, pages, &pages[..0], c);
+        return plain.set;
+    }
+    let mut links = [0u16; 5500];
+    link_table(s, t, pages, c, &mut links);
+    let linked = eval(h, n, s, t, props, pages, &links, c);
+    linked.set
+}
+
 // Runs a held query on the register in the tables: 23, 24, or the marks.
 fn run(
     h: &[u8],
@@ -75,10 +111,7 @@ fn run(
     if out.len() < n {
         return Asked::Refused(24);
     }
-    let mut links = [0u16; 5500];
-    link_table(s, t, pages, c, &mut links);
-    let evaluated = eval(h, two_at(h, 2), s, t, props, pages, &links, c);
-    let set = evaluated.set;
+    let set = select(h, s, t, props, pages, c);
     write_marks(set, n, out);
     Asked::Marked(set.count())
 }

@@ -61,7 +61,8 @@ pub fn name_of(selector: Selector) -> Span
     }
 }
 
-fn is_subquery(selector: Selector) -> bool
+// Whether a selector is a subquery, which follows links.
+pub fn is_subquery(selector: Selector) -> bool
     ensures { λ r. ⌜ r ≡ isSubquery selector ⌝ }
 {
     match selector {
