@@ -8,6 +8,7 @@ ghost use Rattle.held.specs.Loops.{Copied, Padded};
 ghost use Rattle.held.specs.Form.{formByte, heldOf, withForm, lengthIn, textIn, sameForm};
 use text::byte_at;
 use text::part;
+use text::widen;
 
 // How many bytes of a text a form holds.
 fn held_of(text: &[u8]) -> usize
@@ -71,18 +72,11 @@ pub fn write_form(text: &[u8], held: &mut [u8])
     put_zeros(n, held);
 }
 
-// A byte as a number.
-fn wide(b: u8) -> usize
-    ensures { λ r. ⌜ r ≡ b ⌝ }
-{
-    b as usize
-}
-
 // The length of the text that bytes hold.
 fn length_in(h: &[u8]) -> usize
     ensures { λ r. ⌜ r ≡ lengthIn (now (h .entry)) ⌝ }
 {
-    wide(byte_at(h, 0)) + 256 * wide(byte_at(h, 1))
+    widen(byte_at(h, 0)) + 256 * widen(byte_at(h, 1))
 }
 
 // The text that bytes hold.

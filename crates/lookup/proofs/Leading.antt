@@ -31,7 +31,7 @@ use Rattle.pages.proofs.Looking.{item-val, item-other}
 use Rattle.lookup.specs.View.{pageAt, View}
 use Rattle.lookup.specs.Linking.{placeAmong, placeOf, linkPlace, codeOf, linkCode, Linked, linksTo}
 use Rattle.lookup.proofs.View.{pageOf, pages-are, row-below, row-begins}
-use Rattle.lookup.proofs.Places.{tabled-more}
+use Rattle.text.proofs.Tables.{tabled-more}
 use Rattle.lookup.proofs.Asking.{held-and, view-holds}
 
 -- a place that is found is one of the list

@@ -1,10 +1,10 @@
 -- The code of the page that a link names: the search for it, its hashes, and the tables.
-use Prim.Native.Nat.{ℕ, zero, suc, _+_, _*_, _%_, _≤_, _<_}
+use Prim.Native.Nat.{ℕ, zero, suc, _+_, _%_, _≤_, _<_}
 use mathlib.Core.Path.{_≡_, refl, sym, ap, _∙_}
 use mathlib.Core.Bool.{Bool, true, false, cond, not, _&&_}
 use mathlib.Core.List.{List, _∷_}
 use mathlib.Core.Option.{Option, some, none}
-use native.Mathlib.Nat.{zero-add, add-zero, mod-eq-of-lt}
+use native.Mathlib.Nat.{zero-add, add-zero}
 use native.Mathlib.Numerals.{add-one}
 use native.Mathlib.Omega.{arith}
 use native.Mathlib.Decide.{ℕ-discrete, decLt}
@@ -13,6 +13,7 @@ use lib.ListN.{length, getD, take, drop, set, length-take, length-set, drop-of-l
 use lib.Seq.{drop-cons, getD-take, getD-set-same, getD-set-other}
 use Rattle.text.specs.Bytes.{Bytes, same, part}
 use Rattle.text.specs.Parts.{partOf}
+use Rattle.text.proofs.Tables.{tabled-more, tabled-empty}
 use Rattle.values.specs.Names.{Identifier, sameIdentifier, bare, qualified, reference, isReference, identifier}
 use Rattle.values.specs.Values.{readLink}
 use Rattle.values.specs.Answers.{splitOf, Splits}
@@ -27,46 +28,9 @@ use Rattle.pages.specs.Forms.{identifierOf}
 use Rattle.pages.specs.Tests.{valTag}
 use Rattle.pages.proofs.Pages.{identifier-eq}
 use Rattle.pages.proofs.Looking.{item-val, item-other}
-use Rattle.lookup.specs.Linking.{placeAmong, placeOf, linkPlace, codeOf, linkCode, Tabled, Hashed, Slotted, NoneBefore, HashIndex, hashFrom, hashOf}
-
--- tables that are filled from the start
-pub tabled-none : (f : ℕ → ℕ) (l : List ℕ) → Tabled f 0 l
-tabled-none f l = record { at = λ j h k. absurd (omega arith) }
-
-pub tabled-more : (f : ℕ → ℕ) (n : ℕ) (l u : List ℕ) (v : ℕ) → Tabled f n l → v ≡ f n → f n < 65536 → u ≡ set l n (v % 65536) → Tabled f (n + 1) u
-tabled-more f n l u v a e b g = record { at = λ j h k. go j (ℕ-discrete j n) h k }
-  where
-    there : v % 65536 ≡ f n
-    there = ap (λ w. w % 65536) e ∙ mod-eq-of-lt b
-
-    sized : length u ≡ length l
-    sized = ap length g ∙ length-set l n (v % 65536)
-
-    go : (j : ℕ) → Dec (j ≡ n) → j < n + 1 → j < length u → getD u j 0 ≡ f j
-    go j (yes p) h k =
-        ap (λ w. getD w j 0) g
-        ∙ ap (λ i. getD (set l n (v % 65536)) i 0) p
-        ∙ getD-set-same l n (v % 65536) 0 (omega (arith, sized))
-        ∙ there
-        ∙ ap f (sym p)
-    go j (no p) h k = ap (λ w. getD w j 0) g ∙ getD-set-other l n j (v % 65536) 0 p ∙ a .at j (omega (arith, p)) (omega (arith, sized))
-
-pub tabled-less : (f : ℕ → ℕ) (m n : ℕ) (l : List ℕ) → Tabled f n l → m ≤ n → Tabled f m l
-tabled-less f m n l a h = record { at = λ j k fit. a .at j (omega arith) fit }
-
-tabled-empty : (f : ℕ → ℕ) (n : ℕ) (l : List ℕ) → length l ≡ 0 → Tabled f n l
-tabled-empty f n l e = record { at = λ j h k. absurd (omega arith) }
+use Rattle.lookup.specs.Linking.{placeAmong, placeOf, linkPlace, codeOf, linkCode, Hashed, Slotted, NoneBefore, HashIndex, hashOf}
 
 -- hashes
-module _ (s : Bytes) (i sum : ℕ) where
-  pub hash-step : i < length s → hashFrom sum (drop i s) ≡ hashFrom ((251 * (sum % 65536) + getD s i 0) % 65536) (drop (i + 1) s)
-  unfolding hashFrom
-  hash-step h = rw (add-one i, drop-cons s i 0 h)
-
-  pub hash-end : length s ≤ i → hashFrom sum (drop i s) ≡ sum
-  unfolding hashFrom
-  hash-end h = rw (drop-of-length-le s {i = i} h)
-
 pub hash-small : (i : Identifier) → hashOf i < 65536
 unfolding hashOf
 hash-small i = omega arith

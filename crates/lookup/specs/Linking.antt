@@ -1,11 +1,13 @@
 -- Working definitions: where links lead, and the tables that say it.
-use Prim.Native.Nat.{ℕ, suc, _+_, _*_, _%_, _≤_, _<_}
+use Prim.Native.Nat.{ℕ, suc, _%_, _≤_, _<_}
 use mathlib.Core.Path.{_≡_}
 use mathlib.Core.Bool.{Bool, false, cond, _&&_}
 use mathlib.Core.List.{List, [], _∷_}
 use mathlib.Core.Option.{Option, some, none}
 use lib.ListN.{length, getD, take}
 use Rattle.text.specs.Bytes.{Bytes, same}
+use Rattle.text.specs.Hash.{hashFrom}
+use Rattle.text.specs.Table.{Tabled}
 use Rattle.values.specs.Names.{Identifier, sameIdentifier}
 use Rattle.values.specs.Values.{readLink}
 use Rattle.language.specs.Answer.{_>>=_, found}
@@ -35,10 +37,6 @@ codeOf (some k) = k
 abbrev pub linkCode : Bytes → List ℕ → List ℕ → ℕ → Entry → ℕ
 linkCode s t rows m e = onVal (λ y v. codeOf (linkPlace s t rows m v)) 65535 e
 
--- The table holds f j in each place j below n, as far as it goes.
-pub record Tabled (f : ℕ → ℕ) (n : ℕ) (l : List ℕ) : Type 0 where
-  pub at : (j : ℕ) → j < n → j < length l → getD l j 0 ≡ f j
-
 -- The table holds the codes of the first n rows.
 abbrev pub Linked : Bytes → List ℕ → List ℕ → ℕ → ℕ → List ℕ → Type 0
 Linked s t rows m n links = Tabled (λ j. linkCode s t rows m (entryAt s t j)) n links
@@ -51,11 +49,7 @@ Links s t pages c links = Linked s t pages (c .pages) (c .rows) links
 abbrev pub linksTo : Bytes → List ℕ → List ℕ → ℕ → Bytes → List Bool → Entry → Bool
 linksTo s t rows m x marks e = onVal (λ y v. same y x && found (linkPlace s t rows m v) (λ k. getD marks k false) false) false e
 
--- A hash of bytes behind h, and of an identifier.
-unfoldable pub hashFrom : ℕ → Bytes → ℕ
-hashFrom h [] = h
-hashFrom h (b ∷ s) = hashFrom ((251 * (h % 65536) + b) % 65536) s
-
+-- The hash of an identifier.
 unfoldable pub hashOf : Identifier → ℕ
 hashOf i = hashFrom (hashFrom 0 (i .namespace)) (i .article) % 65536
 

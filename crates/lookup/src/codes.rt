@@ -7,7 +7,7 @@ ghost use Rattle.values.specs.Answers.{splitOf};
 ghost use Rattle.entries.specs.Items.{entryIn};
 ghost use Rattle.entries.specs.Table.{entryAt};
 ghost use Rattle.pages.specs.Forms.{identifierOf};
-ghost use Rattle.lookup.specs.Linking.{placeOf, linkPlace, codeOf, linkCode, hashFrom, hashOf, Hashed, Slotted, NoneBefore, HashIndex};
+ghost use Rattle.lookup.specs.Linking.{placeOf, linkPlace, codeOf, linkCode, hashOf, Hashed, Slotted, NoneBefore, HashIndex};
 use entries::Item;
 use entries::table::item_at;
 use entries::table::num_at;
@@ -15,6 +15,7 @@ use entries::table::put;
 use pages::article_of;
 use pages::namespace_of;
 use pages::seek::is_val;
+use text::hash::hash_from;
 use text::part;
 use text::same_bytes;
 use values::Split;
@@ -23,26 +24,6 @@ use values::split_reference;
 
 // The code of no place.
 const NOWHERE: usize = 65535;
-
-// A byte as a wider number.
-fn widen(b: u8) -> usize
-    ensures { λ r. ⌜ r ≡ b ⌝ }
-{
-    b as usize
-}
-
-// The hash of bytes behind those that gave h.
-fn hash_from(h: usize, s: &[u8]) -> usize
-    ensures { λ r. ⌜ r ≡ hashFrom h (now (s .entry)) ⌝ }
-{
-    let mut sum = h;
-    let mut i: usize = 0;
-    while i < s.len() {
-        sum = (251 * (sum % 65536) + widen(s[i])) % 65536;
-        i += 1;
-    }
-    sum
-}
 
 // The hash of a page's namespace and article name.
 fn hash_of(namespace: &[u8], article: &[u8]) -> usize

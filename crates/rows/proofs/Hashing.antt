@@ -1,19 +1,16 @@
 -- Hashes of what rows declare: the table of them, and rows that are alike have the same.
-use Prim.Native.Nat.{ℕ, zero, suc, _+_, _*_, _%_, _≤_, _<_}
+use Prim.Native.Nat.{ℕ, zero, suc, _+_, _%_, _<_}
 use mathlib.Core.Path.{_≡_, refl, sym, ap, ap₂, _∙_}
-use mathlib.Core.Bool.{Bool, true, false, not, _&&_, _||_, true≢false, false≢true}
+use mathlib.Core.Bool.{Bool, true, false, not, _||_, true≢false, false≢true}
 use mathlib.Core.List.{List}
-use native.Mathlib.Nat.{mod-eq-of-lt}
-use native.Mathlib.Numerals.{add-one}
 use native.Mathlib.Omega.{arith}
-use native.Mathlib.Decide.{ℕ-discrete}
 use borrow.Author.Tests.{not-true, eq-eqb}
 use lib.Dec.{eqb}
-use lib.ListN.{length, getD, drop, set, length-set, drop-of-length-le}
-use lib.Seq.{drop-cons, getD-set-same, getD-set-other}
+use lib.ListN.{length, getD, set}
 use Rattle.text.specs.Bytes.{Bytes, same, part}
+use Rattle.text.specs.Hash.{hashFrom}
 use Rattle.text.proofs.Laws.{same-eq}
-use Rattle.values.specs.declared.Kind.{Kind}
+use Rattle.text.proofs.Tables.{tabled-more}
 use Rattle.language.specs.RegisterText.{Entry, prop, page, cat, val, close, sameDeclared}
 use Rattle.language.proofs.Members.{and-true, or-false, both-false, by-test}
 use Rattle.entries.specs.Items.{entryIn}
@@ -21,17 +18,7 @@ use Rattle.entries.specs.Table.{entryAt}
 use Rattle.entries.specs.declared.Tag.{Tag}
 use Rattle.entries.specs.declared.Item.{Item}
 use Rattle.rows.specs.Rows.{anyTo}
-use Rattle.rows.specs.Hashes.{hashFrom, declaredHash, Hashed, Fresh}
-
--- hash_from
-module _ (s : Bytes) (i sum : ℕ) where
-  pub hash-step : i < length s → hashFrom sum (drop i s) ≡ hashFrom ((251 * (sum % 65536) + getD s i 0) % 65536) (drop (i + 1) s)
-  unfolding hashFrom
-  hash-step h = rw (add-one i, drop-cons s i 0 h)
-
-  pub hash-end : length s ≤ i → hashFrom sum (drop i s) ≡ sum
-  unfolding hashFrom
-  hash-end h = rw (drop-of-length-le s {i = i} h)
+use Rattle.rows.specs.Hashes.{declaredHash, Hashed, Fresh}
 
 hash-small : (e : Entry) → declaredHash e < 65536
 hash-small (prop x k) = omega arith
@@ -51,30 +38,9 @@ module _ (s : Bytes) (i : Item) (p q : Bytes) (g h : ℕ) where
 pub ruleset entry-hashes = (hash-prop, hash-page)
 
 -- fill_hashes
-pub hashed-none : (s : Bytes) (t rows l : List ℕ) → Hashed s t rows 0 l
-hashed-none s t rows l = record { at = λ j h k. absurd (omega arith) }
-
-module _ (s : Bytes) (t rows : List ℕ) (n : ℕ) (l : List ℕ) (a : Hashed s t rows n l) where
-  pub hashed-less : (m : ℕ) → m ≤ n → Hashed s t rows m l
-  hashed-less m h = record { at = λ j k fit. a .at j (omega arith) fit }
-
-  pub hashed-more : (u : List ℕ) (row v : ℕ) (x : Item) → row ≡ getD rows n 0 → ((s : Bytes) → entryIn s x ≡ entryAt s t row) → v ≡ declaredHash (entryIn s x) → u ≡ set l n (v % 65536) → Hashed s t rows (n + 1) u
-  hashed-more u row v x e is hv g = record { at = λ j h k. go j (ℕ-discrete j n) h k }
-    where
-      there : v % 65536 ≡ declaredHash (entryAt s t (getD rows n 0))
-      there = ap (λ w. w % 65536) hv ∙ mod-eq-of-lt (hash-small (entryIn s x)) ∙ ap declaredHash (is s ∙ ap (entryAt s t) e)
-
-      sized : length u ≡ length l
-      sized = ap length g ∙ length-set l n (v % 65536)
-
-      go : (j : ℕ) → Dec (j ≡ n) → j < n + 1 → j < length u → getD u j 0 ≡ declaredHash (entryAt s t (getD rows j 0))
-      go j (yes p) h k =
-          ap (λ w. getD w j 0) g
-          ∙ ap (λ i. getD (set l n (v % 65536)) i 0) p
-          ∙ getD-set-same l n (v % 65536) 0 (omega (arith, sized))
-          ∙ there
-          ∙ ap (λ i. declaredHash (entryAt s t (getD rows i 0))) (sym p)
-      go j (no p) h k = ap (λ w. getD w j 0) g ∙ getD-set-other l n j (v % 65536) 0 p ∙ a .at j (omega (arith, p)) (omega (arith, sized))
+pub hashed-more : (s : Bytes) (t rows : List ℕ) (k : ℕ) (l u : List ℕ) (row v : ℕ) (x : Item) → Hashed s t rows k l
+    → row ≡ getD rows k 0 → ((s : Bytes) → entryIn s x ≡ entryAt s t row) → v ≡ declaredHash (entryIn s x) → u ≡ set l k (v % 65536) → Hashed s t rows (k + 1) u
+hashed-more s t rows k l u row v x a e is hv g = tabled-more _ k l u v a (hv ∙ ap declaredHash (is s ∙ ap (entryAt s t) e)) (hash-small (entryAt s t (getD rows k 0))) g
 
 -- Entries that declare the same have the same hash.
 alike-hash : (d e : Entry) → sameDeclared d e ≡ true → declaredHash d ≡ declaredHash e

@@ -2,33 +2,14 @@
 ghost use mathlib.Core.Path.{_≡_};
 ghost use mathlib.Core.Bool.{false};
 ghost use Rattle.entries.specs.Items.{entryIn};
-ghost use Rattle.rows.specs.Hashes.{hashFrom, declaredHash, Hashed, Fresh};
+ghost use Rattle.rows.specs.Hashes.{declaredHash, Hashed, Fresh};
 use entries::Item;
 use entries::Tag;
 use entries::table::item_at;
 use entries::table::num_at;
 use entries::table::put;
+use text::hash::hash_from;
 use text::part;
-
-// A byte as a wider number.
-fn widen(b: u8) -> usize
-    ensures { λ r. ⌜ r ≡ b ⌝ }
-{
-    b as usize
-}
-
-// The hash of bytes behind those that gave h.
-pub fn hash_from(h: usize, s: &[u8]) -> usize
-    ensures { λ r. ⌜ r ≡ hashFrom h (now (s .entry)) ⌝ }
-{
-    let mut sum = h;
-    let mut i: usize = 0;
-    while i < s.len() {
-        sum = (251 * (sum % 65536) + widen(s[i])) % 65536;
-        i += 1;
-    }
-    sum
-}
 
 // The hash of what an entry declares.
 fn entry_hash(s: &[u8], item: Item) -> usize

@@ -1,3 +1,4 @@
 pub mod Laws
 pub mod Trim
 pub mod Tables
+pub mod Hashing

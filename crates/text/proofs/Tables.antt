@@ -3,13 +3,14 @@ use mathlib.Core.Path.{_≡_, refl, ap, sym, _∙_}
 use mathlib.Core.Bool.{Bool, true, false}
 use mathlib.Core.List.{List, [], _∷_, _++_}
 use mathlib.Core.Logic.{⊎-elim}
-use Prim.Native.Nat.{ℕ, zero, suc, _+_, _<_, _≤_}
-use native.Mathlib.Nat.{le-refl, eq-or-lt-of-le, le-of-suc-le-suc}
+use Prim.Native.Nat.{ℕ, zero, suc, _+_, _%_, _<_, _≤_}
+use native.Mathlib.Nat.{mod-eq-of-lt, le-refl, eq-or-lt-of-le, le-of-suc-le-suc}
 use native.Mathlib.Numerals.{add-one}
 use native.Mathlib.Omega.{arith}
+use native.Mathlib.Decide.{ℕ-discrete}
 use lib.ListN.{length, take, getD, set, length-append, length-set, List·getD-append}
-use lib.Seq.{take-suc-set, take-all, getD-at, ext-getD}
-use Rattle.text.specs.Table.{tabulate, bit, countTo}
+use lib.Seq.{take-suc-set, take-all, getD-at, getD-set-same, getD-set-other, ext-getD}
+use Rattle.text.specs.Table.{tabulate, Tabled, bit, countTo}
 
 -- tables
 
@@ -57,6 +58,35 @@ module _ {A : Type 0} where
   pub filled-all : (n : ℕ) (f : ℕ → A) (l : List A) → Filled n f l n → l ≡ tabulate n f
   unfolding Filled
   filled-all n f l h = sym (take-all n l (omega (arith, h .0))) ∙ h .1
+
+-- a loop that stores numbers of 16 bits as far as there is room
+
+pub tabled-none : (f : ℕ → ℕ) (l : List ℕ) → Tabled f 0 l
+tabled-none f l = record { at = λ j h k. absurd (omega arith) }
+
+pub tabled-more : (f : ℕ → ℕ) (n : ℕ) (l u : List ℕ) (v : ℕ) → Tabled f n l → v ≡ f n → f n < 65536 → u ≡ set l n (v % 65536) → Tabled f (n + 1) u
+tabled-more f n l u v a e b g = record { at = λ j h k. go j (ℕ-discrete j n) h k }
+  where
+    there : v % 65536 ≡ f n
+    there = ap (λ w. w % 65536) e ∙ mod-eq-of-lt b
+
+    sized : length u ≡ length l
+    sized = ap length g ∙ length-set l n (v % 65536)
+
+    go : (j : ℕ) → Dec (j ≡ n) → j < n + 1 → j < length u → getD u j 0 ≡ f j
+    go j (yes p) h k =
+        ap (λ w. getD w j 0) g
+        ∙ ap (λ i. getD (set l n (v % 65536)) i 0) p
+        ∙ getD-set-same l n (v % 65536) 0 (omega (arith, sized))
+        ∙ there
+        ∙ ap f (sym p)
+    go j (no p) h k = ap (λ w. getD w j 0) g ∙ getD-set-other l n j (v % 65536) 0 p ∙ a .at j (omega (arith, p)) (omega (arith, sized))
+
+pub tabled-less : (f : ℕ → ℕ) (m n : ℕ) (l : List ℕ) → Tabled f n l → m ≤ n → Tabled f m l
+tabled-less f m n l a h = record { at = λ j k fit. a .at j (omega arith) fit }
+
+pub tabled-empty : (f : ℕ → ℕ) (n : ℕ) (l : List ℕ) → length l ≡ 0 → Tabled f n l
+tabled-empty f n l e = record { at = λ j h k. absurd (omega arith) }
 
 -- counts
 

@@ -7,6 +7,8 @@ ghost use Rattle.text.specs.Bytes.{any, all, same, orderOf, numbers, spa
 ghost use Rattle.text.specs.Class.{oneOf, inClass};
 ghost use Rattle.text.specs.Parts.{Trimmed};
 
+pub mod hash; // hash.rt: a hash of byte strings
+
 // How two byte strings stand to one another.
 pub enum Order {
     Less,
@@ -37,6 +39,13 @@ pub fn byte_at(s: &[u8], i: usize) -> u8
     ensures { λ r. ⌜ r ≡ getD (now (s .entry)) i 0 ⌝ }
 {
     if i < s.len() { s[i] } else { 0 }
+}
+
+// A byte as a wider number.
+pub fn widen(b: u8) -> usize
+    ensures { λ r. ⌜ r ≡ b ⌝ }
+{
+    b as usize
 }
 
 // What there is of the len bytes from start.

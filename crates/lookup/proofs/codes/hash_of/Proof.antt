@@ -4,7 +4,7 @@ use Rattle.lookup.proofs.codes.hash_of.Statement.{statement}
 use Rattle.lookup.proofs.codes.hash_of.Tie as tie
 use Rattle.lookup.proofs.codes.hash_of.Reads as reads
 use Rattle.lookup.proofs.codes.hash_of.Lts as lts
-use Rattle.lookup.proofs.codes.hash_from.Reads as hash-from-reads
+use Rattle.text.proofs.hash.hash_from.Reads as hash-from-reads
 
 -- src/codes.rt:51:15
 hash-from-requires : tie.Need-hash-from-requires

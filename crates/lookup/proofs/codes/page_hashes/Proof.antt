@@ -4,7 +4,8 @@ use native.Mathlib.Omega.{arith}
 use borrow.Author.Needs.{needs}
 use lib.ListN.{length, length-set}
 use Rattle.lookup.specs.Linking.{Hashed}
-use Rattle.lookup.proofs.Places.{tabled-none, tabled-less, hashed-more}
+use Rattle.text.proofs.Tables.{tabled-none, tabled-less}
+use Rattle.lookup.proofs.Places.{hashed-more}
 use Rattle.lookup.proofs.codes.page_hashes.Statement.{statement}
 use Rattle.lookup.proofs.codes.page_hashes.Tie as tie
 use Rattle.lookup.proofs.codes.page_hashes.Reads as reads

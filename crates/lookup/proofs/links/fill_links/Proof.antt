@@ -4,7 +4,7 @@ use native.Mathlib.Omega.{arith}
 use borrow.Author.Needs.{needs}
 use lib.ListN.{length, length-set}
 use Rattle.lookup.specs.Linking.{HashIndex, Linked}
-use Rattle.lookup.proofs.Places.{tabled-none, tabled-less}
+use Rattle.text.proofs.Tables.{tabled-none, tabled-less}
 use Rattle.lookup.proofs.Leading.{linked-more}
 use Rattle.lookup.proofs.links.fill_links.Statement.{statement}
 use Rattle.lookup.proofs.links.fill_links.Tie as tie

@@ -4,7 +4,7 @@ use Rattle.rows.proofs.hashes.entry_hash.Statement.{statement}
 use Rattle.rows.proofs.hashes.entry_hash.Tie as tie
 use Rattle.rows.proofs.hashes.entry_hash.Reads as reads
 use Rattle.rows.proofs.hashes.entry_hash.Lts as lts
-use Rattle.rows.proofs.hashes.hash_from.Reads as hash-from-reads
+use Rattle.text.proofs.hash.hash_from.Reads as hash-from-reads
 use Rattle.text.proofs.part.Reads as part-reads
 
 enum-told : tie.Need-enum-told

@@ -4,7 +4,8 @@ use native.Mathlib.Omega.{arith}
 use borrow.Author.Needs.{needs}
 use lib.ListN.{length, length-set}
 use Rattle.rows.specs.Hashes.{Hashed}
-use Rattle.rows.proofs.Hashing.{hashed-none, hashed-more, hashed-less}
+use Rattle.text.proofs.Tables.{tabled-none, tabled-less}
+use Rattle.rows.proofs.Hashing.{hashed-more}
 use Rattle.rows.proofs.hashes.fill_hashes.Statement.{statement}
 use Rattle.rows.proofs.hashes.fill_hashes.Tie as tie
 use Rattle.rows.proofs.hashes.fill_hashes.Reads as reads
@@ -21,7 +22,7 @@ abbrev μ-loop : tie.MeasureT-loop
 μ-loop s t rows m hashes₀ k₀ hashes k = m - k
 
 loop-holds : tie.Need-loop-holds Inv-loop μ-loop
-loop-holds c = (hashed-none _ _ _ _, refl)
+loop-holds c = (tabled-none _ _, refl)
 
 num-at-requires : tie.Need-num-at-requires Inv-loop μ-loop
 num-at-requires c κs = search needs
@@ -42,13 +43,13 @@ loop-less : tie.Need-loop-less Inv-loop μ-loop
 loop-less c = omega arith
 
 loop-again : tie.Need-loop-again Inv-loop μ-loop
-loop-again c = (hashed-more _ _ _ _ _ (c .before .before .before .before .before .before .before .before .loop .inv .0) _ _ _ (c .before .before .before .before .item-at .result) (c .before .before .before .before .before .num-at .ensures) (c .before .before .before .before .item-at .ensures) (c .before .before .before .entry-hash .ensures) (c .before .before .put .ensures), ap length (c .before .before .put .ensures) ∙ simp length-set (c .before .before .before .before .before .before .before .before .loop .inv .1))
+loop-again c = (hashed-more _ _ (c .before .before .before .before .before .before .before .before .before .before .before .before .before .args .rows .now) (c .before .before .before .before .before .before .before .before .loop .k) (c .before .before .before .before .before .before .before .before .loop .hashes) _ _ _ (c .before .before .before .before .item-at .result) (c .before .before .before .before .before .before .before .before .loop .inv .0) (c .before .before .before .before .before .num-at .ensures) (c .before .before .before .before .item-at .ensures) (c .before .before .before .entry-hash .ensures) (c .before .before .put .ensures), ap length (c .before .before .put .ensures) ∙ simp length-set (c .before .before .before .before .before .before .before .before .loop .inv .1))
 
 same-length : tie.Need-same-length Inv-loop μ-loop
 same-length c = c .before .loop .inv .1
 
 returns : tie.Need-returns Inv-loop μ-loop
-returns c = hashed-less _ _ _ _ _ (c .before .loop .inv .0) _ (c .loop-test .left)
+returns c = tabled-less _ _ _ _ (c .before .loop .inv .0) (c .loop-test .left)
 
 pub fill-hashes-spec : {M : Type 1} → statement M
 fill-hashes-spec =

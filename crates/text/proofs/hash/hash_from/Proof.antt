@@ -3,13 +3,13 @@ use mathlib.Core.Path.{_≡_, refl, sym, _∙_}
 use native.Mathlib.Omega.{arith}
 use lib.ListN.{length, drop}
 use borrow.Author.Needs.{needs}
-use Rattle.rows.specs.Hashes.{hashFrom}
-use Rattle.rows.proofs.Hashing.{hash-step, hash-end}
-use Rattle.rows.proofs.hashes.hash_from.Statement.{statement}
-use Rattle.rows.proofs.hashes.hash_from.Tie as tie
-use Rattle.rows.proofs.hashes.hash_from.Reads as reads
-use Rattle.rows.proofs.hashes.hash_from.Lts as lts
-use Rattle.rows.proofs.hashes.widen.Reads as widen-reads
+use Rattle.text.specs.Hash.{hashFrom}
+use Rattle.text.proofs.Hashing.{hash-step, hash-end}
+use Rattle.text.proofs.hash.hash_from.Statement.{statement}
+use Rattle.text.proofs.hash.hash_from.Tie as tie
+use Rattle.text.proofs.hash.hash_from.Reads as reads
+use Rattle.text.proofs.hash.hash_from.Lts as lts
+use Rattle.text.proofs.widen.Reads as widen-reads
 
 abbrev Inv-loop : tie.InvT-loop
 Inv-loop h s sum₀ i₀ sum i = hashFrom h s ≡ hashFrom sum (drop i s)
