@@ -15,14 +15,14 @@ use Rattle.values.specs.Values.{mapOption}
 use Rattle.language.specs.Answer.{_>>=_}
 use Rattle.language.specs.RegisterText.{Entry, line, nextEntry, entriesFrom, entries}
 use Rattle.language.proofs.Options.{OnSome}
-use Rattle.language.proofs.Entries.{entries-end, entries-line, entries-inner, withRest}
+use Rattle.language.proofs.Entries.{owed, Six, six-next, entries-end, entries-line, entries-inner, withRest}
 use Rattle.entries.specs.declared.Item.{Item}
 use Rattle.entries.specs.declared.Rows.{Rows}
 use Rattle.entries.specs.Items.{placeOf, isBroken, entryIn, Reads}
 use Rattle.entries.specs.Table.{entriesIn, withRow, rowsOf, Holds, Filled}
 use Rattle.entries.proofs.Ways.{is-read, is-none}
 use Rattle.entries.proofs.Cells.{row-size, rows-more}
-use Rattle.entries.proofs.Counting.{owed, Six, six-next, Few, few}
+use Rattle.entries.proofs.Counting.{Few, few}
 
 -- After n entries: those read so far, before what the rest reads, are the whole; and the table holds them.
 pub record Going (s : Bytes) (t u : List ℕ) (at n : ℕ) (inside : Bool) : Type 0 where

@@ -14,20 +14,18 @@ use Rattle.values.proofs.Laws.{kind-stands}
 use Rattle.text.proofs.Laws.{starts-fits}
 use Rattle.language.specs.Answer.{_>>=_, found}
 use Rattle.language.specs.RegisterText.{Entry, Place, line, inner, Read, quoted, kindWordAt, propForm, pageForm, catForm, valForm, closing, nextEntry, entriesWithin, entriesFrom}
-use Rattle.language.proofs.Options.{OnSome, on-bind, on-found, same-bind, on-weaker, settled}
-use Rattle.language.proofs.Shorter.{after-leaves, behind-leaves}
+use Rattle.language.proofs.Options.{OnSome, on-bind, on-found, same-bind, settled}
+use Rattle.language.proofs.Shorter.{Less, after-leaves, behind-leaves}
 
-abbrev Behind : {A : Type 0} → Bytes → A × Bytes → Type 0
-Behind s x = length (x .1) < length s
+-- the two quotation marks
+abbrev Unquoted : Bytes → Bytes × Bytes → Type 0
+Unquoted s x = length (x .1) + 2 ≤ length s
 
-abbrev pub Leaves : Bytes → Read → Type 0
-Leaves s e = length (e .rest) < length s
-
-quoted-leaves : (s : Bytes) → OnSome (Behind s) (quoted s)
+quoted-leaves : (s : Bytes) → OnSome (Unquoted s) (quoted s)
 unfolding quoted
 quoted-leaves s =
-    on-bind _ (Behind s) (after (bytes "\"") s) _ (after-leaves (bytes "\"") s)
-    (λ r l. on-bind _ (Behind s) (after (bytes "\"") (behind isQuotable r)) _ (after-leaves (bytes "\"") (behind isQuotable r))
+    on-bind _ (Unquoted s) (after (bytes "\"") s) _ (after-leaves (bytes "\"") s)
+    (λ r l. on-bind _ (Unquoted s) (after (bytes "\"") (behind isQuotable r)) _ (after-leaves (bytes "\"") (behind isQuotable r))
     (λ e m. omega (arith, behind-leaves isQuotable r)))
 
 word-length : (k : Kind) → 1 ≤ length (kindWord k)
@@ -36,68 +34,78 @@ word-length Kind.Number = omega arith
 word-length Kind.Boolean = omega arith
 word-length Kind.String = omega arith
 
-kind-leaves : (s : Bytes) → OnSome (Behind s) (kindWordAt s)
+kind-leaves : (s : Bytes) → OnSome (Less s) (kindWordAt s)
 unfolding kindWordAt
 kind-leaves s = go (kindAt s) refl
   where
-    go : (o : Option Kind) → kindAt s ≡ o → OnSome (Behind s) (o >>= λ k. some (k, drop (length (kindWord k)) s))
+    go : (o : Option Kind) → kindAt s ≡ o → OnSome (Less s) (o >>= λ k. some (k, drop (length (kindWord k)) s))
     go none e = tt
     go (some k) e =
         let h = starts-fits (kindWord k) s (kind-stands k s e) in
         let w = word-length k in omega (arith, length-drop (length (kindWord k)) s)
 
--- what is behind a word, and then what is behind a quoted text, read on
+-- What the end of the page form that a place is in has too few.
+abbrev pub owed : Place → ℕ
+owed line = 0
+owed inner = 4
+
+-- An entry at a place of kind p.
+pub record Six (p : Place) (s : Bytes) (e : Read) : Type 0 where
+  pub spent : length (e .rest) + 6 + owed (e .place) ≤ length s + owed p
+  pub shorter : length (e .rest) < length s
+
+module _ (p : Place) (s : Bytes) where
+  on-word : (w r : Bytes) (f : Bytes → Option Read) → ((e : Bytes) → length e + length w ≤ length r → OnSome (Six p s) (f e)) → OnSome (Six p s) (after w r >>= f)
+  on-word w r f k = on-bind _ (Six p s) (after w r) f (after-leaves w r) k
+
+  on-quoted : (r : Bytes) (f : Bytes × Bytes → Option Read) → ((x : Bytes × Bytes) → Unquoted r x → OnSome (Six p s) (f x)) → OnSome (Six p s) (quoted r >>= f)
+  on-quoted r f k = on-bind (Unquoted r) (Six p s) (quoted r) f (quoted-leaves r) k
+
+  first-of : (a b : Option Read) → OnSome (Six p s) a → OnSome (Six p s) b → OnSome (Six p s) (found a some b)
+  first-of a b h k = on-found (Six p s) (Six p s) a some b h (λ x l. l) k
+
 module _ (s : Bytes) where
-  on-word : (w r : Bytes) (f : Bytes → Option Read) → ((e : Bytes) → length e + length w ≤ length r → OnSome (Leaves s) (f e)) → OnSome (Leaves s) (after w r >>= f)
-  on-word w r f k = on-bind _ (Leaves s) (after w r) f (after-leaves w r) k
-
-  on-quoted : (r : Bytes) (f : Bytes × Bytes → Option Read) → ((x : Bytes × Bytes) → Behind r x → OnSome (Leaves s) (f x)) → OnSome (Leaves s) (quoted r >>= f)
-  on-quoted r f k = on-bind (Behind r) (Leaves s) (quoted r) f (quoted-leaves r) k
-
-  prop-leaves : OnSome (Leaves s) (propForm s)
+  six-prop : OnSome (Six line s) (propForm s)
   unfolding propForm
-  prop-leaves =
-      on-word (bytes "(prop ") s _ λ r1 l1.
-      on-quoted r1 _ λ r2 l2.
-      on-word (bytes " ") (r2 .1) _ λ r3 l3.
-      on-bind (Behind r3) (Leaves s) (kindWordAt r3) _ (kind-leaves r3) λ r4 l4.
-      on-word (bytes ")\n") (r4 .1) _ λ r5 l5. omega arith
+  six-prop =
+      on-word line s (bytes "(prop ") s _ λ r₁ l₁.
+      on-quoted line s r₁ _ λ r₂ l₂.
+      on-word line s (bytes " ") (r₂ .1) _ λ r₃ l₃.
+      on-bind (Less r₃) (Six line s) (kindWordAt r₃) _ (kind-leaves r₃) λ r₄ l₄.
+      on-word line s (bytes ")\n") (r₄ .1) _ λ r₅ l₅. record { spent = omega arith; shorter = omega arith }
 
-  page-leaves : OnSome (Leaves s) (pageForm s)
+  six-page : OnSome (Six line s) (pageForm s)
   unfolding pageForm
-  page-leaves =
-      on-word (bytes "(page ") s _ λ r1 l1.
-      on-quoted r1 _ λ r2 l2.
-      on-word (bytes " ") (r2 .1) _ λ r3 l3.
-      on-quoted r3 _ λ r4 l4. omega arith
+  six-page =
+      on-word line s (bytes "(page ") s _ λ r₁ l₁.
+      on-quoted line s r₁ _ λ r₂ l₂.
+      on-word line s (bytes " ") (r₂ .1) _ λ r₃ l₃.
+      on-quoted line s r₃ _ λ r₄ l₄. record { spent = omega arith; shorter = omega arith }
 
-  cat-leaves : OnSome (Leaves s) (catForm s)
+  six-cat : OnSome (Six inner s) (catForm s)
   unfolding catForm
-  cat-leaves =
-      on-word (bytes " (cat ") s _ λ r1 l1.
-      on-quoted r1 _ λ r2 l2.
-      on-word (bytes ")") (r2 .1) _ λ r3 l3. omega arith
+  six-cat =
+      on-word inner s (bytes " (cat ") s _ λ r₁ l₁.
+      on-quoted inner s r₁ _ λ r₂ l₂.
+      on-word inner s (bytes ")") (r₂ .1) _ λ r₃ l₃. record { spent = omega arith; shorter = omega arith }
 
-  val-leaves : OnSome (Leaves s) (valForm s)
+  six-val : OnSome (Six inner s) (valForm s)
   unfolding valForm
-  val-leaves =
-      on-word (bytes " (val ") s _ λ r1 l1.
-      on-quoted r1 _ λ r2 l2.
-      on-word (bytes " ") (r2 .1) _ λ r3 l3.
-      on-quoted r3 _ λ r4 l4.
-      on-word (bytes ")") (r4 .1) _ λ r5 l5. omega arith
+  six-val =
+      on-word inner s (bytes " (val ") s _ λ r₁ l₁.
+      on-quoted inner s r₁ _ λ r₂ l₂.
+      on-word inner s (bytes " ") (r₂ .1) _ λ r₃ l₃.
+      on-quoted inner s r₃ _ λ r₄ l₄.
+      on-word inner s (bytes ")") (r₄ .1) _ λ r₅ l₅. record { spent = omega arith; shorter = omega arith }
 
-  close-leaves : OnSome (Leaves s) (closing s)
+  six-close : OnSome (Six inner s) (closing s)
   unfolding closing
-  close-leaves = on-word (bytes ")\n") s _ λ r1 l1. omega arith
+  six-close = on-word inner s (bytes ")\n") s _ λ r₁ l₁. record { spent = omega arith; shorter = omega arith }
 
-  first-of : (a b : Option Read) → OnSome (Leaves s) a → OnSome (Leaves s) b → OnSome (Leaves s) (found a some b)
-  first-of a b h k = on-found (Leaves s) (Leaves s) a some b h (λ x l. l) k
-
-  pub next-leaves : (p : Place) → OnSome (Leaves s) (nextEntry p s)
+  pub six-next : (p : Place) → OnSome (Six p s) (nextEntry p s)
   unfolding nextEntry
-  next-leaves line = first-of (propForm s) (pageForm s) prop-leaves page-leaves
-  next-leaves inner = first-of (catForm s) _ cat-leaves (first-of (valForm s) (closing s) val-leaves close-leaves)
+  six-next line = first-of line s (propForm s) (pageForm s) six-prop six-page
+  six-next inner = first-of inner s (catForm s) _ six-cat (first-of inner s (valForm s) (closing s) six-val six-close)
 
 -- an entry, then the others
 abbrev pub withRest : (Place → Bytes → Option (List Entry)) → Read → Option (List Entry)
@@ -111,11 +119,11 @@ entries-step zero inner [] h = refl
 entries-step zero inner (b ∷ s) h = absurd (omega arith)
 entries-step (suc n) line [] h = refl
 entries-step (suc n) line (b ∷ s) h =
-    same-bind (Leaves (b ∷ s)) (nextEntry line (b ∷ s)) _ _ (next-leaves (b ∷ s) line)
-    (λ e l. ap (λ o. o >>= λ l. some (e .entry ∷ l)) (entries-step n (e .place) (e .rest) (omega arith)))
+    same-bind (Six line (b ∷ s)) (nextEntry line (b ∷ s)) _ _ (six-next (b ∷ s) line)
+    (λ e l. ap (λ o. o >>= λ l. some (e .entry ∷ l)) (entries-step n (e .place) (e .rest) (omega (arith, l .shorter))))
 entries-step (suc n) inner s h =
-    same-bind (Leaves s) (nextEntry inner s) _ _ (next-leaves s inner)
-    (λ e l. ap (λ o. o >>= λ l. some (e .entry ∷ l)) (entries-step n (e .place) (e .rest) (omega arith)))
+    same-bind (Six inner s) (nextEntry inner s) _ _ (six-next s inner)
+    (λ e l. ap (λ o. o >>= λ l. some (e .entry ∷ l)) (entries-step n (e .place) (e .rest) (omega (arith, l .shorter))))
 
 entries-settled : (n : ℕ) (p : Place) (s : Bytes) → length s ≤ n → entriesWithin n p s ≡ entriesFrom p s
 unfolding entriesFrom
@@ -130,12 +138,12 @@ pub entries-line : (b : ℕ) (s : Bytes) → entriesFrom line (b ∷ s) ≡ (nex
 unfolding entriesWithin
 entries-line b s =
     sym (entries-settled (suc (length (b ∷ s))) line (b ∷ s) (omega arith))
-    ∙ same-bind (Leaves (b ∷ s)) (nextEntry line (b ∷ s)) _ _ (next-leaves (b ∷ s) line)
-    (λ e l. ap (λ o. o >>= λ l. some (e .entry ∷ l)) (entries-settled (length (b ∷ s)) (e .place) (e .rest) (omega arith)))
+    ∙ same-bind (Six line (b ∷ s)) (nextEntry line (b ∷ s)) _ _ (six-next (b ∷ s) line)
+    (λ e l. ap (λ o. o >>= λ l. some (e .entry ∷ l)) (entries-settled (length (b ∷ s)) (e .place) (e .rest) (omega (arith, l .shorter))))
 
 pub entries-inner : (s : Bytes) → entriesFrom inner s ≡ (nextEntry inner s >>= withRest entriesFrom)
 unfolding entriesWithin
 entries-inner s =
     sym (entries-settled (suc (length s)) inner s (omega arith))
-    ∙ same-bind (Leaves s) (nextEntry inner s) _ _ (next-leaves s inner)
-    (λ e l. ap (λ o. o >>= λ l. some (e .entry ∷ l)) (entries-settled (length s) (e .place) (e .rest) (omega arith)))
+    ∙ same-bind (Six inner s) (nextEntry inner s) _ _ (six-next s inner)
+    (λ e l. ap (λ o. o >>= λ l. some (e .entry ∷ l)) (entries-settled (length s) (e .place) (e .rest) (omega (arith, l .shorter))))

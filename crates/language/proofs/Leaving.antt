@@ -16,14 +16,7 @@ use Rattle.language.specs.Surface.{Chain}
 use Rattle.language.specs.RawQuery.{Piece, RawQuery, RawAlternatives, token, comparator, pieceAt, endsHead, headLength, splitDots, trimNames, piecesWithin, readPieces, bracketOf, plainBody, closedInner, closedGroup, closedBody, nextTerm, queryWithin, orWithin, conjunctionWithin, andWithin, termWithin, bodyWithin, alternativesWithin, moreWithin, alternativeWithin, enough, readQuery, readOr, readConjunction, readAnd, readTerm, readBody, readAlternatives, readMore, readAlternative}
 use Rattle.language.specs.declared.SurfaceComparator.{SurfaceComparator}
 use Rattle.language.proofs.Options.{OnSome, on-bind, on-found, same-bind, same-found, on-weaker, settled}
-use Rattle.language.proofs.Shorter.{after-leaves, behind-leaves, of-found}
-
--- what was read leaves less than s, or no more than s
-abbrev pub Less : {A : Type 0} → Bytes → A × Bytes → Type 0
-Less s x = length (x .1) < length s
-
-abbrev pub NoMore : {A : Type 0} → Bytes → A × Bytes → Type 0
-NoMore s x = length (x .1) ≤ length s
+use Rattle.language.proofs.Shorter.{Less, NoMore, after-leaves, behind-leaves, of-found}
 
 abbrev pub Behind : Bytes → Bytes → Type 0
 Behind s r = length r < length s

@@ -16,8 +16,8 @@ use Rattle.language.specs.Surface.{Chain}
 use Rattle.language.specs.RawQuery.{Piece, RawQuery, RawAlternatives, token, comparator, pieceAt, endsHead, headLength, splitDots, trimNames, piecesWithin, readPieces, bracketOf, plainBody, closedInner, closedGroup, closedBody, nextTerm, queryWithin, orWithin, conjunctionWithin, andWithin, termWithin, bodyWithin, alternativesWithin, moreWithin, alternativeWithin, enough, readQuery, readOr, readConjunction, readAnd, readTerm, readBody, readAlternatives, readMore, readAlternative}
 use Rattle.language.specs.declared.SurfaceComparator.{SurfaceComparator}
 use Rattle.language.proofs.Options.{OnSome, on-bind, on-found, same-bind, same-found, on-weaker, settled}
-use Rattle.language.proofs.Leaving.{Less, NoMore, Behind, token-leaves, piece-leaves, head-leaves, drop-leaves, next-leaves, query-leaves, or-leaves, conjunction-leaves, and-leaves, term-leaves, bracket-leaves, alternatives-leave, more-leaves, alternative-leaves}
-use Rattle.language.proofs.Shorter.{after-leaves, behind-leaves, of-found}
+use Rattle.language.proofs.Leaving.{Behind, token-leaves, piece-leaves, head-leaves, drop-leaves, next-leaves, query-leaves, or-leaves, conjunction-leaves, and-leaves, term-leaves, bracket-leaves, alternatives-leave, more-leaves, alternative-leaves}
+use Rattle.language.proofs.Shorter.{Less, NoMore, after-leaves, behind-leaves, of-found}
 
 pieces-step : (n : ℕ) (s : Bytes) → length s < n → piecesWithin (suc n) s ≡ piecesWithin n s
 unfolding piecesWithin

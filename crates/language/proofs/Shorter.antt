@@ -12,6 +12,13 @@ use Rattle.text.proofs.Laws.{starts-fits}
 use Rattle.language.specs.Answer.{found}
 use Rattle.language.proofs.Options.{OnSome}
 
+-- what was read leaves less than s, or no more than s
+abbrev pub Less : {A : Type 0} → Bytes → A × Bytes → Type 0
+Less s x = length (x .1) < length s
+
+abbrev pub NoMore : {A : Type 0} → Bytes → A × Bytes → Type 0
+NoMore s x = length (x .1) ≤ length s
+
 -- what is behind a word has that many bytes less
 pub after-leaves : (w s : Bytes) → OnSome (λ r. length r + length w ≤ length s) (after w s)
 unfolding after

@@ -9,8 +9,8 @@ use Rattle.text.specs.Bytes.{Bytes, bytes, after}
 use Rattle.values.specs.Values.{mapOption}
 use Rattle.language.specs.RawQuery.{RawQuery, RawAlternatives, token, nextTerm, headLength, readConjunction, readTerm, readAlternative}
 use Rattle.language.proofs.Options.{OnSome}
-use Rattle.language.proofs.Shorter.{after-leaves}
-use Rattle.language.proofs.Leaving.{Less, NoMore, Behind, token-leaves, next-leaves, head-leaves}
+use Rattle.language.proofs.Shorter.{Less, NoMore, after-leaves}
+use Rattle.language.proofs.Leaving.{Behind, token-leaves, next-leaves, head-leaves}
 use Rattle.language.proofs.Readers.{conjunction-less, term-less, alternative-no-more}
 use Rattle.pieces.specs.Places.{from, restOf, placeOf, headAt}
 use Rattle.pieces.specs.declared.Found.{Found}
