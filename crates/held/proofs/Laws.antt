@@ -1,7 +1,7 @@
 -- Laws of the form of a text, and of the loops that write and compare it.
 use Prim.Native.Nat.{ℕ, zero, suc, _+_, _*_, _-_, _/_, _%_, _≤_, _<_}
 use mathlib.Core.Path.{_≡_, refl, sym, ap, ap₂, _∙_, subst}
-use mathlib.Core.Bool.{Bool, true, false, cond, _&&_}
+use mathlib.Core.Bool.{Bool, true, false, cond, _&&_, and-assoc, and-true}
 use mathlib.Core.List.{List, [], _∷_, _++_}
 use native.Mathlib.Numerals.{add-one}
 use native.Mathlib.Omega.{arith}
@@ -112,14 +112,6 @@ module _ (t h now : Bytes) where
 
   pub padded-all : Padded t h now 32768 → now ≡ withForm t h
   padded-all p = written-all t h now 32770 (p .done) (omega arith)
-
-and-assoc : (a b c : Bool) → ((a && b) && c) ≡ (a && (b && c))
-and-assoc true b c = refl
-and-assoc false b c = refl
-
-and-true : (a : Bool) → (a && true) ≡ a
-and-true true = refl
-and-true false = refl
 
 -- is_form: b says whether the bytes before i are alike
 pub record Alike (h t : Bytes) (i : ℕ) (b : Bool) : Type 0 where

@@ -63,7 +63,7 @@ module _ (ps : List Property) where
       go false r = r
 
   -- what the inner forms leave as it was
-  filled-identifier : (p : Page) (l : List Entry) → filled ps p l .identifier ≡ p .identifier
+  pub filled-identifier : (p : Page) (l : List Entry) → filled ps p l .identifier ≡ p .identifier
   unfolding filled
   filled-identifier p [] = refl
   filled-identifier p (prop x k ∷ l) = refl

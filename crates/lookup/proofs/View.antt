@@ -11,12 +11,11 @@ use Rattle.text.specs.Bytes.{Bytes}
 use Rattle.language.specs.Register.{Page, Register, kindsOf}
 use Rattle.language.specs.RegisterText.{isPage, emptyPage, registerOf, properties}
 use Rattle.entries.specs.Table.{entryAt, entriesIn}
-use Rattle.rows.specs.Rows.{placesTo, declaredKind, firstIn}
+use Rattle.rows.specs.Rows.{placesTo}
 use Rattle.rows.specs.Checks.{kindsIn}
 use Rattle.rows.specs.declared.Declared.{Declared}
 use Rattle.rows.specs.declared.Judged.{Judged}
-use Rattle.rows.proofs.Rows.{kind-rows}
-use Rattle.rows.proofs.Verdict.{rows-that}
+use Rattle.rows.proofs.Verdict.{rows-that, kinds-rows}
 use Rattle.pages.specs.Forms.{pageFrom}
 use Rattle.pages.proofs.Abstract.{page-rows}
 use Rattle.lookup.specs.View.{pageAt, View}
@@ -58,10 +57,8 @@ module _ {R : Register} {s : Bytes} {t props pages : List ℕ} {c : Judged} (v :
   properties-are = ap (λ r. r .properties) (sym (v .register))
 
   pub kinds-are : (x : Bytes) → kindsIn s t props (c .props) x ≡ kindsOf R x
-  unfolding entriesIn
   kinds-are x =
-      ap (firstIn (λ i. declaredKind x (entryAt s t i))) (v .index .properties ∙ rows-that Declared.Property s t (c .rows))
-      ∙ sym (kind-rows x (c .rows) (entryAt s t))
+      kinds-rows s t props pages (c .rows) (c .props) (c .pages) (v .index .properties) (v .index .places) x
       ∙ ap (λ ps. kindsOf (record { properties = ps; pages = [] }) x) properties-are
 
   pub pages-are : R .pages ≡ map pageOf (take (c .pages) pages)

@@ -22,7 +22,8 @@ use Rattle.rows.specs.Rows.{placesTo}
 use Rattle.pages.specs.Forms.{identifierOf, pageFrom, inCategory, onVal, heldBy}
 use Rattle.pages.specs.Tests.{innerAt, passes, valuePasses, holdsTest}
 use Rattle.pages.specs.declared.Test.{Test}
-use Rattle.pages.proofs.Pages.{filled-identifier, filled-category, filled-holds}
+use Rattle.language.proofs.Registers.{filled-identifier}
+use Rattle.pages.proofs.Pages.{filled-category, filled-holds}
 
 -- places by the front of a list, and by its end
 placesFrom : ℕ → (Entry → Bool) → List Entry → List ℕ

@@ -110,19 +110,6 @@ moved false b c = refl
 
 -- what a page holds: what it held before, and what its inner forms put
 module _ (ps : List Property) where
-  pub filled-identifier : (p : Page) (l : List Entry) → filled ps p l .identifier ≡ p .identifier
-  unfolding filled
-  filled-identifier p [] = refl
-  filled-identifier p (prop y k ∷ l) = refl
-  filled-identifier p (page n y ∷ l) = refl
-  filled-identifier p (cat y ∷ l) = filled-identifier (withCategory y p) l
-  filled-identifier p (val y v ∷ l) = filled-identifier _ l ∙ go (valueOf ps y v)
-    where
-      go : (o : Option Value) → (found o (λ w. withValue y w p) p) .identifier ≡ p .identifier
-      go none = refl
-      go (some w) = refl
-  filled-identifier p (close ∷ l) = refl
-
   pub filled-category : (x : Bytes) (p : Page) (l : List Entry) → any (same x) (filled ps p l .categories) ≡ any (same x) (p .categories) || any (inCategory x) (innerOf l)
   unfolding filled innerOf any
   filled-category x p [] = sym (or-false _)
