@@ -29,15 +29,15 @@ module _ {A : Type 0} (f : A → Value) (k : Kind) (h : (a : A) → kindOf (f a)
   mapped-kind none e = cc
   mapped-kind (some a) e = let q : f a ≡ v = cc in rw (← q) (h a)
 
-constant-kind : {A : Type 0} (f : A → Constant) (k : Kind) → ((a : A) → kindOfConstant (f a) ≡ k) → (o : Option A) (v : Value) → mapOption plain (mapOption f o) ≡ some v → kindOf v ≡ k
-constant-kind f k h none v e = cc
-constant-kind f k h (some a) v e = mapped-kind (λ x. plain (f x)) k h v (some a) e
+plain-kind : {A : Type 0} (f : A → Constant) (k : Kind) → ((a : A) → kindOfConstant (f a) ≡ k) → (o : Option A) (v : Value) → mapOption plain (mapOption f o) ≡ some v → kindOf v ≡ k
+plain-kind f k h none v e = cc
+plain-kind f k h (some a) v e = mapped-kind (λ x. plain (f x)) k h v (some a) e
 
 pub read-kind : (k : Kind) (s : Bytes) (v : Value) → readValue k s ≡ some v → kindOf v ≡ k
 read-kind Kind.Page s v e = mapped-kind link Kind.Page (λ i. refl) v (readLink s) e
-read-kind Kind.Number s v e = constant-kind number Kind.Number (λ z. refl) (readNumber s) v e
-read-kind Kind.Boolean s v e = constant-kind boolean Kind.Boolean (λ b. refl) (readBoolean s) v e
-read-kind Kind.String s v e = constant-kind string Kind.String (λ x. refl) (some s) v e
+read-kind Kind.Number s v e = plain-kind number Kind.Number (λ z. refl) (readNumber s) v e
+read-kind Kind.Boolean s v e = plain-kind boolean Kind.Boolean (λ b. refl) (readBoolean s) v e
+read-kind Kind.String s v e = plain-kind string Kind.String (λ x. refl) (some s) v e
 
 -- A kind is read where its word stands, and only there.
 pub kind-at-word : (k : Kind) (s : Bytes) → kindAt (kindWord k ++ s) ≡ some k
