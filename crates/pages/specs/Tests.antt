@@ -1,4 +1,4 @@
--- What the functions over a page's rows answer.
+-- Working definitions: what the functions over a page's rows answer.
 use Prim.Native.Nat.{ℕ, suc}
 use mathlib.Core.Bool.{Bool, true, false, not, _&&_}
 use mathlib.Core.List.{List}

@@ -1,4 +1,4 @@
--- What the functions over rows answer.
+-- Working definitions: what the functions over rows answer.
 use Prim.Native.Nat.{ℕ, _≤_}
 use mathlib.Core.Path.{_≡_}
 use mathlib.Core.Bool.{Bool, true, false, cond, _||_}

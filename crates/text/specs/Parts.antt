@@ -1,4 +1,4 @@
--- Parts of a text by their places.
+-- Parts of a text by their places. All but `partOf` are working definitions.
 use Prim.Native.Nat.{ℕ, _+_, _≤_}
 use mathlib.Core.Path.{_≡_}
 use lib.ListN.{length}

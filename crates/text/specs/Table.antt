@@ -1,4 +1,5 @@
--- Tables: lists given by a function of the place, and how often a test holds below a number.
+-- Tables: lists given by a function of the place, and how often a test holds below a number. `Tabled` and `countTo` are working
+-- definitions.
 use mathlib.Core.Bool.{Bool, true, false}
 use mathlib.Core.List.{List, [], _∷_, _++_}
 use mathlib.Core.Path.{_≡_}

@@ -1,4 +1,5 @@
--- What the functions answer: the definitions of `Names` and `Values` over the declared types.
+-- Working definitions, but for `kindAt` and `base`: what the functions answer, by the definitions of `Names` and `Values` over the
+-- declared types.
 use Prim.Native.Nat.{ℕ, suc, _+_, _-_}
 use mathlib.Core.Path.{_≡_}
 use mathlib.Core.Bool.{Bool, true, false, cond, not, _&&_}
