@@ -5,11 +5,9 @@ use Rattle.held.proofs.held_of.Tie as tie
 use Rattle.held.proofs.held_of.Reads as reads
 use Rattle.held.proofs.held_of.Lts as lts
 
--- src/lib.rt:10:1
 returns : tie.Need-returns
 returns c = search (held-short, held-long, needs)
 
--- src/lib.rt:10:1
 returns-2 : tie.Need-returns-2
 returns-2 c = search (held-short, held-long, needs)
 

@@ -5,11 +5,9 @@ use Rattle.held.proofs.high_byte.Tie as tie
 use Rattle.held.proofs.high_byte.Reads as reads
 use Rattle.held.proofs.high_byte.Lts as lts
 
--- src/lib.rt:26:5
 cast-result : tie.Need-cast-result
 cast-result c = search needs
 
--- src/lib.rt:23:1
 returns : tie.Need-returns
 returns c = search (high-is, needs)
 

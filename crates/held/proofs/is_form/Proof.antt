@@ -23,83 +23,63 @@ Inv-loop2 h text n same₀ i₀ same i = Cleared h text i same
 abbrev μ-loop2 : tie.MeasureT-loop2
 μ-loop2 h text n same₀ i₀ same i = 32768 - i
 
--- src/lib.rt:76:9
 returns : tie.Need-returns Inv-loop μ-loop Inv-loop2 μ-loop2
 returns c = search (comparing, needs)
 
--- src/lib.rt:78:9
 held-of-requires : tie.Need-held-of-requires Inv-loop μ-loop Inv-loop2 μ-loop2
 held-of-requires c κs = search (comparing, needs)
 
--- src/lib.rt:79:21
 shared-slice-read-same : tie.Need-shared-slice-read-same Inv-loop μ-loop Inv-loop2 μ-loop2
 shared-slice-read-same c = search (comparing, needs)
 
--- src/lib.rt:79:29
 low-byte-requires : tie.Need-low-byte-requires Inv-loop μ-loop Inv-loop2 μ-loop2
 low-byte-requires c κs = search (comparing, needs)
 
--- src/lib.rt:79:48
 shared-slice-read-same-2 : tie.Need-shared-slice-read-same-2 Inv-loop μ-loop Inv-loop2 μ-loop2
 shared-slice-read-same-2 c = search (comparing, needs)
 
--- src/lib.rt:79:56
 high-byte-requires : tie.Need-high-byte-requires Inv-loop μ-loop Inv-loop2 μ-loop2
 high-byte-requires c κs = search (comparing, needs)
 
--- src/lib.rt:81:5
 loop-holds : tie.Need-loop-holds Inv-loop μ-loop Inv-loop2 μ-loop2
 loop-holds c = compared-none _ _ _ _ _ (omega arith) (c .before .before .low-byte .ensures) (c .high-byte .ensures) (c .before .before .before .before .held-of .ensures)
 
--- src/lib.rt:82:26
 add-same : tie.Need-add-same Inv-loop μ-loop Inv-loop2 μ-loop2
 add-same c = search (comparing, needs)
 
--- src/lib.rt:82:24
 shared-slice-read-same-3 : tie.Need-shared-slice-read-same-3 Inv-loop μ-loop Inv-loop2 μ-loop2
 shared-slice-read-same-3 c = search (comparing, needs)
 
--- src/lib.rt:82:36
 shared-slice-read-same-4 : tie.Need-shared-slice-read-same-4 Inv-loop μ-loop Inv-loop2 μ-loop2
 shared-slice-read-same-4 c = search (comparing, needs)
 
--- src/lib.rt:83:9
 add-i : tie.Need-add-i Inv-loop μ-loop Inv-loop2 μ-loop2
 add-i c = search (comparing, needs)
 
--- src/lib.rt:81:5
 loop-less : tie.Need-loop-less Inv-loop μ-loop Inv-loop2 μ-loop2
 loop-less c = search (comparing, needs)
 
--- src/lib.rt:81:5
 loop-again : tie.Need-loop-again Inv-loop μ-loop Inv-loop2 μ-loop2
 loop-again c = compared-more _ _ _ _ _ _ (c .before .before .before .loop .inv) (c .before .before .loop-test .taken) refl
 
--- src/lib.rt:85:5
 loop2-holds : tie.Need-loop2-holds Inv-loop μ-loop Inv-loop2 μ-loop2
 loop2-holds c = search (comparing, needs)
 
--- src/lib.rt:86:26
 add-same-2 : tie.Need-add-same-2 Inv-loop μ-loop Inv-loop2 μ-loop2
 add-same-2 c = search (comparing, needs)
 
--- src/lib.rt:86:24
 shared-slice-read-same-5 : tie.Need-shared-slice-read-same-5 Inv-loop μ-loop Inv-loop2 μ-loop2
 shared-slice-read-same-5 c = search (comparing, needs)
 
--- src/lib.rt:87:9
 add-i-2 : tie.Need-add-i-2 Inv-loop μ-loop Inv-loop2 μ-loop2
 add-i-2 c = search (comparing, needs)
 
--- src/lib.rt:85:5
 loop2-less : tie.Need-loop2-less Inv-loop μ-loop Inv-loop2 μ-loop2
 loop2-less c = search (comparing, needs)
 
--- src/lib.rt:85:5
 loop2-again : tie.Need-loop2-again Inv-loop μ-loop Inv-loop2 μ-loop2
 loop2-again c = search (comparing, needs)
 
--- src/lib.rt:72:1
 returns-2 : tie.Need-returns-2 Inv-loop μ-loop Inv-loop2 μ-loop2
 returns-2 c = search (comparing, needs)
 

@@ -5,11 +5,9 @@ use Rattle.held.proofs.low_byte.Tie as tie
 use Rattle.held.proofs.low_byte.Reads as reads
 use Rattle.held.proofs.low_byte.Lts as lts
 
--- src/lib.rt:20:5
 cast-result : tie.Need-cast-result
 cast-result c = search needs
 
--- src/lib.rt:17:1
 returns : tie.Need-returns
 returns c = search (low-is, needs)
 

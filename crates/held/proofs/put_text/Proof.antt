@@ -17,40 +17,31 @@ Inv-loop text n held₀ i₀ held i = (length held ≡ length held₀) × (i ≤
 abbrev μ-loop : tie.MeasureT-loop
 μ-loop text n held₀ i₀ held i = n - i
 
--- src/lib.rt:38:5
 loop-holds : tie.Need-loop-holds Inv-loop μ-loop
 loop-holds c = search needs
 
--- src/lib.rt:39:23
 shared-slice-read-held : tie.Need-shared-slice-read-held Inv-loop μ-loop
 shared-slice-read-held c = search needs
 
--- src/lib.rt:39:14
 add-held : tie.Need-add-held Inv-loop μ-loop
 add-held c = search needs
 
--- src/lib.rt:39:9
 slice-write-held : tie.Need-slice-write-held Inv-loop μ-loop
 slice-write-held c = search needs
 
--- src/lib.rt:40:9
 add-i : tie.Need-add-i Inv-loop μ-loop
 add-i c = search needs
 
--- src/lib.rt:38:5
 loop-less : tie.Need-loop-less Inv-loop μ-loop
 loop-less c = search needs
 
--- src/lib.rt:38:5
 loop-again : tie.Need-loop-again Inv-loop μ-loop
 loop-again c =
     (search needs, omega (arith, c .before .loop-test .taken), λ h k. copied-more _ _ _ _ _ (c .before .before .loop .inv .2 h k) (let e = c .before .before .before .pre .0 in let l = c .before .loop-test .taken in omega (arith, e, l)) refl)
 
--- src/lib.rt:33:1
 same-length : tie.Need-same-length Inv-loop μ-loop
 same-length c = search needs
 
--- src/lib.rt:33:1
 returns : tie.Need-returns Inv-loop μ-loop
 returns c = λ h k. subst (Copied _ h _) (let l = c .before .loop .inv .1 in let m = c .loop-test .left in let e : c .before .loop .i ≡ c .before .before .args .n = omega (arith, l, m) in e) (c .before .loop .inv .2 h k)
 

@@ -17,36 +17,28 @@ Inv-loop n held₀ i₀ held i = (length held ≡ length held₀) × (i ≤ 3276
 abbrev μ-loop : tie.MeasureT-loop
 μ-loop n held₀ i₀ held i = 32768 - i
 
--- src/lib.rt:50:5
 loop-holds : tie.Need-loop-holds Inv-loop μ-loop
 loop-holds c = search needs
 
--- src/lib.rt:51:14
 add-held : tie.Need-add-held Inv-loop μ-loop
 add-held c = search needs
 
--- src/lib.rt:51:9
 slice-write-held : tie.Need-slice-write-held Inv-loop μ-loop
 slice-write-held c = search needs
 
--- src/lib.rt:52:9
 add-i : tie.Need-add-i Inv-loop μ-loop
 add-i c = search needs
 
--- src/lib.rt:50:5
 loop-less : tie.Need-loop-less Inv-loop μ-loop
 loop-less c = search needs
 
--- src/lib.rt:50:5
 loop-again : tie.Need-loop-again Inv-loop μ-loop
 loop-again c =
     (search needs, omega (arith, c .loop-test .taken), λ t h k. padded-more _ _ _ _ (c .before .loop .inv .2 t h k) (c .loop-test .taken))
 
--- src/lib.rt:45:1
 same-length : tie.Need-same-length Inv-loop μ-loop
 same-length c = search needs
 
--- src/lib.rt:45:1
 returns : tie.Need-returns Inv-loop μ-loop
 returns c = λ t h k. subst (Padded t h _) (let l = c .before .loop .inv .1 in let m = c .loop-test .left in let e : c .before .loop .i ≡ 32768 = omega (arith, l, m) in e) (c .before .loop .inv .2 t h k)
 

@@ -8,15 +8,12 @@ use Rattle.held.proofs.text_in.Lts as lts
 use Rattle.held.proofs.length_in.Reads as length-in-reads
 use Rattle.text.proofs.part.Reads as part-reads
 
--- src/lib.rt:54:16
 length-in-requires : tie.Need-length-in-requires
 length-in-requires c κs = search needs
 
--- src/lib.rt:54:5
 part-requires : tie.Need-part-requires
 part-requires c κs = search needs
 
--- src/lib.rt:51:1
 returns : tie.Need-returns
 returns c = c .part .ensures ∙ ap (part (c .before .before .before .args .h .now) 2) (c .before .length-in .ensures)
 

@@ -13,43 +13,33 @@ use Rattle.held.proofs.low_byte.Reads as low-byte-reads
 use Rattle.held.proofs.put_text.Reads as put-text-reads
 use Rattle.held.proofs.put_zeros.Reads as put-zeros-reads
 
--- src/lib.rt:61:9
 returns : tie.Need-returns
 returns c = search (no-room, needs)
 
--- src/lib.rt:63:9
 held-of-requires : tie.Need-held-of-requires
 held-of-requires c κs = search needs
 
--- src/lib.rt:64:15
 low-byte-requires : tie.Need-low-byte-requires
 low-byte-requires c κs = search needs
 
--- src/lib.rt:64:5
 slice-write-held : tie.Need-slice-write-held
 slice-write-held c = search needs
 
--- src/lib.rt:65:15
 high-byte-requires : tie.Need-high-byte-requires
 high-byte-requires c κs = search needs
 
--- src/lib.rt:65:5
 slice-write-held-2 : tie.Need-slice-write-held-2
 slice-write-held-2 c = let y = length-set (c .before .before .before .before .before .before .args .held .now) 0 (c .before .low-byte .result) in let l = c .before .before .before .if1 .left in omega (arith, y, l)
 
--- src/lib.rt:66:5
 put-text-requires : tie.Need-put-text-requires
 put-text-requires c κs = (c .before .before .before .held-of .ensures, let m = held-most (c .before .before .before .before .before .before .before .args .text .now) in let e = c .before .before .before .held-of .ensures in omega (arith, m .1, e), let m = held-most (c .before .before .before .before .before .before .before .args .text .now) in let e = c .before .before .before .held-of .ensures in omega (arith, m .0, e), let y = length-set (c .before .before .before .before .before .before .before .args .held .now) 0 (c .before .before .low-byte .result) in let z = length-set (set (c .before .before .before .before .before .before .before .args .held .now) 0 (c .before .before .low-byte .result)) 1 (c .before .high-byte .result) in let l = c .before .before .before .before .if1 .left in omega (arith, y, z, l))
 
--- src/lib.rt:67:5
 put-zeros-requires : tie.Need-put-zeros-requires
 put-zeros-requires c κs = (let m = held-most (c .before .before .before .before .before .before .before .before .before .before .before .args .text .now) in let e = c .before .before .before .before .before .before .before .held-of .ensures in omega (arith, m .0, e), let y = length-set (c .before .before .before .before .before .before .before .before .before .before .before .args .held .now) 0 (c .before .before .before .before .before .before .low-byte .result) in let z = length-set (set (c .before .before .before .before .before .before .before .before .before .before .before .args .held .now) 0 (c .before .before .before .before .before .before .low-byte .result)) 1 (c .before .before .before .before .before .high-byte .result) in let l = c .before .before .before .before .before .before .before .before .if1 .left in let k = c .before .slice-known2 .given in let q = c .before .before .held .given in omega (arith, y, z, l))
 
--- src/lib.rt:57:1
 same-length : tie.Need-same-length
 same-length c = (c .before .before .put-zeros .ensures (c .before .before .before .before .before .before .before .before .before .before .before .before .before .before .args .text .now) (c .before .before .before .before .before .before .before .before .before .before .before .before .before .before .args .held .now) (copied-all (c .before .before .before .before .before .before .before .before .before .before .before .before .before .before .args .text .now) (c .before .before .before .before .before .before .before .before .before .before .before .before .before .before .args .held .now) _ _ (c .before .before .before .before .before .before .before .before .before .before .held-of .ensures) (c .before .before .before .before .before .before .put-text .ensures (c .before .before .before .before .before .before .before .before .before .before .before .before .before .before .args .held .now) (copied-none (c .before .before .before .before .before .before .before .before .before .before .before .before .before .before .args .text .now) (c .before .before .before .before .before .before .before .before .before .before .before .before .before .before .args .held .now) _ _ _ refl (c .before .before .before .before .before .before .before .before .before .before .before .if1 .left) (c .before .before .before .before .before .before .before .before .before .low-byte .ensures) (c .before .before .before .before .before .before .before .before .high-byte .ensures))))) .done .size
 
--- src/lib.rt:57:1
 returns-2 : tie.Need-returns-2
 returns-2 c = padded-all (c .before .before .before .before .before .before .before .before .before .before .before .before .before .before .args .text .now) (c .before .before .before .before .before .before .before .before .before .before .before .before .before .before .args .held .now) _ (c .before .before .put-zeros .ensures (c .before .before .before .before .before .before .before .before .before .before .before .before .before .before .args .text .now) (c .before .before .before .before .before .before .before .before .before .before .before .before .before .before .args .held .now) (copied-all (c .before .before .before .before .before .before .before .before .before .before .before .before .before .before .args .text .now) (c .before .before .before .before .before .before .before .before .before .before .before .before .before .before .args .held .now) _ _ (c .before .before .before .before .before .before .before .before .before .before .held-of .ensures) (c .before .before .before .before .before .before .put-text .ensures (c .before .before .before .before .before .before .before .before .before .before .before .before .before .before .args .held .now) (copied-none (c .before .before .before .before .before .before .before .before .before .before .before .before .before .before .args .text .now) (c .before .before .before .before .before .before .before .before .before .before .before .before .before .before .args .held .now) _ _ _ refl (c .before .before .before .before .before .before .before .before .before .before .before .if1 .left) (c .before .before .before .before .before .before .before .before .before .low-byte .ensures) (c .before .before .before .before .before .before .before .before .high-byte .ensures)))))
 

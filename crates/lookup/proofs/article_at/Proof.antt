@@ -8,19 +8,15 @@ use Rattle.entries.proofs.table.item_at.Reads as item-at-reads
 use Rattle.entries.proofs.table.num_at.Reads as num-at-reads
 use Rattle.pages.proofs.article_of.Reads as article-of-reads
 
--- src/lib.rt:45:30
 num-at-requires : tie.Need-num-at-requires
 num-at-requires c κs = search needs
 
--- src/lib.rt:45:19
 item-at-requires : tie.Need-item-at-requires
 item-at-requires c κs = search needs
 
--- src/lib.rt:45:5
 article-of-requires : tie.Need-article-of-requires
 article-of-requires c κs = search needs
 
--- src/lib.rt:42:1
 returns : tie.Need-returns
 returns c = λ R props d v l. view-article v _ l _ (c .before .before .num-at .ensures) (c .before .item-at .result) (c .before .item-at .ensures) _ (c .article-of .ensures)
 

@@ -7,15 +7,12 @@ use Rattle.lookup.proofs.holds_passing.Lts as lts
 use Rattle.entries.proofs.table.num_at.Reads as num-at-reads
 use Rattle.pages.proofs.seek.some_inner.Reads as some-inner-reads
 
--- src/lib.rt:76:30
 num-at-requires : tie.Need-num-at-requires
 num-at-requires c κs = search needs
 
--- src/lib.rt:76:5
 some-inner-requires : tie.Need-some-inner-requires
 some-inner-requires c κs = search needs
 
--- src/lib.rt:63:1
 returns : tie.Need-returns
 returns c = λ R props v l f. view-passing v _ l _ (c .before .num-at .ensures) (c .before .before .before .before .before .before .before .args .q .now) (c .before .before .before .before .before .before .before .args .x .now) (c .before .before .before .before .before .before .before .args .k) (c .before .before .before .before .before .before .before .args .test) _ f (c .some-inner .ensures)
 

@@ -7,15 +7,12 @@ use Rattle.lookup.proofs.in_category.Lts as lts
 use Rattle.entries.proofs.table.num_at.Reads as num-at-reads
 use Rattle.pages.proofs.seek.some_inner.Reads as some-inner-reads
 
--- src/lib.rt:59:30
 num-at-requires : tie.Need-num-at-requires
 num-at-requires c κs = search needs
 
--- src/lib.rt:59:5
 some-inner-requires : tie.Need-some-inner-requires
 some-inner-requires c κs = search needs
 
--- src/lib.rt:49:1
 returns : tie.Need-returns
 returns c = λ R props v l. view-category v _ l _ (c .before .num-at .ensures) (c .before .before .before .before .before .before .args .x .now) _ (c .some-inner .ensures)
 

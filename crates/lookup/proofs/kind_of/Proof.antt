@@ -6,11 +6,9 @@ use Rattle.lookup.proofs.kind_of.Reads as reads
 use Rattle.lookup.proofs.kind_of.Lts as lts
 use Rattle.rows.proofs.checks.property_kind.Reads as property-kind-reads
 
--- src/lib.rt:31:5
 property-kind-requires : tie.Need-property-kind-requires
 property-kind-requires c κs = search needs
 
--- src/lib.rt:28:1
 returns : tie.Need-returns
 returns c = λ R pages v. view-kind v _ _ (c .property-kind .ensures)
 

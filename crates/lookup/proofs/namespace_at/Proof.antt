@@ -8,19 +8,15 @@ use Rattle.entries.proofs.table.item_at.Reads as item-at-reads
 use Rattle.entries.proofs.table.num_at.Reads as num-at-reads
 use Rattle.pages.proofs.namespace_of.Reads as namespace-of-reads
 
--- src/lib.rt:38:32
 num-at-requires : tie.Need-num-at-requires
 num-at-requires c κs = search needs
 
--- src/lib.rt:38:21
 item-at-requires : tie.Need-item-at-requires
 item-at-requires c κs = search needs
 
--- src/lib.rt:38:5
 namespace-of-requires : tie.Need-namespace-of-requires
 namespace-of-requires c κs = search needs
 
--- src/lib.rt:35:1
 returns : tie.Need-returns
 returns c = λ R props d v l. view-namespace v _ l _ (c .before .before .num-at .ensures) (c .before .item-at .result) (c .before .item-at .ensures) _ (c .namespace-of .ensures)
 

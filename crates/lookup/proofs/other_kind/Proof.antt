@@ -6,11 +6,9 @@ use Rattle.lookup.proofs.other_kind.Reads as reads
 use Rattle.lookup.proofs.other_kind.Lts as lts
 use Rattle.pages.proofs.seek.some_other.Reads as some-other-reads
 
--- src/lib.rt:91:5
 some-other-requires : tie.Need-some-other-requires
 some-other-requires c κs = search needs
 
--- src/lib.rt:80:1
 returns : tie.Need-returns
 returns c = λ R props v f. view-other v (c .before .before .before .before .before .args .x .now) (c .before .before .before .before .before .args .d) (c .before .before .before .before .before .args .kind) _ f (c .some-other .ensures)
 

@@ -8,47 +8,36 @@ use Rattle.pages.proofs.compare_booleans.Reads as compare-booleans-read
 use Rattle.pages.proofs.stands_as.Reads as stands-as-reads
 use Rattle.values.proofs.read_boolean.Reads as read-boolean-reads
 
--- src/lib.rt:96:11
 read-boolean-requires : tie.Need-read-boolean-requires
 read-boolean-requires c κs = search needs
 
--- src/lib.rt:97:43
 enum-told : tie.Need-enum-told
 enum-told c = search needs
 
--- src/lib.rt:97:43
 compare-booleans-requires : tie.Need-compare-booleans-requires
 compare-booleans-requires c κs = search needs
 
--- src/lib.rt:97:30
 stands-as-requires : tie.Need-stands-as-requires
 stands-as-requires c κs = search needs
 
--- src/lib.rt:98:44
 enum-told-2 : tie.Need-enum-told-2
 enum-told-2 c = search needs
 
--- src/lib.rt:98:44
 compare-booleans-requires-2 : tie.Need-compare-booleans-requires-2
 compare-booleans-requires-2 c κs = search needs
 
--- src/lib.rt:98:31
 stands-as-requires-2 : tie.Need-stands-as-requires-2
 stands-as-requires-2 c κs = search needs
 
--- src/lib.rt:99:31
 enum-told-3 : tie.Need-enum-told-3
 enum-told-3 c = search needs
 
--- src/lib.rt:93:1
 returns : tie.Need-returns
 returns c = search (standing, needs)
 
--- src/lib.rt:93:1
 returns-2 : tie.Need-returns-2
 returns-2 c = search (standing, needs)
 
--- src/lib.rt:93:1
 returns-3 : tie.Need-returns-3
 returns-3 c = search (standing, needs)
 

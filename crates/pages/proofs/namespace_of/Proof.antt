@@ -6,75 +6,57 @@ use Rattle.pages.proofs.namespace_of.Reads as reads
 use Rattle.pages.proofs.namespace_of.Lts as lts
 use Rattle.text.proofs.part.Reads as part-reads
 
--- src/lib.rt:134:22
 enum-told : tie.Need-enum-told
 enum-told c = search needs
 
--- src/lib.rt:134:22
 part-requires : tie.Need-part-requires
 part-requires c κs = search needs
 
--- src/lib.rt:135:22
 enum-told-2 : tie.Need-enum-told-2
 enum-told-2 c = search needs
 
--- src/lib.rt:135:22
 part-requires-2 : tie.Need-part-requires-2
 part-requires-2 c κs = search needs
 
--- src/lib.rt:136:21
 enum-told-3 : tie.Need-enum-told-3
 enum-told-3 c = search needs
 
--- src/lib.rt:136:21
 part-requires-3 : tie.Need-part-requires-3
 part-requires-3 c κs = search needs
 
--- src/lib.rt:137:21
 enum-told-4 : tie.Need-enum-told-4
 enum-told-4 c = search needs
 
--- src/lib.rt:137:21
 part-requires-4 : tie.Need-part-requires-4
 part-requires-4 c κs = search needs
 
--- src/lib.rt:138:23
 enum-told-5 : tie.Need-enum-told-5
 enum-told-5 c = search needs
 
--- src/lib.rt:138:23
 part-requires-5 : tie.Need-part-requires-5
 part-requires-5 c κs = search needs
 
--- src/lib.rt:139:24
 enum-told-6 : tie.Need-enum-told-6
 enum-told-6 c = search needs
 
--- src/lib.rt:139:24
 part-requires-6 : tie.Need-part-requires-6
 part-requires-6 c κs = search needs
 
--- src/lib.rt:128:1
 returns : tie.Need-returns
 returns c = search (names, needs)
 
--- src/lib.rt:128:1
 returns-2 : tie.Need-returns-2
 returns-2 c = search needs
 
--- src/lib.rt:128:1
 returns-3 : tie.Need-returns-3
 returns-3 c = search needs
 
--- src/lib.rt:128:1
 returns-4 : tie.Need-returns-4
 returns-4 c = search needs
 
--- src/lib.rt:128:1
 returns-5 : tie.Need-returns-5
 returns-5 c = search needs
 
--- src/lib.rt:128:1
 returns-6 : tie.Need-returns-6
 returns-6 c = search needs
 

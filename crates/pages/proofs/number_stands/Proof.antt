@@ -8,31 +8,24 @@ use Rattle.pages.proofs.stands_as.Reads as stands-as-reads
 use Rattle.text.proofs.compare_numbers.Reads as compare-numbers-reads
 use Rattle.values.proofs.read_number.Reads as read-number-reads
 
--- src/lib.rt:86:11
 read-number-requires : tie.Need-read-number-requires
 read-number-requires c κs = search needs
 
--- src/lib.rt:87:28
 enum-known-a : tie.Need-enum-known-a
 enum-known-a c = search needs
 
--- src/lib.rt:87:47
 compare-numbers-requires : tie.Need-compare-numbers-requires
 compare-numbers-requires c κs = search needs
 
--- src/lib.rt:87:34
 stands-as-requires : tie.Need-stands-as-requires
 stands-as-requires c κs = search needs
 
--- src/lib.rt:88:30
 enum-told : tie.Need-enum-told
 enum-told c = search needs
 
--- src/lib.rt:83:1
 returns : tie.Need-returns
 returns c = search (standing, needs)
 
--- src/lib.rt:83:1
 returns-2 : tie.Need-returns-2
 returns-2 c = search (standing, needs)
 

@@ -10,115 +10,87 @@ use Rattle.pages.proofs.stands_as.Reads as stands-as-reads
 use Rattle.text.proofs.compare.Reads as compare-reads
 use Rattle.text.proofs.part.Reads as part-reads
 
--- src/lib.rt:108:23
 enum-told : tie.Need-enum-told
 enum-told c = search needs
 
--- src/lib.rt:109:25
 enum-told-2 : tie.Need-enum-told-2
 enum-told-2 c = search needs
 
--- src/lib.rt:110:30
 enum-known-w : tie.Need-enum-known-w
 enum-known-w c = search needs
 
--- src/lib.rt:110:36
 number-stands-requires : tie.Need-number-stands-requires
 number-stands-requires c κs = search needs
 
--- src/lib.rt:111:37
 enum-told-3 : tie.Need-enum-told-3
 enum-told-3 c = search needs
 
--- src/lib.rt:112:36
 enum-told-4 : tie.Need-enum-told-4
 enum-told-4 c = search needs
 
--- src/lib.rt:114:26
 enum-told-5 : tie.Need-enum-told-5
 enum-told-5 c = search needs
 
--- src/lib.rt:115:36
 enum-told-6 : tie.Need-enum-told-6
 enum-told-6 c = search needs
 
--- src/lib.rt:116:31
 enum-known-w-2 : tie.Need-enum-known-w-2
 enum-known-w-2 c = search needs
 
--- src/lib.rt:116:37
 boolean-stands-requires : tie.Need-boolean-stands-requires
 boolean-stands-requires c κs = search needs
 
--- src/lib.rt:117:36
 enum-told-7 : tie.Need-enum-told-7
 enum-told-7 c = search needs
 
--- src/lib.rt:119:25
 enum-told-8 : tie.Need-enum-told-8
 enum-told-8 c = search needs
 
--- src/lib.rt:120:36
 enum-told-9 : tie.Need-enum-told-9
 enum-told-9 c = search needs
 
--- src/lib.rt:121:37
 enum-told-10 : tie.Need-enum-told-10
 enum-told-10 c = search needs
 
--- src/lib.rt:122:30
 enum-known-w-3 : tie.Need-enum-known-w-3
 enum-known-w-3 c = search needs
 
--- src/lib.rt:122:60
 part-requires : tie.Need-part-requires
 part-requires c κs = search needs
 
--- src/lib.rt:122:49
 compare-requires : tie.Need-compare-requires
 compare-requires c κs = search needs
 
--- src/lib.rt:122:36
 stands-as-requires : tie.Need-stands-as-requires
 stands-as-requires c κs = search needs
 
--- src/lib.rt:104:1
 returns : tie.Need-returns
 returns c = search (kindsOf, needs)
 
--- src/lib.rt:104:1
 returns-2 : tie.Need-returns-2
 returns-2 c = search (kindsOf, needs)
 
--- src/lib.rt:104:1
 returns-3 : tie.Need-returns-3
 returns-3 c = search (kindsOf, needs)
 
--- src/lib.rt:104:1
 returns-4 : tie.Need-returns-4
 returns-4 c = search (kindsOf, needs)
 
--- src/lib.rt:104:1
 returns-5 : tie.Need-returns-5
 returns-5 c = search (kindsOf, needs)
 
--- src/lib.rt:104:1
 returns-6 : tie.Need-returns-6
 returns-6 c = search (kindsOf, needs)
 
--- src/lib.rt:104:1
 returns-7 : tie.Need-returns-7
 returns-7 c = search (kindsOf, needs)
 
--- src/lib.rt:104:1
 returns-8 : tie.Need-returns-8
 returns-8 c = search (kindsOf, needs)
 
--- src/lib.rt:104:1
 returns-9 : tie.Need-returns-9
 returns-9 c = search (kindsOf, needs)
 
--- src/lib.rt:104:1
 returns-10 : tie.Need-returns-10
 returns-10 c = search (kindsOf, needs)
 

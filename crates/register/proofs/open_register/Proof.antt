@@ -9,47 +9,36 @@ use Rattle.held.proofs.is_form.Reads as is-form-reads
 use Rattle.held.proofs.text_in.Reads as text-in-reads
 use Rattle.rows.proofs.judge.Reads as judge-reads
 
--- src/lib.rt:37:9
 text-in-requires : tie.Need-text-in-requires
 text-in-requires c κs = search needs
 
--- src/lib.rt:38:9
 judge-requires : tie.Need-judge-requires
 judge-requires c κs = search needs
 
--- src/lib.rt:39:8
 is-form-requires : tie.Need-is-form-requires
 is-form-requires c κs = search needs
 
--- src/lib.rt:40:9
 same-length : tie.Need-same-length
 same-length c = search needs
 
--- src/lib.rt:40:9
 same-length-2 : tie.Need-same-length-2
 same-length-2 c = search needs
 
--- src/lib.rt:40:9
 same-length-3 : tie.Need-same-length-3
 same-length-3 c = search needs
 
--- src/lib.rt:40:9
 returns : tie.Need-returns
 returns c = λ room. opens-form _ _ _ _ _ _ _ (c .before .before .before .before .before .before .before .before .before .before .before .before .text-in .ensures) (c .before .is-form .ensures) (c .if1 .taken) ((c .before .before .before .before .before .before .before .before .judge .ensures) room)
 
--- src/lib.rt:34:1
 same-length-4 : tie.Need-same-length-4
 same-length-4 c = search needs
 
--- src/lib.rt:34:1
 same-length-5 : tie.Need-same-length-5
 same-length-5 c = search needs
 
--- src/lib.rt:34:1
 same-length-6 : tie.Need-same-length-6
 same-length-6 c = search needs
 
--- src/lib.rt:34:1
 returns-2 : tie.Need-returns-2
 returns-2 c = λ room. opens-not _ _ _ _ _ _ _ (c .before .before .before .before .before .before .before .before .before .before .before .before .text-in .ensures) (c .before .is-form .ensures) (c .if1 .left) refl
 

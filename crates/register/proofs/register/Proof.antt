@@ -21,39 +21,30 @@ use Rattle.rows.proofs.judge.Reads as judge-reads
 judged : {s : Bytes} {t props pages : List ℕ} {r : Judged} → (Room (replicate 27500 0) (replicate 5500 0) (replicate 5500 0) → Judges s t props pages r) → r .number ≡ numberOf (readRegister s)
 judged h = h (record { rows = omega (arith, length-replicate {A = ℕ} 27500 0); properties = omega (arith, length-replicate {A = ℕ} 5500 0); places = omega (arith, length-replicate {A = ℕ} 5500 0) }) .number
 
--- src/lib.rt:21:30
 slice-aggregate-judge : tie.Need-slice-aggregate-judge
 slice-aggregate-judge c = search needs
 
--- src/lib.rt:21:38
 slice-aggregate-judge-2 : tie.Need-slice-aggregate-judge-2
 slice-aggregate-judge-2 c = search needs
 
--- src/lib.rt:21:50
 slice-aggregate-judge-3 : tie.Need-slice-aggregate-judge-3
 slice-aggregate-judge-3 c = search needs
 
--- src/lib.rt:21:9
 judge-requires : tie.Need-judge-requires
 judge-requires c κs = search needs
 
--- src/lib.rt:24:9
 returns : tie.Need-returns
 returns c = call-refused _ _ _ (judged (c .before .before .before .before .judge .ensures)) (λ z. omega (arith, z, c .if1 .taken))
 
--- src/lib.rt:27:9
 returns-2 : tie.Need-returns-2
 returns-2 c = call-short _ _ _ (judged (c .before .before .before .before .before .judge .ensures)) (c .before .if1 .left) (omega (arith, c .if2 .taken))
 
--- src/lib.rt:29:5
 write-form-requires : tie.Need-write-form-requires
 write-form-requires c κs = search needs
 
--- src/lib.rt:15:1
 same-length : tie.Need-same-length
 same-length c = search needs
 
--- src/lib.rt:15:1
 returns-3 : tie.Need-returns-3
 returns-3 c = call-done _ _ _ (judged (c .before .before .before .before .before .before .before .before .before .judge .ensures)) (c .before .before .before .before .before .if1 .left) _ (c .before .before .before .before .if2 .left) (c .before .before .write-form .ensures)
 

@@ -7,15 +7,12 @@ use Rattle.lookup.proofs.codes.first_like.Reads as reads
 use Rattle.lookup.proofs.codes.first_like.Lts as lts
 use Rattle.entries.proofs.table.num_at.Reads as num-at-reads
 
--- src/codes.rt:86:9
 num-at-requires : tie.Need-num-at-requires
 num-at-requires c κs = search needs
 
--- src/codes.rt:83:1
 returns : tie.Need-returns
 returns c = λ m a. none-before _ _ _ _ _ m (c .before .num-at .ensures) (omega arith) (omega arith) a
 
--- src/codes.rt:83:1
 returns-2 : tie.Need-returns-2
 returns-2 c = λ m a. none-before _ _ _ _ _ m (c .before .num-at .ensures) (omega arith) (omega arith) a
 

@@ -6,15 +6,12 @@ use Rattle.lookup.proofs.codes.hash_of.Reads as reads
 use Rattle.lookup.proofs.codes.hash_of.Lts as lts
 use Rattle.text.proofs.hash.hash_from.Reads as hash-from-reads
 
--- src/codes.rt:51:15
 hash-from-requires : tie.Need-hash-from-requires
 hash-from-requires c κs = search needs
 
--- src/codes.rt:51:5
 hash-from-requires-2 : tie.Need-hash-from-requires-2
 hash-from-requires-2 c κs = search needs
 
--- src/codes.rt:48:1
 returns : tie.Need-returns
 unfolding hashOf
 returns c = rw (c .hash-from2 .ensures, c .before .hash-from .ensures)

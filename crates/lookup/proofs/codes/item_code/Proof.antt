@@ -8,23 +8,18 @@ use Rattle.lookup.proofs.codes.value_code.Reads as value-code-reads
 use Rattle.pages.proofs.seek.is_val.Reads as is-val-reads
 use Rattle.text.proofs.part.Reads as part-reads
 
--- src/codes.rt:153:9
 is-val-requires : tie.Need-is-val-requires
 is-val-requires c κs = search needs
 
--- src/codes.rt:154:9
 returns : tie.Need-returns
 returns c = λ a. code-other (c .before .before .before .before .before .before .before .before .args .s .now) (c .before .before .before .before .before .before .before .before .args .t .now) (c .before .before .before .before .before .before .before .before .args .rows .now) (c .before .before .before .before .before .before .before .before .args .m) (c .before .before .before .before .before .before .before .before .args .item) _ (c .before .is-val .ensures) (c .if1 .taken)
 
--- src/codes.rt:156:39
 part-requires : tie.Need-part-requires
 part-requires c κs = search needs
 
--- src/codes.rt:156:5
 value-code-requires : tie.Need-value-code-requires
 value-code-requires c κs = search needs
 
--- src/codes.rt:148:1
 returns-2 : tie.Need-returns-2
 returns-2 c = λ a. code-val (c .before .before .before .before .before .before .before .before .before .before .args .s .now) (c .before .before .before .before .before .before .before .before .before .before .args .t .now) (c .before .before .before .before .before .before .before .before .before .before .args .rows .now) (c .before .before .before .before .before .before .before .before .before .before .args .m) (c .before .before .before .before .before .before .before .before .before .before .args .item) _ (c .before .before .before .is-val .ensures) _ _ (c .before .before .if1 .left) (c .before .part .ensures) (c .value-code .ensures a)
 

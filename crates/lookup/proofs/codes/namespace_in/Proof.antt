@@ -6,19 +6,15 @@ use Rattle.lookup.proofs.codes.namespace_in.Reads as reads
 use Rattle.lookup.proofs.codes.namespace_in.Lts as lts
 use Rattle.text.proofs.part.Reads as part-reads
 
--- src/codes.rt:122:9
 part-requires : tie.Need-part-requires
 part-requires c κs = search needs
 
--- src/codes.rt:122:9
 returns : tie.Need-returns
 returns c = search (parts, needs)
 
--- src/codes.rt:124:5
 part-requires-2 : tie.Need-part-requires-2
 part-requires-2 c κs = search needs
 
--- src/codes.rt:116:1
 returns-2 : tie.Need-returns-2
 returns-2 c = search needs
 

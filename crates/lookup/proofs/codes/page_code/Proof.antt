@@ -17,43 +17,33 @@ Inv-loop s t rows m hashes slots namespace article h k₀ k = HashIndex s t rows
 abbrev μ-loop : tie.MeasureT-loop
 μ-loop s t rows m hashes slots namespace article h k₀ k = m - k
 
--- src/codes.rt:101:9
 hash-of-requires : tie.Need-hash-of-requires Inv-loop μ-loop
 hash-of-requires c κs = search needs
 
--- src/codes.rt:127:9
 first-like-requires : tie.Need-first-like-requires Inv-loop μ-loop
 first-like-requires c κs = search needs
 
--- src/codes.rt:103:5
 loop-holds : tie.Need-loop-holds Inv-loop μ-loop
 loop-holds c = λ a. passed-start _ _ _ _ _ _ _ _ _ a (c .before .hash-of .ensures) (c .first-like .ensures _ (a .slotted))
 
--- src/codes.rt:105:13
 returns : tie.Need-returns Inv-loop μ-loop
 returns c = λ a. passed-end (c .before .before .before .before .before .before .before .before .before .before .before .before .args .s .now) (c .before .before .before .before .before .before .before .before .before .before .before .before .args .t .now) (c .before .before .before .before .before .before .before .before .before .before .before .before .args .rows .now) (c .before .before .before .before .before .before .before .before .before .before .before .before .args .m) (record { namespace = c .before .before .before .before .before .before .before .before .before .before .before .before .args .namespace .now; article = c .before .before .before .before .before .before .before .before .before .before .before .before .args .article .now }) _ (c .before .before .loop .inv a) (c .if1 .taken)
 
--- src/codes.rt:107:12
 is-page-requires : tie.Need-is-page-requires Inv-loop μ-loop
 is-page-requires c κs = search needs
 
--- src/codes.rt:108:13
 returns-2 : tie.Need-returns-2 Inv-loop μ-loop
 returns-2 c = λ a. passed-found (c .before .before .before .before .before .before .before .before .before .before .before .before .before .before .args .s .now) (c .before .before .before .before .before .before .before .before .before .before .before .before .before .before .args .t .now) (c .before .before .before .before .before .before .before .before .before .before .before .before .before .before .args .rows .now) (c .before .before .before .before .before .before .before .before .before .before .before .before .before .before .args .m) (record { namespace = c .before .before .before .before .before .before .before .before .before .before .before .before .before .before .args .namespace .now; article = c .before .before .before .before .before .before .before .before .before .before .before .before .before .before .args .article .now }) _ (c .before .before .before .before .loop .inv a) (c .before .before .before .loop-test .taken) (c .before .before .if1 .left) _ (c .before .is-page .ensures (c .before .before .before .before .before .before .before .before .before .before .before .before .before .before .args .m) (a .hashed) (c .before .before .before .loop-test .taken) (c .before .before .before .before .before .before .hash-of .ensures)) (c .if2 .taken)
 
--- src/codes.rt:110:9
 add-k : tie.Need-add-k Inv-loop μ-loop
 add-k c = omega arith
 
--- src/codes.rt:103:5
 loop-less : tie.Need-loop-less Inv-loop μ-loop
 loop-less c = omega arith
 
--- src/codes.rt:103:5
 loop-again : tie.Need-loop-again Inv-loop μ-loop
 loop-again c = λ a. passed-more (c .before .before .before .before .before .before .before .before .before .before .before .before .before .before .args .s .now) (c .before .before .before .before .before .before .before .before .before .before .before .before .before .before .args .t .now) (c .before .before .before .before .before .before .before .before .before .before .before .before .before .before .args .rows .now) (c .before .before .before .before .before .before .before .before .before .before .before .before .before .before .args .m) (record { namespace = c .before .before .before .before .before .before .before .before .before .before .before .before .before .before .args .namespace .now; article = c .before .before .before .before .before .before .before .before .before .before .before .before .before .before .args .article .now }) _ (c .before .before .before .before .loop .inv a) (c .before .before .before .loop-test .taken) (c .before .before .if1 .left) _ (c .before .is-page .ensures (c .before .before .before .before .before .before .before .before .before .before .before .before .before .before .args .m) (a .hashed) (c .before .before .before .loop-test .taken) (c .before .before .before .before .before .before .hash-of .ensures)) (c .if2 .left)
 
--- src/codes.rt:90:1
 returns-3 : tie.Need-returns-3 Inv-loop μ-loop
 returns-3 c = λ a. passed-all (c .before .before .before .before .before .before .before .before .before .before .before .args .s .now) (c .before .before .before .before .before .before .before .before .before .before .before .args .t .now) (c .before .before .before .before .before .before .before .before .before .before .before .args .rows .now) (c .before .before .before .before .before .before .before .before .before .before .before .args .m) (record { namespace = c .before .before .before .before .before .before .before .before .before .before .before .args .namespace .now; article = c .before .before .before .before .before .before .before .before .before .before .before .args .article .now }) _ (c .before .loop .inv a) (c .loop-test .left)
 

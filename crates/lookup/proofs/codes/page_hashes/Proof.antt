@@ -23,51 +23,39 @@ Inv-loop s t rows m hashes₀ k₀ hashes k = Hashed s t rows k hashes × (lengt
 abbrev μ-loop : tie.MeasureT-loop
 μ-loop s t rows m hashes₀ k₀ hashes k = m - k
 
--- src/codes.rt:59:5
 loop-holds : tie.Need-loop-holds Inv-loop μ-loop
 loop-holds c = (tabled-none _ _, refl)
 
--- src/codes.rt:60:31
 num-at-requires : tie.Need-num-at-requires Inv-loop μ-loop
 num-at-requires c κs = search needs
 
--- src/codes.rt:60:13
 item-at-requires : tie.Need-item-at-requires Inv-loop μ-loop
 item-at-requires c κs = search needs
 
--- src/codes.rt:61:32
 namespace-of-requires : tie.Need-namespace-of-requires Inv-loop μ-loop
 namespace-of-requires c κs = search needs
 
--- src/codes.rt:61:55
 article-of-requires : tie.Need-article-of-requires Inv-loop μ-loop
 article-of-requires c κs = search needs
 
--- src/codes.rt:61:24
 hash-of-requires : tie.Need-hash-of-requires Inv-loop μ-loop
 hash-of-requires c κs = search needs
 
--- src/codes.rt:61:9
 put-requires : tie.Need-put-requires Inv-loop μ-loop
 put-requires c κs = search needs
 
--- src/codes.rt:62:9
 add-k : tie.Need-add-k Inv-loop μ-loop
 add-k c = omega arith
 
--- src/codes.rt:59:5
 loop-less : tie.Need-loop-less Inv-loop μ-loop
 loop-less c = omega arith
 
--- src/codes.rt:59:5
 loop-again : tie.Need-loop-again Inv-loop μ-loop
 loop-again c = (hashed-more _ _ (c .before .before .before .before .before .before .before .before .before .before .before .before .before .before .before .args .rows .now) (c .before .before .before .before .before .before .before .before .before .before .loop .k) (c .before .before .before .before .before .before .before .before .before .before .loop .hashes) _ _ (c .before .before .before .before .before .before .before .item-at .result) _ _ _ (c .before .before .before .before .before .before .before .before .before .before .loop .inv .0) (c .before .before .before .before .before .before .before .before .num-at .ensures) (c .before .before .before .before .before .before .before .item-at .ensures) (c .before .before .before .before .before .namespace-of .ensures) (c .before .before .before .before .article-of .ensures) (c .before .before .before .hash-of .ensures) (c .before .before .put .ensures), ap length (c .before .before .put .ensures) ∙ simp length-set (c .before .before .before .before .before .before .before .before .before .before .loop .inv .1))
 
--- src/codes.rt:55:1
 same-length : tie.Need-same-length Inv-loop μ-loop
 same-length c = c .before .loop .inv .1
 
--- src/codes.rt:55:1
 returns : tie.Need-returns Inv-loop μ-loop
 returns c = tabled-less _ _ _ _ (c .before .loop .inv .0) (c .loop-test .left)
 

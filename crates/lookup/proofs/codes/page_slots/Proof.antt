@@ -17,35 +17,27 @@ Inv-loop hashes m slots₀ k₀ slots k = Slotted hashes k m slots × (length sl
 abbrev μ-loop : tie.MeasureT-loop
 μ-loop hashes m slots₀ k₀ slots k = k
 
--- src/codes.rt:76:5
 loop-holds : tie.Need-loop-holds Inv-loop μ-loop
 loop-holds c = (slotted-none _ _ _, refl)
 
--- src/codes.rt:77:9
 sub-k : tie.Need-sub-k Inv-loop μ-loop
 sub-k c = omega arith
 
--- src/codes.rt:78:20
 num-at-requires : tie.Need-num-at-requires Inv-loop μ-loop
 num-at-requires c κs = search needs
 
--- src/codes.rt:78:9
 put-requires : tie.Need-put-requires Inv-loop μ-loop
 put-requires c κs = search needs
 
--- src/codes.rt:76:5
 loop-less : tie.Need-loop-less Inv-loop μ-loop
 loop-less c = omega arith
 
--- src/codes.rt:76:5
 loop-again : tie.Need-loop-again Inv-loop μ-loop
 loop-again c = (slotted-more (c .before .before .before .before .before .before .before .before .before .args .hashes .now) _ (c .before .before .before .before .before .before .loop .k) _ _ _ _ (c .before .before .before .before .before .before .loop .inv .0) (omega arith) (c .before .before .before .num-at .ensures) (c .before .before .put .ensures), ap length (c .before .before .put .ensures) ∙ simp length-set (c .before .before .before .before .before .before .loop .inv .1))
 
--- src/codes.rt:72:1
 same-length : tie.Need-same-length Inv-loop μ-loop
 same-length c = c .before .loop .inv .1
 
--- src/codes.rt:72:1
 returns : tie.Need-returns Inv-loop μ-loop
 returns c = slotted-all _ _ _ _ (c .before .loop .inv .0) (omega arith)
 

@@ -10,35 +10,27 @@ use Rattle.text.proofs.part.Reads as part-reads
 use Rattle.values.proofs.is_reference.Reads as is-reference-reads
 use Rattle.values.proofs.split_reference.Reads as split-reference-reads
 
--- src/codes.rt:156:9
 split-reference-requires : tie.Need-split-reference-requires
 split-reference-requires c κs = search needs
 
--- src/codes.rt:165:9
 namespace-in-requires : tie.Need-namespace-in-requires
 namespace-in-requires c κs = search needs
 
--- src/codes.rt:166:9
 part-requires : tie.Need-part-requires
 part-requires c κs = search needs
 
--- src/codes.rt:158:9
 page-code-requires : tie.Need-page-code-requires
 page-code-requires c κs = search needs
 
--- src/codes.rt:169:9
 returns : tie.Need-returns
 returns c = λ a. link-nowhere (c .before .before .before .before .before .before .before .before .before .before .before .before .args .s .now) (c .before .before .before .before .before .before .before .before .before .before .before .before .args .t .now) (c .before .before .before .before .before .before .before .before .before .before .before .before .args .rows .now) (c .before .before .before .before .before .before .before .before .before .before .before .before .args .m) (c .before .before .before .before .before .before .before .before .before .before .before .before .args .v .now) (c .before .before .before .before .before .split-reference .result) _ _ _ (c .before .before .before .before .before .split-reference .ensures) (c .before .before .before .namespace-in .ensures) (c .before .before .part .ensures) (c .before .page-code .ensures a) (c .if1 .taken)
 
--- src/codes.rt:171:8
 is-reference-requires : tie.Need-is-reference-requires
 is-reference-requires c κs = search needs
 
--- src/codes.rt:153:1
 returns-2 : tie.Need-returns-2
 returns-2 c = λ a. link-page (c .before .before .before .before .before .before .before .before .before .before .before .before .before .before .args .s .now) (c .before .before .before .before .before .before .before .before .before .before .before .before .before .before .args .t .now) (c .before .before .before .before .before .before .before .before .before .before .before .before .before .before .args .rows .now) (c .before .before .before .before .before .before .before .before .before .before .before .before .before .before .args .m) (c .before .before .before .before .before .before .before .before .before .before .before .before .before .before .args .v .now) (c .before .before .before .before .before .before .before .split-reference .result) _ _ _ (c .before .before .before .before .before .before .before .split-reference .ensures) (c .before .before .before .before .before .namespace-in .ensures) (c .before .before .before .before .part .ensures) (c .before .before .before .page-code .ensures a) _ (c .before .is-reference .ensures) (c .if2 .taken)
 
--- src/codes.rt:153:1
 returns-3 : tie.Need-returns-3
 returns-3 c = λ a. link-none (c .before .before .before .before .before .before .before .before .before .before .before .before .before .before .args .s .now) (c .before .before .before .before .before .before .before .before .before .before .before .before .before .before .args .t .now) (c .before .before .before .before .before .before .before .before .before .before .before .before .before .before .args .rows .now) (c .before .before .before .before .before .before .before .before .before .before .before .before .before .before .args .m) (c .before .before .before .before .before .before .before .before .before .before .before .before .before .before .args .v .now) (c .before .before .before .before .before .before .before .split-reference .result) _ _ _ (c .before .before .before .before .before .before .before .split-reference .ensures) (c .before .before .before .before .before .namespace-in .ensures) (c .before .before .before .before .part .ensures) (c .before .before .before .page-code .ensures a) _ (c .before .is-reference .ensures) (c .if2 .left)
 

@@ -9,35 +9,27 @@ use Rattle.pages.proofs.seek.value_passes.Reads as value-passes-reads
 use Rattle.text.proofs.part.Reads as part-reads
 use Rattle.text.proofs.same_bytes.Reads as same-bytes-reads
 
--- src/seek.rt:78:9
 is-val-requires : tie.Need-is-val-requires
 is-val-requires c κs = search needs
 
--- src/seek.rt:79:9
 returns : tie.Need-returns
 returns c = search (seeking, needs)
 
--- src/seek.rt:81:20
 part-requires : tie.Need-part-requires
 part-requires c κs = search needs
 
--- src/seek.rt:81:9
 same-bytes-requires : tie.Need-same-bytes-requires
 same-bytes-requires c κs = search needs
 
--- src/seek.rt:82:9
 returns-2 : tie.Need-returns-2
 returns-2 c = search (seeking, needs)
 
--- src/seek.rt:84:21
 part-requires-2 : tie.Need-part-requires-2
 part-requires-2 c κs = search needs
 
--- src/seek.rt:84:5
 value-passes-requires : tie.Need-value-passes-requires
 value-passes-requires c κs = search needs
 
--- src/seek.rt:72:1
 returns-3 : tie.Need-returns-3
 returns-3 c = search (seeking, needs)
 

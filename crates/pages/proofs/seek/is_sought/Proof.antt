@@ -7,27 +7,21 @@ use Rattle.pages.proofs.seek.is_sought.Lts as lts
 use Rattle.pages.proofs.seek.holds_value.Reads as holds-value-reads
 use Rattle.pages.proofs.seek.puts_in.Reads as puts-in-reads
 
--- src/seek.rt:72:27
 enum-told : tie.Need-enum-told
 enum-told c = search needs
 
--- src/seek.rt:72:27
 puts-in-requires : tie.Need-puts-in-requires
 puts-in-requires c κs = search needs
 
--- src/seek.rt:73:21
 enum-known-look : tie.Need-enum-known-look
 enum-known-look c = search needs
 
--- src/seek.rt:73:30
 holds-value-requires : tie.Need-holds-value-requires
 holds-value-requires c κs = search needs
 
--- src/seek.rt:68:1
 returns : tie.Need-returns
 returns c = search (seeking, needs)
 
--- src/seek.rt:68:1
 returns-2 : tie.Need-returns-2
 returns-2 c = search (seeking, needs)
 

@@ -7,59 +7,45 @@ use Rattle.pages.proofs.seek.puts_in.Lts as lts
 use Rattle.text.proofs.part.Reads as part-reads
 use Rattle.text.proofs.same_bytes.Reads as same-bytes-reads
 
--- src/seek.rt:40:35
 enum-told : tie.Need-enum-told
 enum-told c = search needs
 
--- src/seek.rt:40:35
 part-requires : tie.Need-part-requires
 part-requires c κs = search needs
 
--- src/seek.rt:40:21
 same-bytes-requires : tie.Need-same-bytes-requires
 same-bytes-requires c κs = search needs
 
--- src/seek.rt:41:22
 enum-told-2 : tie.Need-enum-told-2
 enum-told-2 c = search needs
 
--- src/seek.rt:42:22
 enum-told-3 : tie.Need-enum-told-3
 enum-told-3 c = search needs
 
--- src/seek.rt:43:21
 enum-told-4 : tie.Need-enum-told-4
 enum-told-4 c = search needs
 
--- src/seek.rt:44:23
 enum-told-5 : tie.Need-enum-told-5
 enum-told-5 c = search needs
 
--- src/seek.rt:45:24
 enum-told-6 : tie.Need-enum-told-6
 enum-told-6 c = search needs
 
--- src/seek.rt:34:1
 returns : tie.Need-returns
 returns c = search (seeking, needs)
 
--- src/seek.rt:34:1
 returns-2 : tie.Need-returns-2
 returns-2 c = search needs
 
--- src/seek.rt:34:1
 returns-3 : tie.Need-returns-3
 returns-3 c = search needs
 
--- src/seek.rt:34:1
 returns-4 : tie.Need-returns-4
 returns-4 c = search needs
 
--- src/seek.rt:34:1
 returns-5 : tie.Need-returns-5
 returns-5 c = search needs
 
--- src/seek.rt:34:1
 returns-6 : tie.Need-returns-6
 returns-6 c = search needs
 

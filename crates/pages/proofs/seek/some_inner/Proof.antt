@@ -17,51 +17,39 @@ Inv-loop s t n row x k look q j₀ j = Sought (looks q (kindOf k) x look) s t n 
 abbrev μ-loop : tie.MeasureT-loop
 μ-loop s t n row x k look q j₀ j = n - j
 
--- src/seek.rt:96:9
 returns : tie.Need-returns Inv-loop μ-loop
 returns c = sought-outside _ _ _ _ _ (c .if1 .taken)
 
--- src/seek.rt:98:17
 add-j : tie.Need-add-j Inv-loop μ-loop
 add-j c = omega arith
 
--- src/seek.rt:99:5
 loop-holds : tie.Need-loop-holds Inv-loop μ-loop
 loop-holds c = sought-start _ _ _ _ _ (c .if1 .left)
 
--- src/seek.rt:100:13
 item-at-requires : tie.Need-item-at-requires Inv-loop μ-loop
 item-at-requires c κs = search needs
 
--- src/seek.rt:102:13
 is-inner-requires : tie.Need-is-inner-requires Inv-loop μ-loop
 is-inner-requires c κs = search needs
 
--- src/seek.rt:103:13
 returns-2 : tie.Need-returns-2 Inv-loop μ-loop
 returns-2 c = sought-stop _ _ _ _ _ _ (c .before .before .before .before .loop .inv) (c .before .before .before .loop-test .taken) (c .before .before .item-at .result) (c .before .before .item-at .ensures) _ (c .before .is-inner .ensures) (c .if2 .taken)
 
--- src/seek.rt:105:12
 is-sought-requires : tie.Need-is-sought-requires Inv-loop μ-loop
 is-sought-requires c κs = search needs
 
--- src/seek.rt:106:13
 returns-3 : tie.Need-returns-3 Inv-loop μ-loop
 returns-3 c = sought-found _ _ _ _ _ _ (c .before .before .before .before .before .before .loop .inv) (c .before .before .before .before .before .loop-test .taken) (c .before .before .before .before .item-at .result) (c .before .before .before .before .item-at .ensures) _ _ (c .before .before .before .is-inner .ensures) (c .before .before .if2 .left) (c .before .is-sought .ensures) (c .if3 .taken)
 
--- src/seek.rt:108:9
 add-j-2 : tie.Need-add-j-2 Inv-loop μ-loop
 add-j-2 c = omega arith
 
--- src/seek.rt:99:5
 loop-less : tie.Need-loop-less Inv-loop μ-loop
 loop-less c = omega arith
 
--- src/seek.rt:99:5
 loop-again : tie.Need-loop-again Inv-loop μ-loop
 loop-again c = sought-next _ _ _ _ _ _ (c .before .before .before .before .before .before .loop .inv) (c .before .before .before .before .before .loop-test .taken) (c .before .before .before .before .item-at .result) (c .before .before .before .before .item-at .ensures) _ _ (c .before .before .before .is-inner .ensures) (c .before .before .if2 .left) (c .before .is-sought .ensures) (c .if3 .left)
 
--- src/seek.rt:92:1
 returns-4 : tie.Need-returns-4 Inv-loop μ-loop
 returns-4 c = sought-end _ _ _ _ _ _ (c .before .loop .inv) (c .loop-test .left)
 

@@ -8,31 +8,24 @@ use Rattle.pages.proofs.seek.some_other.Lts as lts
 use Rattle.pages.proofs.seek.same_kind.Reads as same-kind-reads
 use Rattle.pages.proofs.seek.some_page_holds.Reads as some-page-holds-reads
 
--- src/seek.rt:198:24
 enum-known-d : tie.Need-enum-known-d
 enum-known-d c = search needs
 
--- src/seek.rt:199:16
 same-kind-requires : tie.Need-same-kind-requires
 same-kind-requires c κs = search needs
 
--- src/seek.rt:200:17
 returns : tie.Need-returns
 returns c = other-same (c .before .before .before .before .before .before .before .before .before .args .s .now) (c .before .before .before .before .before .before .before .before .before .args .t .now) (c .before .before .before .before .before .before .before .before .before .args .n) (take (c .before .before .before .before .before .before .before .before .before .args .m) (c .before .before .before .before .before .before .before .before .before .args .rows .now)) (c .before .before .before .before .before .before .before .before .before .args .x .now) _ _ _ _ (c .before .before .before .d .given .1) (c .before .same-kind .ensures) (c .if1 .taken)
 
--- src/seek.rt:202:13
 some-page-holds-requires : tie.Need-some-page-holds-requires
 some-page-holds-requires c κs = search needs
 
--- src/seek.rt:204:30
 enum-told : tie.Need-enum-told
 enum-told c = search needs
 
--- src/seek.rt:185:1
 returns-2 : tie.Need-returns-2
 returns-2 c = other-held (c .before .before .before .before .before .before .before .before .before .before .args .s .now) (c .before .before .before .before .before .before .before .before .before .before .args .t .now) (c .before .before .before .before .before .before .before .before .before .before .args .n) (take (c .before .before .before .before .before .before .before .before .before .before .args .m) (c .before .before .before .before .before .before .before .before .before .before .args .rows .now)) (c .before .before .before .before .before .before .before .before .before .before .args .x .now) _ _ _ _ (c .before .before .before .before .d .given .1) (c .before .before .same-kind .ensures) (c .before .if1 .left) _ (c .some-page-holds .ensures)
 
--- src/seek.rt:185:1
 returns-3 : tie.Need-returns-3
 returns-3 c = search (others, needs)
 

@@ -16,35 +16,27 @@ Inv-loop s t n rows m x k some₀ a₀ some a = Looked (holdsSome s t n x (kindO
 abbrev μ-loop : tie.MeasureT-loop
 μ-loop s t n rows m x k some₀ a₀ some a = m - a
 
--- src/seek.rt:133:5
 loop-holds : tie.Need-loop-holds Inv-loop μ-loop
 loop-holds c = looked-none _ _ _
 
--- src/seek.rt:135:13
 returns : tie.Need-returns Inv-loop μ-loop
 returns c = looked-end _ _ _ _ _ (c .before .before .loop .inv) (c .if1 .taken)
 
--- src/seek.rt:137:43
 num-at-requires : tie.Need-num-at-requires Inv-loop μ-loop
 num-at-requires c κs = search needs
 
--- src/seek.rt:137:23
 some-inner-requires : tie.Need-some-inner-requires Inv-loop μ-loop
 some-inner-requires c κs = search needs
 
--- src/seek.rt:138:9
 add-a : tie.Need-add-a Inv-loop μ-loop
 add-a c = omega arith
 
--- src/seek.rt:133:5
 loop-less : tie.Need-loop-less Inv-loop μ-loop
 loop-less c = omega arith
 
--- src/seek.rt:133:5
 loop-again : tie.Need-loop-again Inv-loop μ-loop
 loop-again c = looked-more _ _ _ _ _ (c .before .before .before .before .loop .inv) (c .before .before .before .loop-test .taken) (c .before .before .if1 .left) _ _ (c .before .num-at .ensures) (c .some-inner .ensures)
 
--- src/seek.rt:128:1
 returns-2 : tie.Need-returns-2 Inv-loop μ-loop
 returns-2 c = looked-all _ _ _ _ _ (c .before .loop .inv) (c .loop-test .left)
 

@@ -7,39 +7,30 @@ use Rattle.pages.proofs.seek.value_passes.Lts as lts
 use Rattle.rows.proofs.checks.value_fits.Reads as value-fits-reads
 use Rattle.pages.proofs.value_stands.Reads as value-stands-reads
 
--- src/seek.rt:25:24
 enum-known-k : tie.Need-enum-known-k
 enum-known-k c = search needs
 
--- src/seek.rt:26:26
 enum-told : tie.Need-enum-told
 enum-told c = search needs
 
--- src/seek.rt:26:26
 value-fits-requires : tie.Need-value-fits-requires
 value-fits-requires c κs = search needs
 
--- src/seek.rt:27:26
 enum-known-test : tie.Need-enum-known-test
 enum-known-test c = search needs
 
--- src/seek.rt:27:35
 value-stands-requires : tie.Need-value-stands-requires
 value-stands-requires c κs = search needs
 
--- src/seek.rt:29:30
 enum-told-2 : tie.Need-enum-told-2
 enum-told-2 c = search needs
 
--- src/seek.rt:21:1
 returns : tie.Need-returns
 returns c = search (passing, needs)
 
--- src/seek.rt:21:1
 returns-2 : tie.Need-returns-2
 returns-2 c = search (passing, needs)
 
--- src/seek.rt:21:1
 returns-3 : tie.Need-returns-3
 returns-3 c = search needs
 
