@@ -1,5 +1,5 @@
 -- A piece of the text, as a reference and as a constant of a kind.
-use Prim.Native.Nat.{ℕ, suc, _+_, _-_, _*_, _<_}
+use Prim.Native.Nat.{ℕ, suc, _+_, _-_, _*_, _≤_, _<_}
 use mathlib.Core.Path.{_≡_, refl, sym, ap, _∙_}
 use mathlib.Core.Bool.{Bool, true, false, _&&_}
 use mathlib.Core.Option.{Option, some, none}
@@ -7,7 +7,7 @@ use native.Mathlib.Omega.{arith}
 use borrow.Author.Tests.{lt-ltb, le-ltb}
 use lib.Dec.{ltb}
 use lib.IntN.{ℤ, pos, negsuc, subℕ}
-use lib.ListN.{drop, length-take, length-drop}
+use lib.ListN.{length, drop, length-take, length-drop}
 use Rattle.text.specs.Bytes.{Bytes}
 use Rattle.text.specs.Parts.{partOf}
 use Rattle.text.specs.declared.Span.{Span}
@@ -15,31 +15,24 @@ use Rattle.values.specs.declared.Kind.{Kind}
 use Rattle.values.specs.declared.Split.{Split}
 use Rattle.values.specs.declared.NumberRead.{NumberRead}
 use Rattle.values.specs.declared.BooleanRead.{BooleanRead}
-use Rattle.values.specs.Names.{qualified, isValue}
+use Rattle.values.specs.Names.{isValue}
 use Rattle.values.specs.Values.{number, boolean, mapOption, readNumber, readBoolean, readConstant}
-use Rattle.values.specs.Answers.{base, biased, numberRead, booleanRead, Splits}
+use Rattle.values.specs.Answers.{base, biased, numberRead, booleanRead}
 use Rattle.values.proofs.Numbers.{Small, read-small}
-use Rattle.pieces.proofs.Laws.{part-fits, split-is}
+use Rattle.pieces.specs.Places.{SplitsAt}
 use Rattle.nodes.specs.declared.Constant.{Constant}
 use Rattle.nodes.specs.declared.ConstantRead.{ConstantRead}
 use Rattle.nodes.specs.Postfix as Postfix
 use Rattle.nodes.specs.Reading.{keepsConstant, constantReadBy}
 use Rattle.nodes.specs.Writing.{Short, ShortConstant}
-use Rattle.emitting.specs.Emission.{SplitsAt, numberConstant, booleanConstant, constantIn}
+use Rattle.emitting.specs.Emission.{numberConstant, booleanConstant, constantIn}
 
--- A reference by its places in the text.
-pub split-places : (s t : Bytes) (p : Span) (r : Split) → t ≡ partOf s p → Splits t r
-    → SplitsAt s p (record { qualified = r .qualified; namespace = record { start = p .start + r .namespace .start; len = r .namespace .len }; article = record { start = p .start + r .article .start; len = r .article .len } })
-split-places s t p r e h =
-    let f = rw e at h in
-    let a = part-fits s (p .start) (p .len) (r .namespace .start) (r .namespace .len) (f .namespace) in
-    let b = part-fits s (p .start) (p .len) (r .article .start) (r .article .len) (f .article) in
+-- The sides of a reference whose place two bytes hold, in a short text: two bytes hold their places.
+pub split-short : (s : Bytes) (p : Span) (r : Split) → SplitsAt s p r → length s ≤ 1024 → Short p → Short (r .namespace) × Short (r .article)
+split-short s p r h l k =
     let m = length-take (p .len) (drop (p .start) s) in
     let d = length-drop (p .start) s in
-    record {
-      is = split-is s t p r e h;
-      short = λ l k. ((omega (arith, k .0), omega (arith, f .namespace)), (omega (arith, k .0), omega (arith, f .article)));
-    }
+    ((omega (arith, k .0, h .namespace), omega (arith, k .0, h .namespace)), (omega (arith, k .0, h .article), omega (arith, k .0, h .article)))
 
 -- A number is held with 10^15 added.
 held-back : (z : ℤ) → Small z → subℕ (biased z) base ≡ z

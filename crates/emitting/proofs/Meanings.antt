@@ -27,12 +27,13 @@ use Rattle.nodes.specs.Postfix as Postfix
 use Rattle.nodes.specs.Postfix.{post}
 use Rattle.nodes.specs.Reading.{constantBy, nodeBy, keepsConstant, keepsSelector}
 use Rattle.nodes.specs.Writing.{noSpan, Short, ShortSelector}
-use Rattle.emitting.specs.Emission.{Puts, selectNode, joinNode, comparing, oneNode, eitherNodes, comparedNodes, writtenScope, scopeOf, scopedNodes, referenceNodes, SplitsAt, constantIn, Sound, KeepsReference, KeepsValue, Emits}
+use Rattle.emitting.specs.Emission.{Puts, selectNode, joinNode, comparing, oneNode, eitherNodes, comparedNodes, writtenScope, scopeOf, scopedNodes, referenceNodes, constantIn, Sound, KeepsReference, KeepsValue, Emits}
 use Rattle.emitting.specs.declared.Comparison.{Comparison}
 use Rattle.emitting.specs.declared.Scope.{Scope}
 use Rattle.emitting.specs.declared.Emitted.{Emitted}
 use Rattle.emitting.proofs.Putting.{puts-then}
-use Rattle.emitting.proofs.Constants.{constant-is, constant-keeps}
+use Rattle.pieces.specs.Places.{SplitsAt}
+use Rattle.emitting.proofs.Constants.{split-short, constant-is, constant-keeps}
 
 -- Comparisons, in words of the core.
 abbrev coreBy : Bytes → Comparison → Comparator → CoreSelector
@@ -155,7 +156,7 @@ module _ (s : Bytes) (p : Span) (c : SurfaceComparator) where
     referenceNodes c r,
     rw (← h .is) (ap some (sym (reference-says s c (r .qualified) (r .namespace) (r .article)))),
     k,
-    λ g. let w = h .short (g .text) (g .short) in sound-reference s (r .qualified) (r .namespace) (r .article) (rw (h .is) (g .is)) (w .0) c (w .1),
+    λ g. let w = split-short s p r h (g .text) (g .short) in sound-reference s (r .qualified) (r .namespace) (r .article) (rw (h .is) (g .is)) (w .0) c (w .1),
   )
 
   module _ (x : Span) where

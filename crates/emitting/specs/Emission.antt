@@ -14,7 +14,7 @@ use Rattle.values.specs.declared.Kind.{Kind}
 use Rattle.values.specs.declared.Split.{Split}
 use Rattle.values.specs.Names.{isPropertyName, isValue, reference, isReference}
 use Rattle.values.specs.Values.{readNumber, readBoolean}
-use Rattle.values.specs.Answers.{splitOf, biased}
+use Rattle.values.specs.Answers.{biased}
 use Rattle.language.specs.declared.Comparator.{Comparator}
 use Rattle.language.specs.declared.SurfaceComparator.{SurfaceComparator}
 use Rattle.nodes.specs.declared.Connective.{Connective}
@@ -83,11 +83,6 @@ scopedNodes (Scope.Within n) l = (selectNode (Selector.Namespace n) ∷ []) ++ l
 
 unfoldable pub referenceNodes : SurfaceComparator → Split → List Node
 referenceNodes c r = scopedNodes (scopeOf c r) (comparedNodes (Comparison.Article (r .article)) c)
-
--- Where the two sides of a reference lie in a text.
-pub record SplitsAt (s : Bytes) (p : Span) (r : Split) : Type 0 where
-  pub is : splitOf s r ≡ reference (partOf s p)
-  pub short : length s ≤ 1024 → Short p → Short (r .namespace) × Short (r .article)
 
 -- The constant that the piece at p writes in a kind.
 abbrev pub numberConstant : Option ℤ → ConstantRead

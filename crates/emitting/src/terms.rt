@@ -1,7 +1,7 @@
-// What a piece of the text writes: a reference, or a constant of a kind.
+// What a piece of the text writes: a constant of a kind.
 ghost use mathlib.Core.Path.{_≡_};
 ghost use Rattle.values.specs.Values.{readNumber, readBoolean};
-ghost use Rattle.emitting.specs.Emission.{SplitsAt, numberConstant, booleanConstant, constantIn};
+ghost use Rattle.emitting.specs.Emission.{numberConstant, booleanConstant, constantIn};
 use nodes::Constant;
 use nodes::ConstantRead;
 use text::Span;
@@ -9,33 +9,8 @@ use text::part;
 use values::BooleanRead;
 use values::Kind;
 use values::NumberRead;
-use values::Split;
 use values::read_boolean;
 use values::read_number;
-use values::split_reference;
-
-// Where the two sides of the reference at p lie in the text.
-pub fn split_at(text: &[u8], p: Span) -> Split
-    ensures { λ r. ⌜ SplitsAt (now (text .entry)) p r ⌝ }
-{
-    let start = p.start;
-    let split = split_reference(part(text, start, p.len));
-    let n = split.namespace;
-    let a = split.article;
-    let namespace = Span {
-        start: start + n.start,
-        len: n.len,
-    };
-    let article = Span {
-        start: start + a.start,
-        len: a.len,
-    };
-    Split {
-        qualified: split.qualified,
-        namespace,
-        article,
-    }
-}
 
 // The number that a piece writes.
 fn number_of(piece: &[u8]) -> ConstantRead

@@ -23,7 +23,7 @@ use Rattle.language.specs.Surface.{Chain, single, chain}
 use Rattle.language.specs.RawQuery.{Piece, token, nextTerm, comparator, pieceAt, endsHead, headLength, prefixed, splitDots, trimNames}
 use Rattle.language.specs.QueryText.{isPlain, isCategory, isCategoryOf, articleOf, isExistence, isNamespacePiece, isPlusOf, namespaceOf, breaksReference, identifierOf}
 use Rattle.language.specs.declared.SurfaceComparator.{SurfaceComparator}
-use Rattle.pieces.specs.Places.{from, textAt, restOf, innerEnd, placeOf, headAt, headOf, lastOf, pieceOf, tellsPiece, isBare, categoryTold, readTold}
+use Rattle.pieces.specs.Places.{from, textAt, restOf, innerEnd, placeOf, headAt, headOf, lastOf, pieceOf, tellsPiece, isBare, SplitsAt, categoryTold, readTold}
 use Rattle.pieces.specs.declared.Found.{Found}
 use Rattle.pieces.specs.declared.Compared.{Compared}
 use Rattle.pieces.specs.declared.First.{First}
@@ -219,10 +219,14 @@ last-on s h at len i r p q l e = e ∙ sym (ap lastOf (head-dot s h at len i p q
 
 -- References by their places.
 pub split-is : (s t : Bytes) (text : Span) (r : Split) → t ≡ partOf s text → Splits t r
-    → splitOf s (record { qualified = r .qualified; namespace = record { start = text .start + r .namespace .start; len = r .namespace .len }; article = record { start = text .start + r .article .start; len = r .article .len } }) ≡ reference (partOf s text)
+    → SplitsAt s text (record { qualified = r .qualified; namespace = record { start = text .start + r .namespace .start; len = r .namespace .len }; article = record { start = text .start + r .article .start; len = r .article .len } })
 split-is s t text r e h =
     let f = rw e at h in
-    rw (← part-part s (text .start) (text .len) (r .namespace .start) (r .namespace .len) (f .namespace), ← part-part s (text .start) (text .len) (r .article .start) (r .article .len) (f .article)) (f .is)
+    record {
+      is = rw (← part-part s (text .start) (text .len) (r .namespace .start) (r .namespace .len) (f .namespace), ← part-part s (text .start) (text .len) (r .article .start) (r .article .len) (f .article)) (f .is);
+      namespace = omega (arith, f .namespace);
+      article = omega (arith, f .article);
+    }
 
 module _ (s : Bytes) (c : SurfaceComparator) (text : Span) (r : Split) (b m : Bool) (e : splitOf s r ≡ reference (partOf s text)) (f : b ≡ isBare c) where
   module _ (y : Bytes) (k : y ≡ partOf s (r .namespace)) (g : m ≡ same y (bytes "Category")) where

@@ -1,15 +1,17 @@
 -- Working definitions: what the answers of this crate tell of a text, by the published definitions.
-use Prim.Native.Nat.{ℕ, _+_}
+use Prim.Native.Nat.{ℕ, _+_, _≤_}
 use mathlib.Core.Path.{_≡_}
 use mathlib.Core.Bool.{Bool}
 use mathlib.Core.List.{[]}
 use mathlib.Core.Option.{Option, some, none}
-use lib.ListN.{drop}
+use lib.ListN.{length, drop}
 use Rattle.text.specs.Bytes.{Bytes, bytes, isBlank, behind, part}
 use Rattle.text.specs.Parts.{partOf}
 use Rattle.text.specs.declared.Span.{Span}
+use Rattle.values.specs.declared.Split.{Split}
 use Rattle.values.specs.Names.{reference}
 use Rattle.values.specs.Values.{mapOption}
+use Rattle.values.specs.Answers.{splitOf}
 use Rattle.language.specs.Answer.{_>>=_}
 use Rattle.language.specs.Surface.{Chain, single, chain, Identifiers}
 use Rattle.language.specs.RawQuery.{Piece, token, headLength, splitDots, trimNames}
@@ -65,6 +67,12 @@ tellsPiece s p = (pieceOf s (p .comparator) (p .text), from s (p .next))
 -- No comparator is written.
 abbrev pub isBare : SurfaceComparator → Bool
 isBare c = isPlain (record { comparator = c; text = [] })
+
+-- Where the two sides of the reference at p lie in a text: neither ends behind the part that p has.
+pub record SplitsAt (s : Bytes) (p : Span) (r : Split) : Type 0 where
+  pub is : splitOf s r ≡ reference (partOf s p)
+  pub namespace : r .namespace .start + r .namespace .len ≤ p .start + length (partOf s p)
+  pub article : r .article .start + r .article .len ≤ p .start + length (partOf s p)
 
 -- What each answer tells.
 unfoldable pub categoryTold : Bytes → First → Option Bytes

@@ -2,14 +2,13 @@
 ghost use mathlib.Core.Path.{_≡_};
 ghost use mathlib.Core.Bool.{not};
 ghost use mathlib.Core.Option.{some};
-ghost use Rattle.text.specs.Bytes.{after as afterWord, part as partFrom};
+ghost use Rattle.text.specs.Bytes.{after as afterWord};
 ghost use Rattle.text.specs.Parts.{partOf};
 ghost use Rattle.values.specs.Names.{reference};
-ghost use Rattle.values.specs.Answers.{splitOf};
 ghost use Rattle.language.specs.Answer.{onlyIf};
 ghost use Rattle.language.specs.RawQuery.{token as tokenIn, comparator as comparatorIn, pieceAt, endsHead, nextTerm};
 ghost use Rattle.language.specs.QueryText.{isCategory, articleOf, isExistence, breaksReference, identifierOf};
-ghost use Rattle.pieces.specs.Places.{from, textAt, restOf, innerEnd, placeOf, headAt, headOf, lastOf, isBare, pieceOf, tellsPiece, categoryTold, readTold};
+ghost use Rattle.pieces.specs.Places.{from, textAt, restOf, innerEnd, placeOf, headAt, headOf, lastOf, isBare, pieceOf, tellsPiece, SplitsAt, categoryTold, readTold};
 use language::SurfaceComparator;
 use text::Class;
 use text::Span;
@@ -214,8 +213,8 @@ pub fn is_existence(s: &[u8], c: SurfaceComparator, text: Span) -> bool
 }
 
 // Where the two sides of a piece's reference lie.
-fn split_at(s: &[u8], text: Span) -> Split
-    ensures { λ r. ⌜ splitOf (now (s .entry)) r ≡ reference (partOf (now (s .entry)) text) ⌝ }
+pub fn split_at(s: &[u8], text: Span) -> Split
+    ensures { λ r. ⌜ SplitsAt (now (s .entry)) text r ⌝ }
 {
     let start = text.start;
     let split = split_reference(part(s, start, text.len));

@@ -9,33 +9,26 @@ use Rattle.pieces.proofs.split_at.Reads as split-at-reads
 use Rattle.text.proofs.part.Reads as part-reads
 use Rattle.text.proofs.same_bytes.Reads as same-bytes-reads
 
--- src/lib.rt:234:9
 split-at-requires : tie.Need-split-at-requires
 split-at-requires c κs = search needs
 
--- src/lib.rt:237:15
 is-bare-requires : tie.Need-is-bare-requires
 is-bare-requires c κs = search needs
 
--- src/lib.rt:237:57
 part-requires : tie.Need-part-requires
 part-requires c κs = search needs
 
--- src/lib.rt:237:82
 slice-aggregate-same-bytes : tie.Need-slice-aggregate-same-bytes
 slice-aggregate-same-bytes c = search needs
 
--- src/lib.rt:237:46
 same-bytes-requires : tie.Need-same-bytes-requires
 same-bytes-requires c κs = search needs
 
--- src/lib.rt:230:1
 returns : tie.Need-returns
-returns c = category-yes (c .before .before .before .before .before .before .before .before .before .before .args .s .now) (c .before .before .before .before .before .before .before .before .before .before .args .c) (c .before .before .before .before .before .before .before .before .before .before .args .text) (c .before .before .before .before .before .before .before .before .split-at .result) _ _ (c .before .before .before .before .before .before .before .before .split-at .ensures) (c .before .before .before .before .before .is-bare .ensures) _ (c .before .before .before .part .ensures) (c .before .same-bytes .ensures) (c .if1 .taken)
+returns c = category-yes (c .before .before .before .before .before .before .before .before .before .before .args .s .now) (c .before .before .before .before .before .before .before .before .before .before .args .c) (c .before .before .before .before .before .before .before .before .before .before .args .text) (c .before .before .before .before .before .before .before .before .split-at .result) _ _ (c .before .before .before .before .before .before .before .before .split-at .ensures .is) (c .before .before .before .before .before .is-bare .ensures) _ (c .before .before .before .part .ensures) (c .before .same-bytes .ensures) (c .if1 .taken)
 
--- src/lib.rt:230:1
 returns-2 : tie.Need-returns-2
-returns-2 c = category-no (c .before .before .before .before .before .before .before .before .before .before .args .s .now) (c .before .before .before .before .before .before .before .before .before .before .args .c) (c .before .before .before .before .before .before .before .before .before .before .args .text) (c .before .before .before .before .before .before .before .before .split-at .result) _ _ (c .before .before .before .before .before .before .before .before .split-at .ensures) (c .before .before .before .before .before .is-bare .ensures) _ (c .before .before .before .part .ensures) (c .before .same-bytes .ensures) (c .if1 .left)
+returns-2 c = category-no (c .before .before .before .before .before .before .before .before .before .before .args .s .now) (c .before .before .before .before .before .before .before .before .before .before .args .c) (c .before .before .before .before .before .before .before .before .before .before .args .text) (c .before .before .before .before .before .before .before .before .split-at .result) _ _ (c .before .before .before .before .before .before .before .before .split-at .ensures .is) (c .before .before .before .before .before .is-bare .ensures) _ (c .before .before .before .part .ensures) (c .before .same-bytes .ensures) (c .if1 .left)
 
 pub category-of-spec : {M : Type 1} → statement M
 category-of-spec =

@@ -11,57 +11,44 @@ use Rattle.text.proofs.same_bytes.Reads as same-bytes-reads
 use Rattle.values.proofs.is_namespace.Reads as is-namespace-reads
 use Rattle.values.proofs.is_reference.Reads as is-reference-reads
 
--- src/lib.rt:250:9
 split-at-requires : tie.Need-split-at-requires
 split-at-requires c κs = search needs
 
--- src/lib.rt:253:16
 is-bare-requires : tie.Need-is-bare-requires
 is-bare-requires c κs = search needs
 
--- src/lib.rt:253:58
 part-requires : tie.Need-part-requires
 part-requires c κs = search needs
 
--- src/lib.rt:253:83
 slice-aggregate-same-bytes : tie.Need-slice-aggregate-same-bytes
 slice-aggregate-same-bytes c = search needs
 
--- src/lib.rt:253:47
 same-bytes-requires : tie.Need-same-bytes-requires
 same-bytes-requires c κs = search needs
 
--- src/lib.rt:255:25
 part-requires-2 : tie.Need-part-requires-2
 part-requires-2 c κs = search needs
 
--- src/lib.rt:255:12
 is-namespace-requires : tie.Need-is-namespace-requires
 is-namespace-requires c κs = search needs
 
--- src/lib.rt:256:13
 returns : tie.Need-returns
-returns c = read-namespace (c .before .before .before .before .before .before .before .before .before .before .before .before .before .args .s .now) (c .before .before .before .before .before .before .before .before .before .before .before .before .before .args .c) (c .before .before .before .before .before .before .before .before .before .before .before .before .before .args .text) (c .before .before .before .before .before .before .before .before .before .before .before .split-at .result) _ _ (c .before .before .before .before .before .before .before .before .before .before .before .split-at .ensures) (c .before .before .before .before .before .before .before .before .is-bare .ensures) _ (c .before .before .before .before .before .before .part .ensures) (c .before .before .before .before .same-bytes .ensures) _ _ (c .before .before .before .if1 .taken) (c .before .before .part2 .ensures) (c .before .is-namespace .ensures) (c .if2 .taken)
+returns c = read-namespace (c .before .before .before .before .before .before .before .before .before .before .before .before .before .args .s .now) (c .before .before .before .before .before .before .before .before .before .before .before .before .before .args .c) (c .before .before .before .before .before .before .before .before .before .before .before .before .before .args .text) (c .before .before .before .before .before .before .before .before .before .before .before .split-at .result) _ _ (c .before .before .before .before .before .before .before .before .before .before .before .split-at .ensures .is) (c .before .before .before .before .before .before .before .before .is-bare .ensures) _ (c .before .before .before .before .before .before .part .ensures) (c .before .before .before .before .same-bytes .ensures) _ _ (c .before .before .before .if1 .taken) (c .before .before .part2 .ensures) (c .before .is-namespace .ensures) (c .if2 .taken)
 
--- src/lib.rt:258:9
 returns-2 : tie.Need-returns-2
-returns-2 c = read-no-namespace (c .before .before .before .before .before .before .before .before .before .before .before .before .before .args .s .now) (c .before .before .before .before .before .before .before .before .before .before .before .before .before .args .c) (c .before .before .before .before .before .before .before .before .before .before .before .before .before .args .text) (c .before .before .before .before .before .before .before .before .before .before .before .split-at .result) _ _ (c .before .before .before .before .before .before .before .before .before .before .before .split-at .ensures) (c .before .before .before .before .before .before .before .before .is-bare .ensures) _ (c .before .before .before .before .before .before .part .ensures) (c .before .before .before .before .same-bytes .ensures) _ _ (c .before .before .before .if1 .taken) (c .before .before .part2 .ensures) (c .before .is-namespace .ensures) (c .if2 .left)
+returns-2 c = read-no-namespace (c .before .before .before .before .before .before .before .before .before .before .before .before .before .args .s .now) (c .before .before .before .before .before .before .before .before .before .before .before .before .before .args .c) (c .before .before .before .before .before .before .before .before .before .before .before .before .before .args .text) (c .before .before .before .before .before .before .before .before .before .before .before .split-at .result) _ _ (c .before .before .before .before .before .before .before .before .before .before .before .split-at .ensures .is) (c .before .before .before .before .before .before .before .before .is-bare .ensures) _ (c .before .before .before .before .before .before .part .ensures) (c .before .before .before .before .same-bytes .ensures) _ _ (c .before .before .before .if1 .taken) (c .before .before .part2 .ensures) (c .before .is-namespace .ensures) (c .if2 .left)
 
--- src/lib.rt:260:21
 part-requires-3 : tie.Need-part-requires-3
 part-requires-3 c κs = search needs
 
--- src/lib.rt:260:8
 is-reference-requires : tie.Need-is-reference-requires
 is-reference-requires c κs = search needs
 
--- src/lib.rt:246:1
 returns-3 : tie.Need-returns-3
-returns-3 c = read-reference (c .before .before .before .before .before .before .before .before .before .before .before .before .before .args .s .now) (c .before .before .before .before .before .before .before .before .before .before .before .before .before .args .c) (c .before .before .before .before .before .before .before .before .before .before .before .before .before .args .text) (c .before .before .before .before .before .before .before .before .before .before .before .split-at .result) _ _ (c .before .before .before .before .before .before .before .before .before .before .before .split-at .ensures) (c .before .before .before .before .before .before .before .before .is-bare .ensures) _ (c .before .before .before .before .before .before .part .ensures) (c .before .before .before .before .same-bytes .ensures) _ _ (c .before .before .before .if1 .left) (c .before .before .part3 .ensures) (c .before .is-reference .ensures) (c .if3 .taken)
+returns-3 c = read-reference (c .before .before .before .before .before .before .before .before .before .before .before .before .before .args .s .now) (c .before .before .before .before .before .before .before .before .before .before .before .before .before .args .c) (c .before .before .before .before .before .before .before .before .before .before .before .before .before .args .text) (c .before .before .before .before .before .before .before .before .before .before .before .split-at .result) _ _ (c .before .before .before .before .before .before .before .before .before .before .before .split-at .ensures .is) (c .before .before .before .before .before .before .before .before .is-bare .ensures) _ (c .before .before .before .before .before .before .part .ensures) (c .before .before .before .before .same-bytes .ensures) _ _ (c .before .before .before .if1 .left) (c .before .before .part3 .ensures) (c .before .is-reference .ensures) (c .if3 .taken)
 
--- src/lib.rt:246:1
 returns-4 : tie.Need-returns-4
-returns-4 c = read-no-reference (c .before .before .before .before .before .before .before .before .before .before .before .before .before .args .s .now) (c .before .before .before .before .before .before .before .before .before .before .before .before .before .args .c) (c .before .before .before .before .before .before .before .before .before .before .before .before .before .args .text) (c .before .before .before .before .before .before .before .before .before .before .before .split-at .result) _ _ (c .before .before .before .before .before .before .before .before .before .before .before .split-at .ensures) (c .before .before .before .before .before .before .before .before .is-bare .ensures) _ (c .before .before .before .before .before .before .part .ensures) (c .before .before .before .before .same-bytes .ensures) _ _ (c .before .before .before .if1 .left) (c .before .before .part3 .ensures) (c .before .is-reference .ensures) (c .if3 .left)
+returns-4 c = read-no-reference (c .before .before .before .before .before .before .before .before .before .before .before .before .before .args .s .now) (c .before .before .before .before .before .before .before .before .before .before .before .before .before .args .c) (c .before .before .before .before .before .before .before .before .before .before .before .before .before .args .text) (c .before .before .before .before .before .before .before .before .before .before .before .split-at .result) _ _ (c .before .before .before .before .before .before .before .before .before .before .before .split-at .ensures .is) (c .before .before .before .before .before .before .before .before .is-bare .ensures) _ (c .before .before .before .before .before .before .part .ensures) (c .before .before .before .before .same-bytes .ensures) _ _ (c .before .before .before .if1 .left) (c .before .before .part3 .ensures) (c .before .is-reference .ensures) (c .if3 .left)
 
 pub read-piece-spec : {M : Type 1} → statement M
 read-piece-spec =
