@@ -85,23 +85,24 @@ module _ (s : Bytes) (at k next : ℕ) (t t′ : List ℕ) (n n′ : Seen) (x : 
   pub fall-alternatives : (d : RawAlternatives → Effect) → Reads s d t n (readAlternative (from s at)) x t′ → 4 * length (from s at) + 1 ≡ k → 4 * length (from s next) < k
   fall-alternatives d h e = let m = got-on (NoMore (from s at)) s d t t′ n n′ _ next x (alternative-no-more (from s at)) h y in omega arith
 
-pub fall-property : (s : Bytes) (at len k : ℕ) → at + len + 2 ≤ length s → 4 * length (from s at) ≡ k → 4 * length (from s (at + len + 2)) + 1 < k
-unfolding from
-fall-property s at len k h e = omega (arith, length-drop at s, length-drop (at + len + 2) s)
-
--- The head of a property body lies within the text.
-pub head-within : (s : Bytes) (at e : ℕ) (a : Found) → placeOf a ≡ headAt s at → a ≡ Found.At e → (at ≤ e) × (at + (e - at) + 2 ≤ length s)
+-- The head of a bracket lies within the text, with its `::`.
+head-within : (s : Bytes) (at e : ℕ) (a : Found) → placeOf a ≡ headAt s at → a ≡ Found.At e → (at ≤ e) × (e + 2 ≤ length s)
 unfolding placeOf headAt from
 head-within s at e a p g = go (headLength (drop at s)) (head-leaves (drop at s)) (rw g at p)
   where
-    go : (o : Option ℕ) → OnSome (λ k. 2 + k ≤ length (drop at s)) o → some e ≡ mapOption (λ k. at + k) o → (at ≤ e) × (at + (e - at) + 2 ≤ length s)
+    go : (o : Option ℕ) → OnSome (λ k. 2 + k ≤ length (drop at s)) o → some e ≡ mapOption (λ k. at + k) o → (at ≤ e) × (e + 2 ≤ length s)
     go none h q = let z : _≡_ {A = ℕ} 0 1 = cc in absurd (omega arith)
     go (some k) h q = let l : e ≡ at + k = cc in (omega arith, omega (arith, length-drop at s))
 
-pub head-after : (s : Bytes) (at e : ℕ) (a : Found) → placeOf a ≡ headAt s at → a ≡ Found.At e → at ≤ e
-head-after s at e a p g = head-within s at e a p g .0
+module _ (s : Bytes) (at e : ℕ) (a : Found) (p : placeOf a ≡ headAt s at) (g : a ≡ Found.At e) where
+  pub head-after : at ≤ e
+  head-after = head-within s at e a p g .0
 
-pub head-fits : (s : Bytes) (at e : ℕ) (a : Found) → placeOf a ≡ headAt s at → a ≡ Found.At e → at + (e - at) + 2 ≤ length s
-head-fits s at e a p g = head-within s at e a p g .1
+  pub head-fits : e + 2 ≤ length s
+  head-fits = head-within s at e a p g .1
 
-pub ruleset fall = (tt, fall-token-3, fall-token-2, fall-token-1, fall-or, fall-next, fall-and, fall-after, fall-more, fall-query, fall-conjunction, fall-alternatives, fall-property, head-after, head-fits)
+  pub fall-head : (k : ℕ) → 4 * length (from s at) + 1 ≡ k → 4 * length (from s (e + 2)) + 1 < k
+  unfolding from
+  fall-head k h = omega (arith, head-after, head-fits, length-drop at s, length-drop (e + 2) s)
+
+pub ruleset fall = (tt, fall-token-3, fall-token-2, fall-token-1, fall-or, fall-next, fall-and, fall-after, fall-more, fall-query, fall-conjunction, fall-alternatives, head-after, head-fits, fall-head)

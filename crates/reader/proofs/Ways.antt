@@ -26,6 +26,7 @@ use Rattle.slots.specs.declared.Seen.{Seen}
 use Rattle.slots.specs.declared.Outcome.{Outcome}
 use Rattle.slots.proofs.Table.{after-then}
 use Rattle.slots.proofs.Readings.{reads-on, reads-no}
+use Rattle.reader.proofs.Falls.{head-after}
 use Rattle.reader.proofs.Trees.{effect-or, effect-and, effect-group, effect-either, effect-inner, effect-property}
 
 -- Reading on behind what was read: f reads on, o reads what comes next, w finds where, behind a connective.
@@ -153,52 +154,53 @@ head-no : (at : ℕ) (o : Option ℕ) → none ≡ mapOption (λ k. at + k) o �
 head-no at none h = refl
 head-no at (some k) h = cc
 
-module _ (s : Bytes) (d at : ℕ) (t t′ : List ℕ) (n : Seen) (a : Found) (r : Outcome) (p : placeOf a ≡ headAt s at) where
-  pub bracket-property : (e : ℕ) → a ≡ Found.At e → Reads s (effect d) t n (propertyBody (from s at) (e - at)) r t′ → Reads s (effect d) t n (readBody (from s at)) r t′
+pub bracket-plain : (s : Bytes) (d at : ℕ) (t t′ : List ℕ) (n : Seen) (a : Found) (r : Outcome) → placeOf a ≡ headAt s at → a ≡ Found.Nothing → Reads s (effect d) t n (plainBody (from s at)) r t′ → Reads s (effect d) t n (readBody (from s at)) r t′
+unfolding placeOf headAt
+bracket-plain s d at t t′ n a r p g h = rw (body-eq (from s at), head-no at (headLength (from s at)) (rw g at p)) h
+
+-- The head, the alternatives and the `]]` of a bracket whose `::` stands at i.
+module _ (s h : Bytes) (d at i : ℕ) (t : List ℕ) (n : Seen) (a : Found) (b : Bool) (p : placeOf a ≡ headAt s at) (o : a ≡ Found.At i) (e : h ≡ part s at (i - at)) (f : b ≡ all isFree h) where
+  body : readBody (from s at) ≡ propertyBody (from s at) (i - at)
   unfolding placeOf headAt propertyBody
-  bracket-property e g h = rw (body-eq (from s at), head-some at e (headLength (from s at)) (rw g at p)) h
+  body = rw (body-eq (from s at), head-some at i (headLength (from s at)) (rw o at p))
 
-  pub bracket-plain : a ≡ Found.Nothing → Reads s (effect d) t n (plainBody (from s at)) r t′ → Reads s (effect d) t n (readBody (from s at)) r t′
-  unfolding placeOf headAt
-  bracket-plain g h = rw (body-eq (from s at), head-no at (headLength (from s at)) (rw g at p)) h
+  behind-head : drop (2 + (i - at)) (from s at) ≡ from s (i + 2)
+  unfolding from
+  behind-head =
+      let k : at + (2 + (i - at)) ≡ i + 2 = omega (arith, head-after s at i a p o) in
+      drop-drop (2 + (i - at)) at s ∙ ap (λ k. drop k s) k
 
--- The head, the alternatives and the `]]` of a property body.
-behind-head : (s : Bytes) (at len : ℕ) → drop (2 + len) (from s at) ≡ from s (at + len + 2)
-unfolding from
-behind-head s at len = let e : at + (2 + len) ≡ at + len + 2 = omega arith in drop-drop (2 + len) at s ∙ ap (λ k. drop k s) e
-
-module _ (s h : Bytes) (d at len : ℕ) (t : List ℕ) (n : Seen) (b : Bool) (e : h ≡ part s at len) (f : b ≡ all isFree h) where
-  free : {c : Bool} → b ≡ c → all isFree (take len (from s at)) ≡ c
+  free : {c : Bool} → b ≡ c → all isFree (take (i - at) (from s at)) ≡ c
   unfolding from
   free g = rw (← e) (sym f ∙ g)
 
-  pub property-unfree : not b ≡ true → Reads s (effect d) t n (propertyBody (from s at) len) Outcome.Refused t
+  pub bracket-unfree : not b ≡ true → Reads s (effect d) t n (readBody (from s at)) Outcome.Refused t
   unfolding Reads propertyBody
-  property-unfree g = (rw (free (not-true b g)), refl)
+  bracket-unfree g = (rw (body, free (not-true b g)), refl)
 
-  module _ (g : not b ≡ false) (t′ : List ℕ) (x : Span) (y : Outcome) (a : Reads s (effectIn d (textAt s x)) t n (readAlternatives (from s (at + len + 2))) y t′) where
-    pub property-not : y ≡ Outcome.Refused → Reads s (effect d) t n (propertyBody (from s at) len) Outcome.Refused t′
+  module _ (g : not b ≡ false) (t′ : List ℕ) (x : Span) (y : Outcome) (r : Reads s (effectIn d (textAt s x)) t n (readAlternatives (from s (i + 2))) y t′) where
+    pub bracket-not : y ≡ Outcome.Refused → Reads s (effect d) t n (readBody (from s at)) Outcome.Refused t′
     unfolding Reads propertyBody
-    property-not l =
-        let z = rw l at a in
-        (rw (free (not-false b g), behind-head s at len, z .0), z .1)
+    bracket-not l =
+        let z = rw l at r in
+        (rw (body, free (not-false b g), behind-head, z .0), z .1)
 
     module _ (next : ℕ) (n′ : Seen) (l : y ≡ Outcome.Got next n′) (c : Found) (q : restOf s c ≡ after (bytes "]]") (from s next)) where
-      pub property-open : c ≡ Found.Nothing → Reads s (effect d) t n (propertyBody (from s at) len) Outcome.Refused t′
+      pub bracket-open : c ≡ Found.Nothing → Reads s (effect d) t n (readBody (from s at)) Outcome.Refused t′
       unfolding Reads propertyBody closedBody restOf
-      property-open m =
-          let z = rw l at a in
-          (rw (free (not-false b g), behind-head s at len, z .1, ← q, m), z .2 .long)
+      bracket-open m =
+          let z = rw l at r in
+          (rw (body, free (not-false b g), behind-head, z .1, ← q, m), z .2 .long)
 
-      closed : (end : ℕ) (w : RawAlternatives) → c ≡ Found.At end → readAlternatives (from s (at + len + 2)) ≡ some (w, from s next) → propertyBody (from s at) len ≡ some (RawQuery.property (headOf s at len) w, from s end)
+      closed : (end : ℕ) (w : RawAlternatives) → c ≡ Found.At end → readAlternatives (from s (i + 2)) ≡ some (w, from s next) → readBody (from s at) ≡ some (RawQuery.property (headOf s at (i - at)) w, from s end)
       unfolding propertyBody closedBody restOf headOf from
-      closed end w m k = rw (free (not-false b g), behind-head s at len, k, ← q, m)
+      closed end w m k = rw (body, free (not-false b g), behind-head, k, ← q, m)
 
-      pub property-got : (end : ℕ) (t″ : List ℕ) (n″ : Seen) → c ≡ Found.At end → textAt s x ≡ lastOf (headOf s at len) → After s t′ n′ (chainEffect 0 (headOf s at len)) t″ n″ → Reads s (effect d) t n (propertyBody (from s at) len) (Outcome.Got end n″) t″
+      pub bracket-got : (end : ℕ) (t″ : List ℕ) (n″ : Seen) → c ≡ Found.At end → textAt s x ≡ lastOf (headOf s at (i - at)) → After s t′ n′ (chainEffect 0 (headOf s at (i - at))) t″ n″ → Reads s (effect d) t n (readBody (from s at)) (Outcome.Got end n″) t″
       unfolding Reads
-      property-got end t″ n″ m u v =
-          let z = rw l at a in
-          (RawQuery.property (headOf s at len) (z .0), closed end (z .0) m (z .1), rw (effect-property d (headOf s at len) (z .0), ← u) (after-then s t t′ t″ n n′ n″ _ _ (z .2) v))
+      bracket-got end t″ n″ m u v =
+          let z = rw l at r in
+          (RawQuery.property (headOf s at (i - at)) (z .0), closed end (z .0) m (z .1), rw (effect-property d (headOf s at (i - at)) (z .0), ← u) (after-then s t t′ t″ n n′ n″ _ _ (z .2) v))
 
 -- A subquery, or a piece, under a property name.
 inner-is : (q : RawQuery) (s : Bytes) → closedInner q s ≡ (innerEnd s >>= λ r. some (RawAlternatives.subquery q, r))
@@ -237,4 +239,4 @@ module _ (s : Bytes) (d at : ℕ) (t t′ : List ℕ) (n : Seen) (a : Found) (x 
   unfolding restOf Reads tellsPiece
   alternative-piece c n′ g k h = (RawAlternatives.piece (pieceOf s (c .comparator) (c .text)), rw (alternative-eq (from s at), ← p, g, k), h)
 
-pub ruleset cycle = (or-joined, or-stopped, or-done, and-joined, and-stopped, and-done, more-joined, more-stopped, more-done, query-got, conjunction-got, alternatives-got, query-not, conjunction-not, alternatives-not, term-group, term-open, term-not, term-bracket, term-none, bracket-property, bracket-plain, property-unfree, property-not, property-open, property-got, alternative-group, alternative-open, alternative-not, alternative-piece)
+pub ruleset cycle = (or-joined, or-stopped, or-done, and-joined, and-stopped, and-done, more-joined, more-stopped, more-done, query-got, conjunction-got, alternatives-got, query-not, conjunction-not, alternatives-not, term-group, term-open, term-not, term-bracket, term-none, bracket-plain, bracket-unfree, bracket-not, bracket-open, alternative-group, alternative-open, alternative-not, alternative-piece)

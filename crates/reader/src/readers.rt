@@ -1,12 +1,10 @@
 // The readers of a query, a conjunction, a term, a bracket and its alternatives, which call each other. Each call has less text
 // left, or stands lower in the grammar.
 ghost use mathlib.Core.Path.{_≡_};
-ghost use Prim.Native.Nat.{_+_, _≤_};
-ghost use lib.ListN.{length};
 ghost use Rattle.language.specs.RawQuery.{readQuery, readOr, readConjunction, readAnd, readTerm, readBody, readAlternatives, readMore, readAlternative};
 ghost use Rattle.pieces.specs.Places.{from, textAt};
 ghost use Rattle.slots.specs.Effects.{Reads, ReadsOn};
-ghost use Rattle.slots.specs.Trees.{effect, effectIn, propertyBody};
+ghost use Rattle.slots.specs.Trees.{effect, effectIn};
 use pieces::Found;
 use pieces::after;
 use pieces::head_end;
@@ -97,30 +95,23 @@ fn term(s: &[u8], at: usize, depth: usize, slots: &mut [u16], seen: Seen) -> Out
     }
 }
 
-// The body of a bracket and its `]]`.
+// The body of a bracket and its `]]`. With `::` it has a head, and the alternatives come first, under the head's last name.
 fn bracket(s: &[u8], at: usize, depth: usize, slots: &mut [u16], seen: Seen) -> Outcome
     ensures { λ r. ⌜ Reads (now (s .entry)) (effect depth) (now (slots .entry)) seen (readBody (from (now (s .entry)) at)) r (now (slots .exit)) ⌝ }
 {
-    match head_end(s, at) {
-        Found::At(end) => property(s, at, end - at, depth, slots, seen),
-        Found::Nothing => plain(s, at, depth, slots, seen),
-    }
-}
-
-// A property body whose head is len bytes long. The alternatives come first, under the head's last name.
-fn property(s: &[u8], at: usize, len: usize, depth: usize, slots: &mut [u16], seen: Seen) -> Outcome
-    requires { ⌜ at + len + 2 ≤ length (now s) ⌝ }
-    ensures { λ r. ⌜ Reads (now (s .entry)) (effect depth) (now (slots .entry)) seen (propertyBody (from (now (s .entry)) at) len) r (now (slots .exit)) ⌝ }
-{
+    let Found::At(end) = head_end(s, at) else {
+        return plain(s, at, depth, slots, seen);
+    };
+    let len = end - at;
     if !all_in(part(s, at, len), Class::Free) {
         return Outcome::Refused;
     }
     let name = last_name(s, at, len);
-    match alternatives(s, at + len + 2, depth, name, slots, seen) {
+    match alternatives(s, end + 2, depth, name, slots, seen) {
         Outcome::Got(next, got) => match after(s, next, b"]]") {
-            Found::At(end) => {
+            Found::At(close) => {
                 let wrapped = chain(s, at, len, 0, slots, got);
-                Outcome::Got(end, wrapped)
+                Outcome::Got(close, wrapped)
             }
             Found::Nothing => Outcome::Refused,
         },

@@ -1,44 +1,40 @@
-use Rattle.reader.proofs.Falls.{fall-more, fall-or}
 use borrow.Author.Needs.{needs}
 use native.Mathlib.Omega.{arith}
 use Prim.Native.Nat.{_+_, _*_}
 use lib.ListN.{length}
 use Rattle.pieces.specs.Places.{from}
-use Rattle.reader.proofs.Ways.{cycle}
-use Rattle.reader.proofs.Falls.{fall}
+use Rattle.reader.proofs.Ways.{cycle, bracket-got}
+use Rattle.reader.proofs.Falls.{fall, fall-more, fall-or, head-fits}
 use Prim.Native.Nat.{ℕ, _<_}
 use borrow.Fn.Kinds.{In}
 use borrow.Fn.PlainCycle.{Measures, is, falls, and}
 use Rattle.reader.proofs.readers.alternative.Reads as alternative
 use Rattle.reader.proofs.readers.alternative.Kinds as alternative-kinds
-use Rattle.reader.proofs.readers.+alternative+alternatives+bracket+conjunction+more_alternatives+more_conjunctions+more_terms+property+query+term.Lts-alternative as alternative-lts
+use Rattle.reader.proofs.readers.+alternative+alternatives+bracket+conjunction+more_alternatives+more_conjunctions+more_terms+query+term.Lts-alternative as alternative-lts
 use Rattle.reader.proofs.readers.alternatives.Reads as alternatives
 use Rattle.reader.proofs.readers.alternatives.Kinds as alternatives-kinds
-use Rattle.reader.proofs.readers.+alternative+alternatives+bracket+conjunction+more_alternatives+more_conjunctions+more_terms+property+query+term.Lts-alternatives as alternatives-lts
+use Rattle.reader.proofs.readers.+alternative+alternatives+bracket+conjunction+more_alternatives+more_conjunctions+more_terms+query+term.Lts-alternatives as alternatives-lts
 use Rattle.reader.proofs.readers.bracket.Reads as bracket
 use Rattle.reader.proofs.readers.bracket.Kinds as bracket-kinds
-use Rattle.reader.proofs.readers.+alternative+alternatives+bracket+conjunction+more_alternatives+more_conjunctions+more_terms+property+query+term.Lts-bracket as bracket-lts
+use Rattle.reader.proofs.readers.+alternative+alternatives+bracket+conjunction+more_alternatives+more_conjunctions+more_terms+query+term.Lts-bracket as bracket-lts
 use Rattle.reader.proofs.readers.conjunction.Reads as conjunction
 use Rattle.reader.proofs.readers.conjunction.Kinds as conjunction-kinds
-use Rattle.reader.proofs.readers.+alternative+alternatives+bracket+conjunction+more_alternatives+more_conjunctions+more_terms+property+query+term.Lts-conjunction as conjunction-lts
+use Rattle.reader.proofs.readers.+alternative+alternatives+bracket+conjunction+more_alternatives+more_conjunctions+more_terms+query+term.Lts-conjunction as conjunction-lts
 use Rattle.reader.proofs.readers.more_alternatives.Reads as more-alternatives
 use Rattle.reader.proofs.readers.more_alternatives.Kinds as more-alternatives-kinds
-use Rattle.reader.proofs.readers.+alternative+alternatives+bracket+conjunction+more_alternatives+more_conjunctions+more_terms+property+query+term.Lts-more_alternatives as more-alternatives-lts
+use Rattle.reader.proofs.readers.+alternative+alternatives+bracket+conjunction+more_alternatives+more_conjunctions+more_terms+query+term.Lts-more_alternatives as more-alternatives-lts
 use Rattle.reader.proofs.readers.more_conjunctions.Reads as more-conjunctions
 use Rattle.reader.proofs.readers.more_conjunctions.Kinds as more-conjunctions-kinds
-use Rattle.reader.proofs.readers.+alternative+alternatives+bracket+conjunction+more_alternatives+more_conjunctions+more_terms+property+query+term.Lts-more_conjunctions as more-conjunctions-lts
+use Rattle.reader.proofs.readers.+alternative+alternatives+bracket+conjunction+more_alternatives+more_conjunctions+more_terms+query+term.Lts-more_conjunctions as more-conjunctions-lts
 use Rattle.reader.proofs.readers.more_terms.Reads as more-terms
 use Rattle.reader.proofs.readers.more_terms.Kinds as more-terms-kinds
-use Rattle.reader.proofs.readers.+alternative+alternatives+bracket+conjunction+more_alternatives+more_conjunctions+more_terms+property+query+term.Lts-more_terms as more-terms-lts
-use Rattle.reader.proofs.readers.property.Reads as property
-use Rattle.reader.proofs.readers.property.Kinds as property-kinds
-use Rattle.reader.proofs.readers.+alternative+alternatives+bracket+conjunction+more_alternatives+more_conjunctions+more_terms+property+query+term.Lts-property as property-lts
+use Rattle.reader.proofs.readers.+alternative+alternatives+bracket+conjunction+more_alternatives+more_conjunctions+more_terms+query+term.Lts-more_terms as more-terms-lts
 use Rattle.reader.proofs.readers.query.Reads as query
 use Rattle.reader.proofs.readers.query.Kinds as query-kinds
-use Rattle.reader.proofs.readers.+alternative+alternatives+bracket+conjunction+more_alternatives+more_conjunctions+more_terms+property+query+term.Lts-query as query-lts
+use Rattle.reader.proofs.readers.+alternative+alternatives+bracket+conjunction+more_alternatives+more_conjunctions+more_terms+query+term.Lts-query as query-lts
 use Rattle.reader.proofs.readers.term.Reads as term
 use Rattle.reader.proofs.readers.term.Kinds as term-kinds
-use Rattle.reader.proofs.readers.+alternative+alternatives+bracket+conjunction+more_alternatives+more_conjunctions+more_terms+property+query+term.Lts-term as term-lts
+use Rattle.reader.proofs.readers.+alternative+alternatives+bracket+conjunction+more_alternatives+more_conjunctions+more_terms+query+term.Lts-term as term-lts
 use Rattle.pieces.proofs.after.Reads as after-reads
 use Rattle.pieces.proofs.head_end.Reads as head-end-reads
 use Rattle.pieces.proofs.inner_end.Reads as inner-end-reads
@@ -54,10 +50,10 @@ use Rattle.slots.proofs.rows.connect.Reads as connect-reads
 use Rattle.slots.proofs.rows.wrap.Reads as wrap-reads
 use Rattle.text.proofs.all_in.Reads as all-in-reads
 use Rattle.text.proofs.part.Reads as part-reads
-use Rattle.reader.proofs.readers.+alternative+alternatives+bracket+conjunction+more_alternatives+more_conjunctions+more_terms+property+query+term.{
+use Rattle.reader.proofs.readers.+alternative+alternatives+bracket+conjunction+more_alternatives+more_conjunctions+more_terms+query+term.{
   statement,
 }
-use Rattle.reader.proofs.readers.+alternative+alternatives+bracket+conjunction+more_alternatives+more_conjunctions+more_terms+property+query+term.Tie.{
+use Rattle.reader.proofs.readers.+alternative+alternatives+bracket+conjunction+more_alternatives+more_conjunctions+more_terms+query+term.Tie.{
   close,
 }
 
@@ -81,9 +77,6 @@ abbrev μ-more-conjunctions : Measures 2 more-conjunctions-kinds.ps ℕ
 
 abbrev μ-more-terms : Measures 2 more-terms-kinds.ps ℕ
 μ-more-terms κs a = 4 * length (from (a .0 .now) (a .1 .0)) + 1
-
-abbrev μ-property : Measures 2 property-kinds.ps ℕ
-μ-property κs a = 4 * length (from (a .0 .now) (a .1 .0))
 
 abbrev μ-query : Measures 2 query-kinds.ps ℕ
 μ-query κs a = 4 * length (from (a .0 .now) (a .1 .0)) + 3
@@ -165,13 +158,6 @@ abbrev more-terms-below : ℕ → In 2 more-terms-kinds.ps
 more-terms-below t =
     and 2 more-terms-kinds.ps (falls 2 more-terms-kinds.ps _<_ μ-more-terms t) more-terms.Pre
 
-abbrev property-at : ℕ → In 2 property-kinds.ps
-property-at t = and 2 property-kinds.ps (is 2 property-kinds.ps μ-property t) property.Pre
-
-abbrev property-below : ℕ → In 2 property-kinds.ps
-property-below t =
-    and 2 property-kinds.ps (falls 2 property-kinds.ps _<_ μ-property t) property.Pre
-
 abbrev query-at : ℕ → In 2 query-kinds.ps
 query-at t = and 2 query-kinds.ps (is 2 query-kinds.ps μ-query t) query.Pre
 
@@ -191,7 +177,7 @@ abbrev alternatives-calls : ℕ → alternatives-lts.Claims
 alternatives-calls t = (alternative-below t, alternative.Post, more-alternatives-below t, more-alternatives.Post)
 
 abbrev bracket-calls : ℕ → bracket-lts.Claims
-bracket-calls t = (head-end-reads.Asked, head-end-reads.Learnt, property-below t, property.Post, plain-reads.Asked, plain-reads.Learnt)
+bracket-calls t = (head-end-reads.Asked, head-end-reads.Learnt, plain-reads.Asked, plain-reads.Learnt, part-reads.Asked, part-reads.Learnt, all-in-reads.Asked, all-in-reads.Learnt, last-name-reads.Asked, last-name-reads.Learnt, alternatives-below t, alternatives.Post, after-reads.Asked, after-reads.Learnt, chain-reads.Asked, chain-reads.Learnt)
 
 abbrev conjunction-calls : ℕ → conjunction-lts.Claims
 conjunction-calls t = (term-below t, term.Post, more-terms-below t, more-terms.Post)
@@ -204,9 +190,6 @@ more-conjunctions-calls t = (token-reads.Asked, token-reads.Learnt, conjunction-
 
 abbrev more-terms-calls : ℕ → more-terms-lts.Claims
 more-terms-calls t = (next-term-reads.Asked, next-term-reads.Learnt, term-below t, term.Post, connect-reads.Asked, connect-reads.Learnt, more-terms-below t, more-terms.Post)
-
-abbrev property-calls : ℕ → property-lts.Claims
-property-calls t = (part-reads.Asked, part-reads.Learnt, all-in-reads.Asked, all-in-reads.Learnt, last-name-reads.Asked, last-name-reads.Learnt, alternatives-below t, alternatives.Post, after-reads.Asked, after-reads.Learnt, chain-reads.Asked, chain-reads.Learnt)
 
 abbrev query-calls : ℕ → query-lts.Claims
 query-calls t = (conjunction-below t, conjunction.Post, more-conjunctions-below t, more-conjunctions.Post)
@@ -310,12 +293,6 @@ bracket-head-end-requires t c κs = search needs
 bracket-enum-known-end : (t : ℕ) → bracket-lts.Need-enum-known-end (bracket-calls t) (bracket-at t) bracket.Post
 bracket-enum-known-end t c = search needs
 
-bracket-sub-property : (t : ℕ) → bracket-lts.Need-sub-property (bracket-calls t) (bracket-at t) bracket.Post
-bracket-sub-property t c = search (fall, needs)
-
-bracket-property-requires : (t : ℕ) → bracket-lts.Need-property-requires (bracket-calls t) (bracket-at t) bracket.Post
-bracket-property-requires t c κs = search (fall, needs)
-
 bracket-enum-told : (t : ℕ) → bracket-lts.Need-enum-told (bracket-calls t) (bracket-at t) bracket.Post
 bracket-enum-told t c = search needs
 
@@ -328,11 +305,65 @@ bracket-same-length t c = search needs
 bracket-returns : (t : ℕ) → bracket-lts.Need-returns (bracket-calls t) (bracket-at t) bracket.Post
 bracket-returns t c = search cycle
 
-bracket-same-length-2 : (t : ℕ) → bracket-lts.Need-same-length-2 (bracket-calls t) (bracket-at t) bracket.Post
-bracket-same-length-2 t c = search needs
+bracket-sub-len : (t : ℕ) → bracket-lts.Need-sub-len (bracket-calls t) (bracket-at t) bracket.Post
+bracket-sub-len t c = search (fall, needs)
+
+bracket-part-requires : (t : ℕ) → bracket-lts.Need-part-requires (bracket-calls t) (bracket-at t) bracket.Post
+bracket-part-requires t c κs = search needs
+
+bracket-all-in-requires : (t : ℕ) → bracket-lts.Need-all-in-requires (bracket-calls t) (bracket-at t) bracket.Post
+bracket-all-in-requires t c κs = search needs
 
 bracket-returns-2 : (t : ℕ) → bracket-lts.Need-returns-2 (bracket-calls t) (bracket-at t) bracket.Post
 bracket-returns-2 t c = search cycle
+
+bracket-last-name-requires : (t : ℕ) → bracket-lts.Need-last-name-requires (bracket-calls t) (bracket-at t) bracket.Post
+bracket-last-name-requires t c κs = search needs
+
+bracket-add-alternatives : (t : ℕ) → bracket-lts.Need-add-alternatives (bracket-calls t) (bracket-at t) bracket.Post
+bracket-add-alternatives t c = search (needs, head-fits _ _ _ _ (c .before .before .before .before .before .before .before .head-end .ensures) (c .before .before .before .before .before .end .given .1))
+
+bracket-alternatives-requires : (t : ℕ) → bracket-lts.Need-alternatives-requires (bracket-calls t) (bracket-at t) bracket.Post
+bracket-alternatives-requires t c κs = search (fall, needs)
+
+bracket-enum-known-next : (t : ℕ) → bracket-lts.Need-enum-known-next (bracket-calls t) (bracket-at t) bracket.Post
+bracket-enum-known-next t c = search needs
+
+bracket-slice-aggregate-after : (t : ℕ) → bracket-lts.Need-slice-aggregate-after (bracket-calls t) (bracket-at t) bracket.Post
+bracket-slice-aggregate-after t c = search needs
+
+bracket-after-requires : (t : ℕ) → bracket-lts.Need-after-requires (bracket-calls t) (bracket-at t) bracket.Post
+bracket-after-requires t c κs = search needs
+
+bracket-enum-known-close : (t : ℕ) → bracket-lts.Need-enum-known-close (bracket-calls t) (bracket-at t) bracket.Post
+bracket-enum-known-close t c = search needs
+
+bracket-chain-requires : (t : ℕ) → bracket-lts.Need-chain-requires (bracket-calls t) (bracket-at t) bracket.Post
+bracket-chain-requires t c κs = search needs
+
+bracket-enum-told-2 : (t : ℕ) → bracket-lts.Need-enum-told-2 (bracket-calls t) (bracket-at t) bracket.Post
+bracket-enum-told-2 t c = search needs
+
+bracket-enum-told-3 : (t : ℕ) → bracket-lts.Need-enum-told-3 (bracket-calls t) (bracket-at t) bracket.Post
+bracket-enum-told-3 t c = search needs
+
+bracket-same-length-2 : (t : ℕ) → bracket-lts.Need-same-length-2 (bracket-calls t) (bracket-at t) bracket.Post
+bracket-same-length-2 t c = search needs
+
+bracket-returns-3 : (t : ℕ) → bracket-lts.Need-returns-3 (bracket-calls t) (bracket-at t) bracket.Post
+bracket-returns-3 t c = bracket-got _ _ _ _ _ _ _ _ _ (c .before .before .before .before .before .before .before .before .before .before .before .before .before .before .before .before .before .before .before .before .before .before .before .head-end .ensures) (c .before .before .before .before .before .before .before .before .before .before .before .before .before .before .before .before .before .before .before .before .before .end .given .1) (c .before .before .before .before .before .before .before .before .before .before .before .before .before .before .before .before .before .before .before .part .ensures) (c .before .before .before .before .before .before .before .before .before .before .before .before .before .before .before .before .before .before .all-in .ensures) (c .before .before .before .before .before .before .before .before .before .before .before .before .before .before .before .before .before .if1 .left) _ _ _ (c .before .before .before .before .before .before .before .before .before .before .before .before .before .before .alternatives .ensures) _ _ (c .before .before .before .before .before .before .before .before .before .before .next .given .1) _ (c .before .before .before .before .before .before .before .after .ensures) _ _ _ (c .before .before .before .before .before .close .given .1) (c .before .before .before .before .before .before .before .before .before .before .before .before .before .before .before .before .last-name .ensures) (c .before .before .chain .ensures)
+
+bracket-same-length-3 : (t : ℕ) → bracket-lts.Need-same-length-3 (bracket-calls t) (bracket-at t) bracket.Post
+bracket-same-length-3 t c = search needs
+
+bracket-returns-4 : (t : ℕ) → bracket-lts.Need-returns-4 (bracket-calls t) (bracket-at t) bracket.Post
+bracket-returns-4 t c = search cycle
+
+bracket-same-length-4 : (t : ℕ) → bracket-lts.Need-same-length-4 (bracket-calls t) (bracket-at t) bracket.Post
+bracket-same-length-4 t c = search needs
+
+bracket-returns-5 : (t : ℕ) → bracket-lts.Need-returns-5 (bracket-calls t) (bracket-at t) bracket.Post
+bracket-returns-5 t c = search cycle
 
 conjunction-term-requires : (t : ℕ) → conjunction-lts.Need-term-requires (conjunction-calls t) (conjunction-at t) conjunction.Post
 conjunction-term-requires t c κs = search (fall, needs)
@@ -481,66 +512,6 @@ more-terms-returns-2 t c = search cycle
 more-terms-returns-3 : (t : ℕ) → more-terms-lts.Need-returns-3 (more-terms-calls t) (more-terms-at t) more-terms.Post
 more-terms-returns-3 t c = search cycle
 
-property-part-requires : (t : ℕ) → property-lts.Need-part-requires (property-calls t) (property-at t) property.Post
-property-part-requires t c κs = search needs
-
-property-all-in-requires : (t : ℕ) → property-lts.Need-all-in-requires (property-calls t) (property-at t) property.Post
-property-all-in-requires t c κs = search needs
-
-property-returns : (t : ℕ) → property-lts.Need-returns (property-calls t) (property-at t) property.Post
-property-returns t c = search cycle
-
-property-last-name-requires : (t : ℕ) → property-lts.Need-last-name-requires (property-calls t) (property-at t) property.Post
-property-last-name-requires t c κs = search needs
-
-property-add-alternatives : (t : ℕ) → property-lts.Need-add-alternatives (property-calls t) (property-at t) property.Post
-property-add-alternatives t c = search (fall, needs)
-
-property-add-alternatives-2 : (t : ℕ) → property-lts.Need-add-alternatives-2 (property-calls t) (property-at t) property.Post
-property-add-alternatives-2 t c = search (fall, needs)
-
-property-alternatives-requires : (t : ℕ) → property-lts.Need-alternatives-requires (property-calls t) (property-at t) property.Post
-property-alternatives-requires t c κs = search (fall, needs)
-
-property-enum-known-next : (t : ℕ) → property-lts.Need-enum-known-next (property-calls t) (property-at t) property.Post
-property-enum-known-next t c = search needs
-
-property-slice-aggregate-after : (t : ℕ) → property-lts.Need-slice-aggregate-after (property-calls t) (property-at t) property.Post
-property-slice-aggregate-after t c = search needs
-
-property-after-requires : (t : ℕ) → property-lts.Need-after-requires (property-calls t) (property-at t) property.Post
-property-after-requires t c κs = search needs
-
-property-enum-known-end : (t : ℕ) → property-lts.Need-enum-known-end (property-calls t) (property-at t) property.Post
-property-enum-known-end t c = search needs
-
-property-chain-requires : (t : ℕ) → property-lts.Need-chain-requires (property-calls t) (property-at t) property.Post
-property-chain-requires t c κs = search needs
-
-property-enum-told : (t : ℕ) → property-lts.Need-enum-told (property-calls t) (property-at t) property.Post
-property-enum-told t c = search needs
-
-property-enum-told-2 : (t : ℕ) → property-lts.Need-enum-told-2 (property-calls t) (property-at t) property.Post
-property-enum-told-2 t c = search needs
-
-property-same-length : (t : ℕ) → property-lts.Need-same-length (property-calls t) (property-at t) property.Post
-property-same-length t c = search needs
-
-property-returns-2 : (t : ℕ) → property-lts.Need-returns-2 (property-calls t) (property-at t) property.Post
-property-returns-2 t c = search cycle
-
-property-same-length-2 : (t : ℕ) → property-lts.Need-same-length-2 (property-calls t) (property-at t) property.Post
-property-same-length-2 t c = search needs
-
-property-returns-3 : (t : ℕ) → property-lts.Need-returns-3 (property-calls t) (property-at t) property.Post
-property-returns-3 t c = search cycle
-
-property-same-length-3 : (t : ℕ) → property-lts.Need-same-length-3 (property-calls t) (property-at t) property.Post
-property-same-length-3 t c = search needs
-
-property-returns-4 : (t : ℕ) → property-lts.Need-returns-4 (property-calls t) (property-at t) property.Post
-property-returns-4 t c = search cycle
-
 query-conjunction-requires : (t : ℕ) → query-lts.Need-conjunction-requires (query-calls t) (query-at t) query.Post
 query-conjunction-requires t c κs = search (fall, needs)
 
@@ -643,9 +614,9 @@ term-returns-4 t c = search cycle
 term-returns-5 : (t : ℕ) → term-lts.Need-returns-5 (term-calls t) (term-at t) term.Post
 term-returns-5 t c = search cycle
 
-pub +alternative+alternatives+bracket+conjunction+more-alternatives+more-conjunctions+more-terms+property+query+term-spec :
+pub +alternative+alternatives+bracket+conjunction+more-alternatives+more-conjunctions+more-terms+query+term-spec :
     {M : Type 1} → statement M
-+alternative+alternatives+bracket+conjunction+more-alternatives+more-conjunctions+more-terms+property+query+term-spec =
++alternative+alternatives+bracket+conjunction+more-alternatives+more-conjunctions+more-terms+query+term-spec =
     close
     μ-alternative
     μ-alternatives
@@ -654,7 +625,6 @@ pub +alternative+alternatives+bracket+conjunction+more-alternatives+more-conjunc
     μ-more-alternatives
     μ-more-conjunctions
     μ-more-terms
-    μ-property
     μ-query
     μ-term
     (λ t. alternative-lts.spec (alternative-calls t) (alternative-at t) alternative.Post
@@ -692,14 +662,30 @@ pub +alternative+alternatives+bracket+conjunction+more-alternatives+more-conjunc
     (λ t. bracket-lts.spec (bracket-calls t) (bracket-at t) bracket.Post
     (bracket-head-end-requires t)
     (bracket-enum-known-end t)
-    (bracket-sub-property t)
-    (bracket-property-requires t)
     (bracket-enum-told t)
     (bracket-plain-requires t)
     (bracket-same-length t)
     (bracket-returns t)
+    (bracket-sub-len t)
+    (bracket-part-requires t)
+    (bracket-all-in-requires t)
+    (bracket-returns-2 t)
+    (bracket-last-name-requires t)
+    (bracket-add-alternatives t)
+    (bracket-alternatives-requires t)
+    (bracket-enum-known-next t)
+    (bracket-slice-aggregate-after t)
+    (bracket-after-requires t)
+    (bracket-enum-known-close t)
+    (bracket-chain-requires t)
+    (bracket-enum-told-2 t)
+    (bracket-enum-told-3 t)
     (bracket-same-length-2 t)
-    (bracket-returns-2 t))
+    (bracket-returns-3 t)
+    (bracket-same-length-3 t)
+    (bracket-returns-4 t)
+    (bracket-same-length-4 t)
+    (bracket-returns-5 t))
     (λ t. conjunction-lts.spec
     (term-below t, term.Post, more-terms-below t, more-terms.Post)
     (conjunction-at t)
@@ -756,27 +742,6 @@ pub +alternative+alternatives+bracket+conjunction+more-alternatives+more-conjunc
     (more-terms-same-length-2 t)
     (more-terms-returns-2 t)
     (more-terms-returns-3 t))
-    (λ t. property-lts.spec (property-calls t) (property-at t) property.Post
-    (property-part-requires t)
-    (property-all-in-requires t)
-    (property-returns t)
-    (property-last-name-requires t)
-    (property-add-alternatives t)
-    (property-add-alternatives-2 t)
-    (property-alternatives-requires t)
-    (property-enum-known-next t)
-    (property-slice-aggregate-after t)
-    (property-after-requires t)
-    (property-enum-known-end t)
-    (property-chain-requires t)
-    (property-enum-told t)
-    (property-enum-told-2 t)
-    (property-same-length t)
-    (property-returns-2 t)
-    (property-same-length-2 t)
-    (property-returns-3 t)
-    (property-same-length-3 t)
-    (property-returns-4 t))
     (λ t. query-lts.spec (query-calls t) (query-at t) query.Post
     (query-conjunction-requires t)
     (query-enum-known-next t)
