@@ -227,12 +227,12 @@ module _ (n l : ℕ) where
       go true e false f h = (eqb-true n 0 e, ltb-false l 6148 f)
       go false e b f h = absurd (eqb-false n 0 e h)
 
--- The query call.
-module _ (h s b scratch after : Bytes) (n r : ℕ) (C : CoreIn h s scratch after n) (D : r ≡ decided n (length b)) where
-  abbrev stored : Core → Answer Core
+-- The query call: what its stages answer, and the length of the buffer.
+module _ (h s b : Bytes) where
+  abbrev pub stored : Core → Answer Core
   stored c = cond (ltb (length b) querySize) (refused 20) (accepted c)
 
-  call-is : queryCall h s b ≡ andThen (coreCall h s) stored
+  pub call-is : queryCall h s b ≡ andThen (coreCall h s) stored
   unfolding queryCall coreCall
   call-is = go (heldRegister h)
     where
@@ -240,36 +240,37 @@ module _ (h s b scratch after : Bytes) (n r : ℕ) (C : CoreIn h s scratch after
       go none = refl
       go (some R) = refl
 
-  call-number : r ≡ numberOf (queryCall h s b)
-  unfolding CoreIn
-  call-number = D ∙ go (coreCall h s) refl ∙ sym (ap numberOf call-is)
-    where
-      short : (t : Bool) (c : Core) → cond t 20 0 ≡ numberOf (cond t (refused 20) (accepted c))
-      short true c = refl
-      short false c = refl
+  module _ (scratch after : Bytes) (n r : ℕ) (C : CoreIn h s scratch after n) (D : r ≡ decided n (length b)) where
+    call-number : r ≡ numberOf (queryCall h s b)
+    unfolding CoreIn
+    call-number = D ∙ go (coreCall h s) refl ∙ sym (ap numberOf call-is)
+      where
+        short : (t : Bool) (c : Core) → cond t 20 0 ≡ numberOf (cond t (refused 20) (accepted c))
+        short true c = refl
+        short false c = refl
 
-      no-zero : (m : ℕ) → coreCall h s ≡ refused m → n ≡ 0 → ⊥
-      no-zero m e z = let w = zero-core h s (sym (C .number) ∙ z) in let y : _≡_ {A = ℕ} 0 1 = cc (w .1) in omega arith
+        no-zero : (m : ℕ) → coreCall h s ≡ refused m → n ≡ 0 → ⊥
+        no-zero m e z = let w = zero-core h s (sym (C .number) ∙ z) in let y : _≡_ {A = ℕ} 0 1 = cc (w .1) in omega arith
 
-      go : (a : Answer Core) → coreCall h s ≡ a → decided n (length b) ≡ numberOf (andThen a stored)
-      go (refused m) e = sym (decided-refused n (length b) (no-zero m e)) ∙ C .number ∙ ap numberOf e
-      go (accepted c) e = decided-is n (length b) (C .number ∙ ap numberOf e) ∙ short (ltb (length b) querySize) c
+        go : (a : Answer Core) → coreCall h s ≡ a → decided n (length b) ≡ numberOf (andThen a stored)
+        go (refused m) e = sym (decided-refused n (length b) (no-zero m e)) ∙ C .number ∙ ap numberOf e
+        go (accepted c) e = decided-is n (length b) (C .number ∙ ap numberOf e) ∙ short (ltb (length b) querySize) c
 
-  pub query-refused : (r ≡ 0 → ⊥) → Queries h s b b r
-  query-refused f = go (queryCall h s b) refl
-    where
-      go : (a : Answer Core) → queryCall h s b ≡ a → Queries h s b b r
-      go (refused m) e = record { number = call-number; buffer = store-refused (queryCall h s b) m b e }
-      go (accepted c) e = absurd (f (call-number ∙ ap numberOf e))
+    pub query-refused : (r ≡ 0 → ⊥) → Queries h s b b r
+    query-refused f = go (queryCall h s b) refl
+      where
+        go : (a : Answer Core) → queryCall h s b ≡ a → Queries h s b b r
+        go (refused m) e = record { number = call-number; buffer = store-refused (queryCall h s b) m b e }
+        go (accepted c) e = absurd (f (call-number ∙ ap numberOf e))
 
-  pub query-done : (b′ : Bytes) → r ≡ 0 → 6148 ≤ length scratch → length after ≡ 6148 → b′ ≡ written b 0 after → Queries h s b b′ r
-  unfolding CoreIn
-  query-done b′ zero room size e =
-      let w = decided-zero n (length b) (sym D ∙ zero) in
-      let c = zero-core h s (sym (C .number) ∙ w .0) in
-      let q : queryCall h s b ≡ accepted (c .0) = call-is ∙ ap (λ x. andThen x stored) (c .1) ∙ rw (le-ltb (length b) 6148 (w .1)) refl in
-      let k = C .held (c .0) (c .1) room in
-      record {
-        number = call-number;
-        buffer = store-accepted (queryCall h s b) (c .0) b b′ q (ap heldQuery e ∙ copy-held b after size (w .1) (c .0) k) (ap length e ∙ length-written b 0 after) (ap (drop querySize) e ∙ copy-behind b after size (w .1));
-      }
+    pub query-done : (b′ : Bytes) → r ≡ 0 → 6148 ≤ length scratch → length after ≡ 6148 → b′ ≡ written b 0 after → Queries h s b b′ r
+    unfolding CoreIn
+    query-done b′ zero room size e =
+        let w = decided-zero n (length b) (sym D ∙ zero) in
+        let c = zero-core h s (sym (C .number) ∙ w .0) in
+        let q : queryCall h s b ≡ accepted (c .0) = call-is ∙ ap (λ x. andThen x stored) (c .1) ∙ rw (le-ltb (length b) 6148 (w .1)) refl in
+        let k = C .held (c .0) (c .1) room in
+        record {
+          number = call-number;
+          buffer = store-accepted (queryCall h s b) (c .0) b b′ q (ap heldQuery e ∙ copy-held b after size (w .1) (c .0) k) (ap length e ∙ length-written b 0 after) (ap (drop querySize) e ∙ copy-behind b after size (w .1));
+        }
