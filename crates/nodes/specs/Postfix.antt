@@ -1,4 +1,4 @@
--- Working definitions: a core query as postfix nodes, and the stack machine that reads it back.
+-- A core query as postfix nodes, and the stack machine that reads it back: by it a held query says what it holds.
 use Prim.Native.Nat.{ℕ}
 use mathlib.Core.List.{List, [], _∷_, _++_}
 use mathlib.Core.Option.{Option, some, none}

@@ -1,4 +1,4 @@
--- What reading a text answers: the number of the published definition, and the table of slots.
+-- Working definitions: what reading a text answers, the number of the published definition and the table of slots.
 use Prim.Native.Nat.{ℕ, _*_, _≤_}
 use mathlib.Core.Path.{_≡_}
 use mathlib.Core.Bool.{cond}
