@@ -27,7 +27,7 @@ use Rattle.nodes.specs.Postfix as Postfix
 use Rattle.nodes.specs.Postfix.{post}
 use Rattle.nodes.specs.Reading.{constantBy, nodeBy, keepsConstant, keepsSelector}
 use Rattle.nodes.specs.Writing.{noSpan, Short, ShortSelector}
-use Rattle.emitting.specs.Emission.{Puts, selectNode, joinNode, comparing, oneNode, eitherNodes, comparedNodes, writtenScope, scopeOf, scopedNodes, referenceNodes, constantIn, Sound, KeepsReference, KeepsValue, Emits}
+use Rattle.emitting.specs.Emission.{PutsNodes, selectNode, joinNode, comparing, oneNode, eitherNodes, comparedNodes, writtenScope, scopeOf, scopedNodes, referenceNodes, constantIn, Sound, KeepsReference, KeepsValue, Emits}
 use Rattle.emitting.specs.declared.Comparison.{Comparison}
 use Rattle.emitting.specs.declared.Scope.{Scope}
 use Rattle.emitting.specs.declared.Emitted.{Emitted}
@@ -150,7 +150,7 @@ module _ (s : Bytes) where
 
 -- What is emitted.
 module _ (s : Bytes) (p : Span) (c : SurfaceComparator) where
-  pub reference-emits : (r : Split) (b b′ : Bytes) (n m : ℕ) → SplitsAt s p r → Puts b n (referenceNodes c r) b′ m → Emits s (KeepsReference s p) (some (post (elaborateReference c (reference (partOf s p))))) b n (Emitted.Count m) b′
+  pub reference-emits : (r : Split) (b b′ : Bytes) (n m : ℕ) → SplitsAt s p r → PutsNodes b n (referenceNodes c r) b′ m → Emits s (KeepsReference s p) (some (post (elaborateReference c (reference (partOf s p))))) b n (Emitted.Count m) b′
   unfolding Emits
   reference-emits r b b′ n m h k = (
     referenceNodes c r,
@@ -168,7 +168,7 @@ module _ (s : Bytes) (p : Span) (c : SurfaceComparator) where
       unfolding Emits elaborateValue
       link-unfit b b′ n h = rw (← e, ← f, not-true q h)
 
-      pub link-emits : (a b d : Bytes) (n o m : ℕ) → not q ≡ false → Emits s (KeepsReference s p) (some (post (elaborateReference c (reference (partOf s p))))) a n (Emitted.Count o) b → Puts b o (selectNode (Selector.Subquery x) ∷ []) d m → Valued Kind.Page a n (Emitted.Count m) d
+      pub link-emits : (a b d : Bytes) (n o m : ℕ) → not q ≡ false → Emits s (KeepsReference s p) (some (post (elaborateReference c (reference (partOf s p))))) a n (Emitted.Count o) b → PutsNodes b o (selectNode (Selector.Subquery x) ∷ []) d m → Valued Kind.Page a n (Emitted.Count m) d
       unfolding Emits elaborateValue post
       link-emits a b d n o m h (l, is, put, good) k =
           let yes : isReference (reference (partOf s p)) ≡ true = rw (← e, ← f) (not-false q h) in
@@ -185,7 +185,7 @@ module _ (s : Bytes) (p : Span) (c : SurfaceComparator) where
       unfolding Emits
       constant-unfit b b′ n f = rw (constant-is s p kind, ← e, f)
 
-      pub constant-emits : (k : Constant) (b b′ : Bytes) (n m : ℕ) → r ≡ ConstantRead.Is k → Puts b n (comparedNodes (Comparison.Value x k) c) b′ m → Emits s (KeepsValue s x p) (mapOption post (mapOption (elaborateConstant (partOf s x) c) (readConstant kind (partOf s p)))) b n (Emitted.Count m) b′
+      pub constant-emits : (k : Constant) (b b′ : Bytes) (n m : ℕ) → r ≡ ConstantRead.Is k → PutsNodes b n (comparedNodes (Comparison.Value x k) c) b′ m → Emits s (KeepsValue s x p) (mapOption post (mapOption (elaborateConstant (partOf s x) c) (readConstant kind (partOf s p)))) b n (Emitted.Count m) b′
       unfolding Emits elaborateConstant
       constant-emits k b b′ n m f put = (
         comparedNodes (Comparison.Value x k) c,

@@ -24,7 +24,7 @@ use Rattle.nodes.specs.Held.{nodesTo}
 use Rattle.nodes.specs.Reading.{nodeBy}
 use Rattle.nodes.specs.Writing.{withNode}
 use Rattle.nodes.proofs.Kept.{length-kept, two-kept, text-kept, nodes-there}
-use Rattle.emitting.specs.Emission.{counted, Puts, selectNode, joinNode, comparing, eitherNodes, comparedNodes, writtenScope, scopeOf, referenceNodes, Sound, Ready}
+use Rattle.emitting.specs.Emission.{counted, PutsNodes, selectNode, joinNode, comparing, eitherNodes, comparedNodes, writtenScope, scopeOf, referenceNodes, Sound, Ready}
 use Rattle.emitting.specs.declared.Comparison.{Comparison}
 use Rattle.emitting.specs.declared.Scope.{Scope}
 
@@ -54,60 +54,60 @@ pub scope-by : (c d : SurfaceComparator) (r : Split) (k : Scope) → c ≡ d →
 scope-by c d r k e h = rw e h
 
 -- One node, and nodes behind nodes.
-pub puts-one : (b b′ : Bytes) (n n′ : ℕ) (x : Node) → b′ ≡ withNode b n x → n′ ≡ counted n → Puts b n (x ∷ []) b′ n′
-unfolding Puts
+pub puts-one : (b b′ : Bytes) (n n′ : ℕ) (x : Node) → b′ ≡ withNode b n x → n′ ≡ counted n → PutsNodes b n (x ∷ []) b′ n′
+unfolding PutsNodes
 puts-one b b′ n n′ x p q = (p, q)
 
-pub puts-then : (l k : List Node) (b b′ b″ : Bytes) (n n′ n″ : ℕ) → Puts b n l b′ n′ → Puts b′ n′ k b″ n″ → Puts b n (l ++ k) b″ n″
-unfolding Puts
+pub puts-then : (l k : List Node) (b b′ b″ : Bytes) (n n′ n″ : ℕ) → PutsNodes b n l b′ n′ → PutsNodes b′ n′ k b″ n″ → PutsNodes b n (l ++ k) b″ n″
+unfolding PutsNodes
 puts-then [] k b b′ b″ n n′ n″ p q = rw (← p .0, ← p .1) q
 puts-then (x ∷ l) k b b′ b″ n n′ n″ p q = puts-then l k (withNode b n x) b′ b″ (counted n) n′ n″ p q
 
 -- three in a row
-puts-three : (j k l : List Node) (a b c d : Bytes) (n o p q : ℕ) → Puts a n j b o → Puts b o k c p → Puts c p l d q → Puts a n (j ++ k ++ l) d q
+puts-three : (j k l : List Node) (a b c d : Bytes) (n o p q : ℕ) → PutsNodes a n j b o → PutsNodes b o k c p → PutsNodes c p l d q → PutsNodes a n (j ++ k ++ l) d q
 puts-three j k l a b c d n o p q e f g = puts-then (j ++ k) l a c d n p q (puts-then j k a b c n o p e f) g
 
 -- The ways to write comparisons and references.
 module _ (w : Comparison) where
-  pub one-puts : (b b′ : Bytes) (n n′ : ℕ) (c : Comparator) (x : Selector) → x ≡ comparing w c → Puts b n (selectNode x ∷ []) b′ n′ → Puts b n (selectNode (comparing w c) ∷ []) b′ n′
+  pub one-puts : (b b′ : Bytes) (n n′ : ℕ) (c : Comparator) (x : Selector) → x ≡ comparing w c → PutsNodes b n (selectNode x ∷ []) b′ n′ → PutsNodes b n (selectNode (comparing w c) ∷ []) b′ n′
   one-puts b b′ n n′ c x e p = rw (← e) p
 
-  pub either-puts : (a b c d : Bytes) (n o p q : ℕ) (k : Comparator) → Puts a n (selectNode (comparing w k) ∷ []) b o → Puts b o (selectNode (comparing w Comparator.Equal) ∷ []) c p → Puts c p (joinNode Connective.Or ∷ []) d q → Puts a n (eitherNodes w k) d q
+  pub either-puts : (a b c d : Bytes) (n o p q : ℕ) (k : Comparator) → PutsNodes a n (selectNode (comparing w k) ∷ []) b o → PutsNodes b o (selectNode (comparing w Comparator.Equal) ∷ []) c p → PutsNodes c p (joinNode Connective.Or ∷ []) d q → PutsNodes a n (eitherNodes w k) d q
   either-puts a b c d n o p q k = puts-three _ _ _ a b c d n o p q
 
   module _ (b b′ : Bytes) (n n′ : ℕ) (c : SurfaceComparator) where
-    pub equal-puts : c ≡ SurfaceComparator.Equal → Puts b n (selectNode (comparing w Comparator.Equal) ∷ []) b′ n′ → Puts b n (comparedNodes w c) b′ n′
+    pub equal-puts : c ≡ SurfaceComparator.Equal → PutsNodes b n (selectNode (comparing w Comparator.Equal) ∷ []) b′ n′ → PutsNodes b n (comparedNodes w c) b′ n′
     unfolding comparedNodes
     equal-puts e p = rw e p
 
-    pub unequal-puts : c ≡ SurfaceComparator.Unequal → Puts b n (selectNode (comparing w Comparator.Unequal) ∷ []) b′ n′ → Puts b n (comparedNodes w c) b′ n′
+    pub unequal-puts : c ≡ SurfaceComparator.Unequal → PutsNodes b n (selectNode (comparing w Comparator.Unequal) ∷ []) b′ n′ → PutsNodes b n (comparedNodes w c) b′ n′
     unfolding comparedNodes
     unequal-puts e p = rw e p
 
-    pub greater-puts : c ≡ SurfaceComparator.Greater → Puts b n (selectNode (comparing w Comparator.Greater) ∷ []) b′ n′ → Puts b n (comparedNodes w c) b′ n′
+    pub greater-puts : c ≡ SurfaceComparator.Greater → PutsNodes b n (selectNode (comparing w Comparator.Greater) ∷ []) b′ n′ → PutsNodes b n (comparedNodes w c) b′ n′
     unfolding comparedNodes
     greater-puts e p = rw e p
 
-    pub less-puts : c ≡ SurfaceComparator.Less → Puts b n (selectNode (comparing w Comparator.Less) ∷ []) b′ n′ → Puts b n (comparedNodes w c) b′ n′
+    pub less-puts : c ≡ SurfaceComparator.Less → PutsNodes b n (selectNode (comparing w Comparator.Less) ∷ []) b′ n′ → PutsNodes b n (comparedNodes w c) b′ n′
     unfolding comparedNodes
     less-puts e p = rw e p
 
-    pub least-puts : c ≡ SurfaceComparator.AtLeast → Puts b n (eitherNodes w Comparator.Greater) b′ n′ → Puts b n (comparedNodes w c) b′ n′
+    pub least-puts : c ≡ SurfaceComparator.AtLeast → PutsNodes b n (eitherNodes w Comparator.Greater) b′ n′ → PutsNodes b n (comparedNodes w c) b′ n′
     unfolding comparedNodes
     least-puts e p = rw e p
 
-    pub most-puts : c ≡ SurfaceComparator.AtMost → Puts b n (eitherNodes w Comparator.Less) b′ n′ → Puts b n (comparedNodes w c) b′ n′
+    pub most-puts : c ≡ SurfaceComparator.AtMost → PutsNodes b n (eitherNodes w Comparator.Less) b′ n′ → PutsNodes b n (comparedNodes w c) b′ n′
     unfolding comparedNodes
     most-puts e p = rw e p
 
 pub ruleset comparisons = (one-puts, either-puts, equal-puts, unequal-puts, greater-puts, less-puts, least-puts, most-puts)
 
 module _ (c : SurfaceComparator) (r : Split) (k : Scope) (is : k ≡ scopeOf c r) where
-  pub anywhere-puts : (b b′ : Bytes) (n n′ : ℕ) → k ≡ Scope.Any → Puts b n (comparedNodes (Comparison.Article (r .article)) c) b′ n′ → Puts b n (referenceNodes c r) b′ n′
+  pub anywhere-puts : (b b′ : Bytes) (n n′ : ℕ) → k ≡ Scope.Any → PutsNodes b n (comparedNodes (Comparison.Article (r .article)) c) b′ n′ → PutsNodes b n (referenceNodes c r) b′ n′
   unfolding referenceNodes
   anywhere-puts b b′ n n′ e p = rw (sym is ∙ e) p
 
-  pub within-puts : (x : Span) (a b d e : Bytes) (n o p q : ℕ) → k ≡ Scope.Within x → Puts a n (selectNode (Selector.Namespace x) ∷ []) b o → Puts b o (comparedNodes (Comparison.Article (r .article)) c) d p → Puts d p (joinNode Connective.And ∷ []) e q → Puts a n (referenceNodes c r) e q
+  pub within-puts : (x : Span) (a b d e : Bytes) (n o p q : ℕ) → k ≡ Scope.Within x → PutsNodes a n (selectNode (Selector.Namespace x) ∷ []) b o → PutsNodes b o (comparedNodes (Comparison.Article (r .article)) c) d p → PutsNodes d p (joinNode Connective.And ∷ []) e q → PutsNodes a n (referenceNodes c r) e q
   unfolding referenceNodes
   within-puts x a b d e n o p q f g h i = rw (sym is ∙ f) (puts-three _ _ _ a b d e n o p q g h i)
 
@@ -131,8 +131,8 @@ module _ (s : Bytes) where
   nothing none = refl
   nothing (some l) = ap some (sym (append-nil l))
 
-  pub puts-read : (l : List Node) (b b′ : Bytes) (n n′ : ℕ) → Puts b n l b′ n′ → Ready s b → Sound s l → n + length l ≤ 256 → Ready s b′ × (n′ ≡ n + length l) × (nodesTo b′ n′ ≡ (nodesTo b n >>= λ k. some (k ++ map (nodeBy s) l)))
-  unfolding Puts Sound
+  pub puts-read : (l : List Node) (b b′ : Bytes) (n n′ : ℕ) → PutsNodes b n l b′ n′ → Ready s b → Sound s l → n + length l ≤ 256 → Ready s b′ × (n′ ≡ n + length l) × (nodesTo b′ n′ ≡ (nodesTo b n >>= λ k. some (k ++ map (nodeBy s) l)))
+  unfolding PutsNodes Sound
   puts-read [] b b′ n n′ p r g h = (rw (p .0) r, omega (arith, p .1), rw (p .0, p .1) (nothing (nodesTo b n)))
   puts-read (x ∷ l) b b′ n n′ p r g h =
       let room : n < 256 = omega arith in
@@ -143,8 +143,8 @@ module _ (s : Bytes) where
       (i .0, f, i .2 ∙ rw (e, nodes-there b n x room (r .long) (r .size) good (g .1), r .text) (joined (nodesTo b n) (nodeBy s x) (map (nodeBy s) l)))
 
 -- How many were put, as far as it is counted.
-pub puts-count : (l : List Node) (b b′ : Bytes) (n n′ : ℕ) → Puts b n l b′ n′ → n ≤ 257 → n′ ≡ min 257 (n + length l)
-unfolding Puts
+pub puts-count : (l : List Node) (b b′ : Bytes) (n n′ : ℕ) → PutsNodes b n l b′ n′ → n ≤ 257 → n′ ≡ min 257 (n + length l)
+unfolding PutsNodes
 puts-count [] b b′ n n′ p h = omega (arith, p .1)
 puts-count (x ∷ l) b b′ n n′ p h = go (ltb n 257) refl (λ k. puts-count l (withNode b n x) b′ (counted n) n′ p k)
   where

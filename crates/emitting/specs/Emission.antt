@@ -35,9 +35,9 @@ abbrev pub counted : ℕ → ℕ
 counted n = cond (ltb n 257) (n + 1) 257
 
 -- The buffer b with n nodes, nodes that are put behind them, the buffer and the count then.
-unfoldable pub Puts : Bytes → ℕ → List Node → Bytes → ℕ → Type 0
-Puts b n [] b′ n′ = (b′ ≡ b) × (n′ ≡ n)
-Puts b n (x ∷ l) b′ n′ = Puts (withNode b n x) (counted n) l b′ n′
+unfoldable pub PutsNodes : Bytes → ℕ → List Node → Bytes → ℕ → Type 0
+PutsNodes b n [] b′ n′ = (b′ ≡ b) × (n′ ≡ n)
+PutsNodes b n (x ∷ l) b′ n′ = PutsNodes (withNode b n x) (counted n) l b′ n′
 
 -- A selector's node, and a connective's.
 abbrev pub selectNode : Selector → Node
@@ -120,7 +120,7 @@ pub record KeepsValue (s : Bytes) (x p : Span) : Type 0 where
 -- What emission answers: s is the text, o tells the nodes that are meant, K makes those that are put sound.
 unfoldable pub Emits : Bytes → Type 0 → Option (List Postfix.Node) → Bytes → ℕ → Emitted → Bytes → Type 0
 Emits s K o b n Emitted.Unfit b′ = o ≡ none
-Emits s K o b n (Emitted.Count m) b′ = (l : List Node) × (o ≡ some (map (nodeBy s) l)) × Puts b n l b′ m × (K → Sound s l)
+Emits s K o b n (Emitted.Count m) b′ = (l : List Node) × (o ≡ some (map (nodeBy s) l)) × PutsNodes b n l b′ m × (K → Sound s l)
 
 -- A buffer of a held query's size that carries the text s.
 pub record Ready (s b : Bytes) : Type 0 where

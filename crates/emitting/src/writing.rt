@@ -2,7 +2,7 @@
 ghost use mathlib.Core.Path.{_≡_};
 ghost use mathlib.Core.List.{[], _∷_};
 ghost use mathlib.Core.Option.{some};
-ghost use Rattle.emitting.specs.Emission.{counted, selectNode, joinNode, comparing, eitherNodes, comparedNodes, writtenScope, scopeOf, referenceNodes, Puts, KeepsReference, KeepsValue, Emits};
+ghost use Rattle.emitting.specs.Emission.{counted, selectNode, joinNode, comparing, eitherNodes, comparedNodes, writtenScope, scopeOf, referenceNodes, PutsNodes, KeepsReference, KeepsValue, Emits};
 ghost use Rattle.text.specs.Parts.{partOf};
 ghost use Rattle.values.specs.declared.Kind.the-variants.{Page};
 ghost use Rattle.values.specs.Names.{reference};
@@ -37,7 +37,7 @@ fn one_more(n: usize) -> usize
 
 // A selector behind n nodes.
 pub fn put_select(held: &mut [u8], n: usize, selector: Selector) -> usize
-    ensures { λ r. ⌜ Puts (now (held .entry)) n (selectNode selector ∷ []) (now (held .exit)) r ⌝ }
+    ensures { λ r. ⌜ PutsNodes (now (held .entry)) n (selectNode selector ∷ []) (now (held .exit)) r ⌝ }
 {
     let connective = Connective::Select;
     let node = Node {
@@ -50,7 +50,7 @@ pub fn put_select(held: &mut [u8], n: usize, selector: Selector) -> usize
 
 // A connective behind n nodes.
 pub fn put_join(held: &mut [u8], n: usize, connective: Connective) -> usize
-    ensures { λ r. ⌜ Puts (now (held .entry)) n (joinNode connective ∷ []) (now (held .exit)) r ⌝ }
+    ensures { λ r. ⌜ PutsNodes (now (held .entry)) n (joinNode connective ∷ []) (now (held .exit)) r ⌝ }
 {
     let p = Span { start: 0, len: 0 };
     let selector = Selector::Category(p);
@@ -74,14 +74,14 @@ fn selector_of(what: Comparison, c: Comparator) -> Selector
 
 // One comparison.
 fn put_one(held: &mut [u8], n: usize, what: Comparison, c: Comparator) -> usize
-    ensures { λ r. ⌜ Puts (now (held .entry)) n (selectNode (comparing what c) ∷ []) (now (held .exit)) r ⌝ }
+    ensures { λ r. ⌜ PutsNodes (now (held .entry)) n (selectNode (comparing what c) ∷ []) (now (held .exit)) r ⌝ }
 {
     put_select(held, n, selector_of(what, c))
 }
 
 // Strict OR equal.
 fn put_either(held: &mut [u8], n: usize, what: Comparison, strict: Comparator) -> usize
-    ensures { λ r. ⌜ Puts (now (held .entry)) n (eitherNodes what strict) (now (held .exit)) r ⌝ }
+    ensures { λ r. ⌜ PutsNodes (now (held .entry)) n (eitherNodes what strict) (now (held .exit)) r ⌝ }
 {
     let one = put_one(held, n, what, strict);
     let two = put_one(held, one, what, Comparator::Equal);
@@ -90,7 +90,7 @@ fn put_either(held: &mut [u8], n: usize, what: Comparison, strict: Comparator) -
 
 // A comparison as written.
 pub fn put_compared(held: &mut [u8], n: usize, what: Comparison, c: SurfaceComparator) -> usize
-    ensures { λ r. ⌜ Puts (now (held .entry)) n (comparedNodes what c) (now (held .exit)) r ⌝ }
+    ensures { λ r. ⌜ PutsNodes (now (held .entry)) n (comparedNodes what c) (now (held .exit)) r ⌝ }
 {
     match c {
         SurfaceComparator::Equal => put_one(held, n, what, Comparator::Equal),
@@ -132,7 +132,7 @@ fn scope_of(c: SurfaceComparator, split: Split) -> Scope
 
 // The nodes of a reference.
 fn put_split(held: &mut [u8], n: usize, c: SurfaceComparator, split: Split) -> usize
-    ensures { λ r. ⌜ Puts (now (held .entry)) n (referenceNodes c split) (now (held .exit)) r ⌝ }
+    ensures { λ r. ⌜ PutsNodes (now (held .entry)) n (referenceNodes c split) (now (held .exit)) r ⌝ }
 {
     let article = split.article;
     let what = Comparison::Article(article);

@@ -22,7 +22,7 @@ use Rattle.nodes.specs.Postfix.{post}
 use Rattle.nodes.specs.Held.{nodesTo}
 use Rattle.nodes.specs.Reading.{nodeBy}
 use Rattle.nodes.proofs.Postfix.{length-post}
-use Rattle.emitting.specs.Emission.{Puts, Sound, Emits, Ready}
+use Rattle.emitting.specs.Emission.{PutsNodes, Sound, Emits, Ready}
 use Rattle.emitting.specs.declared.Emitted.{Emitted}
 use Rattle.emitting.proofs.Putting.{puts-read, puts-count}
 use Rattle.fitting.specs.Fitting.{slotUndeclared, emits}
@@ -45,7 +45,7 @@ module _ (s : Bytes) (Γ : Typing) (q : Query) (b b′ : Bytes) where
     list : List Node
     is : elaborate q Γ ≡ some core
     says : map (nodeBy s) list ≡ post core
-    puts : Puts b 0 list b′ n
+    puts : PutsNodes b 0 list b′ n
     sound : KeepsSlots s (flat q) → Sound s list
 
   put-of : (n : ℕ) → Emits s (KeepsSlots s (flat q)) (emits Γ (flat q)) b 0 (Emitted.Count n) b′ → Put n

@@ -15,7 +15,7 @@ use Rattle.language.specs.Register.{Typing}
 use Rattle.slots.specs.Slots.{Slot, slotAt, slotsIn}
 use Rattle.nodes.specs.Postfix as Postfix
 use Rattle.nodes.specs.Reading.{nodeBy}
-use Rattle.emitting.specs.Emission.{Puts, Sound, Emits}
+use Rattle.emitting.specs.Emission.{PutsNodes, Sound, Emits}
 use Rattle.emitting.specs.declared.Emitted.{Emitted}
 use Rattle.emitting.proofs.Putting.{puts-then}
 use Rattle.emitting.proofs.Meanings.{sound-append}
@@ -79,7 +79,7 @@ module _ (Γ : Typing) (s : Bytes) (t : List ℕ) where
       (eq-or-lt-of-le l)
 
   pub emits-none : (b : Bytes) → EmitsTo 0 b (Emitted.Count 0) b
-  unfolding Emits slotsIn tabulate emits Puts Sound
+  unfolding Emits slotsIn tabulate emits PutsNodes Sound
   emits-none b = ([], refl, (refl, refl), λ g. tt)
 
   keeps-suc : (i : ℕ) → KeepsSlots s (slotsIn s t (suc i)) → KeepsSlots s (slotsIn s t i) × (keepsSlot (slotAt s t i) ≡ true)

@@ -26,7 +26,7 @@ use Rattle.nodes.specs.declared.Node.{Node}
 use Rattle.nodes.specs.Postfix as Postfix
 use Rattle.nodes.specs.Postfix.{post}
 use Rattle.nodes.specs.Reading.{nodeBy}
-use Rattle.emitting.specs.Emission.{Puts, selectNode, joinNode, Sound, KeepsReference, KeepsValue, Emits}
+use Rattle.emitting.specs.Emission.{PutsNodes, selectNode, joinNode, Sound, KeepsReference, KeepsValue, Emits}
 use Rattle.emitting.specs.declared.Emitted.{Emitted}
 use Rattle.emitting.proofs.Meanings.{sound-select, sound-join}
 use Rattle.fitting.specs.Fitting.{slotUndeclared, emit}
@@ -123,7 +123,7 @@ weaken s K L o b b′ n Emitted.Unfit f h = h
 weaken s K L o b b′ n (Emitted.Count m) f (l, is, put, good) = (l, is, put, λ k. good (f k))
 
 -- One node.
-one-emits : (s : Bytes) (K : Type 0) (o : Option (List Postfix.Node)) (b b′ : Bytes) (n m : ℕ) (x : Node) → o ≡ some (nodeBy s x ∷ []) → (K → Sound s (x ∷ [])) → Puts b n (x ∷ []) b′ m → Emits s K o b n (Emitted.Count m) b′
+one-emits : (s : Bytes) (K : Type 0) (o : Option (List Postfix.Node)) (b b′ : Bytes) (n m : ℕ) (x : Node) → o ≡ some (nodeBy s x ∷ []) → (K → Sound s (x ∷ [])) → PutsNodes b n (x ∷ []) b′ m → Emits s K o b n (Emitted.Count m) b′
 unfolding Emits
 one-emits s K o b b′ n m x is good put = (x ∷ [], is, put, good)
 
@@ -152,7 +152,7 @@ module _ (s : Bytes) (x : Span) (kind : KindRead) (b b′ : Bytes) (n : ℕ) whe
   subquery-unknown e = rw e
 
   module _ (k : Kind) (e : kind ≡ KindRead.Kind k) where
-    pub subquery-page : (m : ℕ) → k ≡ Kind.Page → Puts b n (selectNode (Selector.Subquery x) ∷ []) b′ m → Subqueried (Emitted.Count m)
+    pub subquery-page : (m : ℕ) → k ≡ Kind.Page → PutsNodes b n (selectNode (Selector.Subquery x) ∷ []) b′ m → Subqueried (Emitted.Count m)
     unfolding keepsSlot
     subquery-page m f put = one-emits s _ _ b b′ n m _ (rw (e, f)) (λ g. sound-select s (Selector.Subquery x) (g .is) (g .short)) put
 
@@ -176,24 +176,24 @@ module _ (Γ : Typing) (s : Bytes) (slot : SlotRead) (b b′ : Bytes) (n : ℕ) 
   Slotted r = Emits s (KeepsRead s slot) (emit Γ (slotBy s slot)) b n r b′
 
   module _ (m : ℕ) where
-    pub and-slot : slot ≡ SlotRead.And → Puts b n (joinNode Connective.And ∷ []) b′ m → Slotted (Emitted.Count m)
+    pub and-slot : slot ≡ SlotRead.And → PutsNodes b n (joinNode Connective.And ∷ []) b′ m → Slotted (Emitted.Count m)
     unfolding emit
     and-slot e put = rw e (one-emits s _ _ b b′ n m _ refl (λ g. sound-join s .0) put)
 
-    pub or-slot : slot ≡ SlotRead.Or → Puts b n (joinNode Connective.Or ∷ []) b′ m → Slotted (Emitted.Count m)
+    pub or-slot : slot ≡ SlotRead.Or → PutsNodes b n (joinNode Connective.Or ∷ []) b′ m → Slotted (Emitted.Count m)
     unfolding emit
     or-slot e put = rw e (one-emits s _ _ b b′ n m _ refl (λ g. sound-join s .1) put)
 
     module _ (p : Span) where
-      pub category-slot : slot ≡ SlotRead.Category p → Puts b n (selectNode (Selector.Category p) ∷ []) b′ m → Slotted (Emitted.Count m)
+      pub category-slot : slot ≡ SlotRead.Category p → PutsNodes b n (selectNode (Selector.Category p) ∷ []) b′ m → Slotted (Emitted.Count m)
       unfolding emit keepsSlot
       category-slot e put = rw e (one-emits s _ _ b b′ n m _ refl (λ g. sound-select s (Selector.Category p) (g .is) (g .short)) put)
 
-      pub namespace-slot : slot ≡ SlotRead.Namespace p → Puts b n (selectNode (Selector.Namespace p) ∷ []) b′ m → Slotted (Emitted.Count m)
+      pub namespace-slot : slot ≡ SlotRead.Namespace p → PutsNodes b n (selectNode (Selector.Namespace p) ∷ []) b′ m → Slotted (Emitted.Count m)
       unfolding emit keepsSlot
       namespace-slot e put = rw e (one-emits s _ _ b b′ n m _ refl (λ g. sound-select s (Selector.Namespace p) (g .is) (g .short)) put)
 
-      pub existence-slot : slot ≡ SlotRead.Existence p → Puts b n (selectNode (Selector.Existence p) ∷ []) b′ m → Slotted (Emitted.Count m)
+      pub existence-slot : slot ≡ SlotRead.Existence p → PutsNodes b n (selectNode (Selector.Existence p) ∷ []) b′ m → Slotted (Emitted.Count m)
       unfolding emit keepsSlot
       existence-slot e put = rw e (one-emits s _ _ b b′ n m _ refl (λ g. sound-select s (Selector.Existence p) (g .is) (g .short)) put)
 
