@@ -26,43 +26,33 @@ last-name-below t =
 abbrev last-name-calls : ℕ → last-name-lts.Claims
 last-name-calls t = (part-reads.Asked, part-reads.Learnt, scan-reads.Asked, scan-reads.Learnt, last-name-below t, last-name.Post, trimmed-reads.Asked, trimmed-reads.Learnt)
 
--- src/lib.rt:176:9
 last-name-part-requires : (t : ℕ) → last-name-lts.Need-part-requires (last-name-calls t) (last-name-at t) last-name.Post
 last-name-part-requires t c κs = search needs
 
--- src/lib.rt:177:9
 last-name-scan-requires : (t : ℕ) → last-name-lts.Need-scan-requires (last-name-calls t) (last-name-at t) last-name.Post
 last-name-scan-requires t c κs = search needs
 
--- src/lib.rt:179:22
 last-name-add-last-name : (t : ℕ) → last-name-lts.Need-add-last-name (last-name-calls t) (last-name-at t) last-name.Post
 last-name-add-last-name t c = omega (arith, dot-fits (c .before .before .before .before .args .s .now) (c .before .before .part .result .now) (c .before .before .before .before .args .at) (c .before .before .before .before .args .len) (c .before .scan .result) (c .before .before .part .ensures) (c .before .scan .ensures) (c .if1 .taken))
 
--- src/lib.rt:179:22
 last-name-add-last-name-2 : (t : ℕ) → last-name-lts.Need-add-last-name-2 (last-name-calls t) (last-name-at t) last-name.Post
 last-name-add-last-name-2 t c = omega (arith, dot-fits (c .before .before .before .before .args .s .now) (c .before .before .part .result .now) (c .before .before .before .before .args .at) (c .before .before .before .before .args .len) (c .before .scan .result) (c .before .before .part .ensures) (c .before .scan .ensures) (c .if1 .taken))
 
--- src/lib.rt:179:36
 last-name-sub-last-name : (t : ℕ) → last-name-lts.Need-sub-last-name (last-name-calls t) (last-name-at t) last-name.Post
 last-name-sub-last-name t c = omega (arith, dot-fits (c .before .before .before .before .args .s .now) (c .before .before .part .result .now) (c .before .before .before .before .args .at) (c .before .before .before .before .args .len) (c .before .scan .result) (c .before .before .part .ensures) (c .before .scan .ensures) (c .if1 .taken))
 
--- src/lib.rt:179:36
 last-name-sub-last-name-2 : (t : ℕ) → last-name-lts.Need-sub-last-name-2 (last-name-calls t) (last-name-at t) last-name.Post
 last-name-sub-last-name-2 t c = omega (arith, dot-fits (c .before .before .before .before .args .s .now) (c .before .before .part .result .now) (c .before .before .before .before .args .at) (c .before .before .before .before .args .len) (c .before .scan .result) (c .before .before .part .ensures) (c .before .scan .ensures) (c .if1 .taken))
 
--- src/lib.rt:179:9
 last-name-last-name-requires : (t : ℕ) → last-name-lts.Need-last-name-requires (last-name-calls t) (last-name-at t) last-name.Post
 last-name-last-name-requires t c κs = (omega (arith, dot-fits (c .before .before .before .before .args .s .now) (c .before .before .part .result .now) (c .before .before .before .before .args .at) (c .before .before .before .before .args .len) (c .before .scan .result) (c .before .before .part .ensures) (c .before .scan .ensures) (c .if1 .taken)), tt)
 
--- src/lib.rt:181:9
 last-name-trimmed-requires : (t : ℕ) → last-name-lts.Need-trimmed-requires (last-name-calls t) (last-name-at t) last-name.Post
 last-name-trimmed-requires t c κs = search needs
 
--- src/lib.rt:173:1
 last-name-returns : (t : ℕ) → last-name-lts.Need-returns (last-name-calls t) (last-name-at t) last-name.Post
 last-name-returns t c = last-on _ _ _ _ _ (c .last-name .result) (c .before .before .before .part .ensures) (c .before .before .scan .ensures) (c .before .if1 .taken) (c .last-name .ensures)
 
--- src/lib.rt:173:1
 last-name-returns-2 : (t : ℕ) → last-name-lts.Need-returns-2 (last-name-calls t) (last-name-at t) last-name.Post
 last-name-returns-2 t c = last-is _ _ _ _ _ (c .trimmed .result) (c .before .before .before .part .ensures) (c .before .before .scan .ensures) (c .before .if1 .left) (c .trimmed .ensures)
 

@@ -7,19 +7,15 @@ use Rattle.pieces.proofs.after.Reads as reads
 use Rattle.pieces.proofs.after.Lts as lts
 use Rattle.text.proofs.word_at.Reads as word-at-reads
 
--- src/lib.rt:62:8
 word-at-requires : tie.Need-word-at-requires
 word-at-requires c κs = search needs
 
--- src/lib.rt:63:19
 add-t7 : tie.Need-add-t7
 add-t7 c = omega (arith, after-ends (c .before .before .before .before .args .s .now) (c .before .before .before .before .args .w .now) (c .before .before .before .before .args .at) _ (c .before .word-at .ensures) (c .if1 .taken))
 
--- src/lib.rt:59:1
 returns : tie.Need-returns
 returns c = after-yes _ _ _ _ (c .before .word-at .ensures) (c .if1 .taken)
 
--- src/lib.rt:59:1
 returns-2 : tie.Need-returns-2
 returns-2 c = after-no _ _ _ _ (c .before .word-at .ensures) (c .if1 .left)
 

@@ -6,107 +6,81 @@ use Rattle.pieces.proofs.comparator_at.Reads as reads
 use Rattle.pieces.proofs.comparator_at.Lts as lts
 use Rattle.pieces.proofs.after.Reads as after-reads
 
--- src/lib.rt:120:24
 slice-aggregate-after : tie.Need-slice-aggregate-after
 slice-aggregate-after c = search needs
 
--- src/lib.rt:120:11
 after-requires : tie.Need-after-requires
 after-requires c κs = search needs
 
--- src/lib.rt:121:19
 enum-known-next : tie.Need-enum-known-next
 enum-known-next c = search needs
 
--- src/lib.rt:125:46
 enum-told : tie.Need-enum-told
 enum-told c = search needs
 
--- src/lib.rt:125:46
 slice-aggregate-after-2 : tie.Need-slice-aggregate-after-2
 slice-aggregate-after-2 c = search needs
 
--- src/lib.rt:125:33
 after-requires-2 : tie.Need-after-requires-2
 after-requires-2 c κs = search needs
 
--- src/lib.rt:126:23
 enum-known-next-2 : tie.Need-enum-known-next-2
 enum-known-next-2 c = search needs
 
--- src/lib.rt:130:50
 enum-told-2 : tie.Need-enum-told-2
 enum-told-2 c = search needs
 
--- src/lib.rt:130:50
 slice-aggregate-after-3 : tie.Need-slice-aggregate-after-3
 slice-aggregate-after-3 c = search needs
 
--- src/lib.rt:130:37
 after-requires-3 : tie.Need-after-requires-3
 after-requires-3 c κs = search needs
 
--- src/lib.rt:131:27
 enum-known-next-3 : tie.Need-enum-known-next-3
 enum-known-next-3 c = search needs
 
--- src/lib.rt:135:54
 enum-told-3 : tie.Need-enum-told-3
 enum-told-3 c = search needs
 
--- src/lib.rt:135:54
 slice-aggregate-after-4 : tie.Need-slice-aggregate-after-4
 slice-aggregate-after-4 c = search needs
 
--- src/lib.rt:135:41
 after-requires-4 : tie.Need-after-requires-4
 after-requires-4 c κs = search needs
 
--- src/lib.rt:136:31
 enum-known-next-4 : tie.Need-enum-known-next-4
 enum-known-next-4 c = search needs
 
--- src/lib.rt:140:58
 enum-told-4 : tie.Need-enum-told-4
 enum-told-4 c = search needs
 
--- src/lib.rt:140:58
 slice-aggregate-after-5 : tie.Need-slice-aggregate-after-5
 slice-aggregate-after-5 c = search needs
 
--- src/lib.rt:140:45
 after-requires-5 : tie.Need-after-requires-5
 after-requires-5 c κs = search needs
 
--- src/lib.rt:141:35
 enum-known-next-5 : tie.Need-enum-known-next-5
 enum-known-next-5 c = search needs
 
--- src/lib.rt:146:41
 enum-told-5 : tie.Need-enum-told-5
 enum-told-5 c = search needs
 
--- src/lib.rt:117:1
 returns : tie.Need-returns
 returns c = search ways
 
--- src/lib.rt:117:1
 returns-2 : tie.Need-returns-2
 returns-2 c = search ways
 
--- src/lib.rt:117:1
 returns-3 : tie.Need-returns-3
 returns-3 c = search ways
 
--- src/lib.rt:117:1
 returns-4 : tie.Need-returns-4
 returns-4 c = search ways
 
--- src/lib.rt:117:1
 returns-5 : tie.Need-returns-5
 returns-5 c = search ways
 
--- src/lib.rt:117:1
 returns-6 : tie.Need-returns-6
 returns-6 c = search ways
 

@@ -6,31 +6,24 @@ use Rattle.pieces.proofs.ends_head.Reads as reads
 use Rattle.pieces.proofs.ends_head.Lts as lts
 use Rattle.text.proofs.word_at.Reads as word-at-reads
 
--- src/lib.rt:96:20
 slice-aggregate-word-at : tie.Need-slice-aggregate-word-at
 slice-aggregate-word-at c = search needs
 
--- src/lib.rt:96:5
 word-at-requires : tie.Need-word-at-requires
 word-at-requires c κs = search needs
 
--- src/lib.rt:96:43
 slice-aggregate-word-at-2 : tie.Need-slice-aggregate-word-at-2
 slice-aggregate-word-at-2 c = search needs
 
--- src/lib.rt:96:28
 word-at-requires-2 : tie.Need-word-at-requires-2
 word-at-requires-2 c κs = search needs
 
--- src/lib.rt:96:68
 slice-aggregate-word-at-3 : tie.Need-slice-aggregate-word-at-3
 slice-aggregate-word-at-3 c = search needs
 
--- src/lib.rt:96:53
 word-at-requires-3 : tie.Need-word-at-requires-3
 word-at-requires-3 c κs = search needs
 
--- src/lib.rt:93:1
 returns : tie.Need-returns
 unfolding from
 returns c = rw (← c .before .before .before .before .word-at .ensures, ← c .before .before .word-at2 .ensures, ← c .word-at3 .ensures)

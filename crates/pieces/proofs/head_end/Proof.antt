@@ -17,43 +17,33 @@ Inv-loop s at i₀ t4 i = headAt s at ≡ headAt s i
 abbrev μ-loop : tie.MeasureT-loop
 μ-loop s at i₀ t4 i = length s - i
 
--- src/lib.rt:104:5
 loop-holds : tie.Need-loop-holds Inv-loop μ-loop
 loop-holds c = refl
 
--- src/lib.rt:105:26
 slice-aggregate-word-at : tie.Need-slice-aggregate-word-at Inv-loop μ-loop
 slice-aggregate-word-at c = search needs
 
--- src/lib.rt:105:12
 word-at-requires : tie.Need-word-at-requires Inv-loop μ-loop
 word-at-requires c κs = search needs
 
--- src/lib.rt:106:13
 returns : tie.Need-returns Inv-loop μ-loop
 returns c = head-here _ _ _ (c .before .word-at .ensures) (c .if1 .taken) ∙ sym (c .before .before .before .before .loop .inv)
 
--- src/lib.rt:108:12
 ends-head-requires : tie.Need-ends-head-requires Inv-loop μ-loop
 ends-head-requires c κs = search needs
 
--- src/lib.rt:109:13
 returns-2 : tie.Need-returns-2 Inv-loop μ-loop
 returns-2 c = head-none _ _ _ (c .before .before .before .word-at .ensures) _ (c .before .ends-head .ensures) (c .before .before .if1 .left) (c .if2 .taken) ∙ sym (c .before .before .before .before .before .before .loop .inv)
 
--- src/lib.rt:111:9
 add-i : tie.Need-add-i Inv-loop μ-loop
 add-i c = search needs
 
--- src/lib.rt:104:5
 loop-less : tie.Need-loop-less Inv-loop μ-loop
 loop-less c = search needs
 
--- src/lib.rt:104:5
 loop-again : tie.Need-loop-again Inv-loop μ-loop
 loop-again c = c .before .before .before .before .before .before .loop .inv ∙ head-step _ _ _ (c .before .before .before .word-at .ensures) _ (c .before .ends-head .ensures) (c .before .before .if1 .left) (c .before .before .before .before .before .loop-test .taken) (c .if2 .left)
 
--- src/lib.rt:100:1
 returns-3 : tie.Need-returns-3 Inv-loop μ-loop
 returns-3 c = head-over _ _ (c .loop-test .left) ∙ sym (c .before .loop .inv)
 

@@ -7,31 +7,24 @@ use Rattle.pieces.proofs.inner_end.Lts as lts
 use Rattle.pieces.proofs.token.Reads as token-reads
 use Rattle.text.proofs.scan.Reads as scan-reads
 
--- src/lib.rt:96:24
 slice-aggregate-token : tie.Need-slice-aggregate-token
 slice-aggregate-token c = search needs
 
--- src/lib.rt:96:11
 token-requires : tie.Need-token-requires
 token-requires c κs = search needs
 
--- src/lib.rt:97:19
 enum-known-i : tie.Need-enum-known-i
 enum-known-i c = search needs
 
--- src/lib.rt:97:35
 scan-requires : tie.Need-scan-requires
 scan-requires c κs = search needs
 
--- src/lib.rt:98:27
 enum-told : tie.Need-enum-told
 enum-told c = search needs
 
--- src/lib.rt:93:1
 returns : tie.Need-returns
 returns c = inner-yes (c .before .before .before .before .before .before .before .args .s .now) _ _ (c .before .before .before .before .token .ensures) _ _ (c .before .before .i .given .1) (c .scan .ensures)
 
--- src/lib.rt:93:1
 returns-2 : tie.Need-returns-2
 returns-2 c = search ways
 

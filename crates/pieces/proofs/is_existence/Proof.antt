@@ -7,23 +7,18 @@ use Rattle.pieces.proofs.is_bare.Reads as is-bare-reads
 use Rattle.text.proofs.part.Reads as part-reads
 use Rattle.text.proofs.same_bytes.Reads as same-bytes-reads
 
--- src/lib.rt:203:5
 is-bare-requires : tie.Need-is-bare-requires
 is-bare-requires c κs = search needs
 
--- src/lib.rt:203:29
 part-requires : tie.Need-part-requires
 part-requires c κs = search needs
 
--- src/lib.rt:203:60
 slice-aggregate-same-bytes : tie.Need-slice-aggregate-same-bytes
 slice-aggregate-same-bytes c = search needs
 
--- src/lib.rt:203:18
 same-bytes-requires : tie.Need-same-bytes-requires
 same-bytes-requires c κs = search needs
 
--- src/lib.rt:200:1
 returns : tie.Need-returns
 returns c = rw (← c .before .before .before .is-bare .ensures, ← c .before .before .part .ensures, ← c .same-bytes .ensures)
 

@@ -6,67 +6,51 @@ use Rattle.pieces.proofs.next_term.Reads as reads
 use Rattle.pieces.proofs.next_term.Lts as lts
 use Rattle.pieces.proofs.token.Reads as token-reads
 
--- src/lib.rt:80:24
 slice-aggregate-token : tie.Need-slice-aggregate-token
 slice-aggregate-token c = search needs
 
--- src/lib.rt:80:11
 token-requires : tie.Need-token-requires
 token-requires c κs = search needs
 
--- src/lib.rt:81:19
 enum-known-i : tie.Need-enum-known-i
 enum-known-i c = search needs
 
--- src/lib.rt:82:46
 enum-told : tie.Need-enum-told
 enum-told c = search needs
 
--- src/lib.rt:82:46
 slice-aggregate-token-2 : tie.Need-slice-aggregate-token-2
 slice-aggregate-token-2 c = search needs
 
--- src/lib.rt:82:33
 token-requires-2 : tie.Need-token-requires-2
 token-requires-2 c κs = search needs
 
--- src/lib.rt:83:29
 enum-told-2 : tie.Need-enum-told-2
 enum-told-2 c = search needs
 
--- src/lib.rt:84:50
 enum-told-3 : tie.Need-enum-told-3
 enum-told-3 c = search needs
 
--- src/lib.rt:84:50
 slice-aggregate-token-3 : tie.Need-slice-aggregate-token-3
 slice-aggregate-token-3 c = search needs
 
--- src/lib.rt:84:37
 token-requires-3 : tie.Need-token-requires-3
 token-requires-3 c κs = search needs
 
--- src/lib.rt:85:33
 enum-told-4 : tie.Need-enum-told-4
 enum-told-4 c = search needs
 
--- src/lib.rt:86:35
 enum-told-5 : tie.Need-enum-told-5
 enum-told-5 c = search needs
 
--- src/lib.rt:77:1
 returns : tie.Need-returns
 returns c = search ways
 
--- src/lib.rt:77:1
 returns-2 : tie.Need-returns-2
 returns-2 c = search ways
 
--- src/lib.rt:77:1
 returns-3 : tie.Need-returns-3
 returns-3 c = search ways
 
--- src/lib.rt:77:1
 returns-4 : tie.Need-returns-4
 returns-4 c = search ways
 

@@ -8,27 +8,21 @@ use Rattle.pieces.proofs.comparator_at.Reads as comparator-at-reads
 use Rattle.text.proofs.scan.Reads as scan-reads
 use Rattle.text.proofs.trimmed.Reads as trimmed-reads
 
--- src/lib.rt:160:30
 scan-requires : tie.Need-scan-requires
 scan-requires c κs = search needs
 
--- src/lib.rt:160:9
 comparator-at-requires : tie.Need-comparator-at-requires
 comparator-at-requires c κs = search needs
 
--- src/lib.rt:162:9
 scan-requires-2 : tie.Need-scan-requires-2
 scan-requires-2 c κs = search needs
 
--- src/lib.rt:163:34
 sub-trimmed : tie.Need-sub-trimmed
 sub-trimmed c = search needs
 
--- src/lib.rt:163:9
 trimmed-requires : tie.Need-trimmed-requires
 trimmed-requires c κs = search needs
 
--- src/lib.rt:157:1
 returns : tie.Need-returns
 returns c = piece-is _ _ _ _ _ _ (c .before .before .before .scan .ensures) (c .before .before .comparator-at .ensures) (c .before .scan2 .ensures) (c .trimmed .ensures)
 

@@ -7,15 +7,12 @@ use Rattle.pieces.proofs.token.Lts as lts
 use Rattle.pieces.proofs.after.Reads as after-reads
 use Rattle.text.proofs.scan.Reads as scan-reads
 
--- src/lib.rt:73:14
 scan-requires : tie.Need-scan-requires
 scan-requires c κs = search needs
 
--- src/lib.rt:73:5
 after-requires : tie.Need-after-requires
 after-requires c κs = search needs
 
--- src/lib.rt:70:1
 returns : tie.Need-returns
 returns c = search ways
 

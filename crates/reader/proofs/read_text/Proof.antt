@@ -8,51 +8,39 @@ use Rattle.reader.proofs.readers.query.Reads as query-reads
 use Rattle.reader.proofs.verdict.Reads as verdict-reads
 use Rattle.text.proofs.scan.Reads as scan-reads
 
--- src/lib.rt:62:9
 returns : tie.Need-returns
 returns c = text-long _ _ (c .if1 .taken)
 
--- src/lib.rt:73:11
 query-requires : tie.Need-query-requires
 query-requires c κs = search needs
 
--- src/lib.rt:74:22
 enum-known-next : tie.Need-enum-known-next
 enum-known-next c = search needs
 
--- src/lib.rt:75:16
 scan-requires : tie.Need-scan-requires
 scan-requires c κs = search needs
 
--- src/lib.rt:76:17
 same-length : tie.Need-same-length
 same-length c = search needs
 
--- src/lib.rt:76:17
 returns-2 : tie.Need-returns-2
 returns-2 c = text-tail (c .before .before .before .before .before .before .before .before .before .before .before .before .args .s .now) (c .before .before .before .before .before .before .before .before .before .if1 .left) _ _ _ (c .before .before .before .before .before .before .before .query .ensures) _ _ _ (c .before .before .before .next .given .1) (c .before .scan .ensures) (c .if2 .taken)
 
--- src/lib.rt:82:25
 verdict-requires : tie.Need-verdict-requires
 verdict-requires c κs = search needs
 
--- src/lib.rt:86:29
 enum-told : tie.Need-enum-told
 enum-told c = search needs
 
--- src/lib.rt:58:1
 same-length-2 : tie.Need-same-length-2
 same-length-2 c = search needs
 
--- src/lib.rt:58:1
 returns-3 : tie.Need-returns-3
 returns-3 c = text-read (c .before .before .before .before .before .before .before .before .before .before .before .before .before .args .s .now) (c .before .before .before .before .before .before .before .before .before .before .if1 .left) _ _ _ (c .before .before .before .before .before .before .before .before .query .ensures) _ _ _ (c .before .before .before .before .next .given .1) (c .before .before .scan .ensures) _ (c .before .if2 .left) (c .verdict .ensures)
 
--- src/lib.rt:58:1
 same-length-3 : tie.Need-same-length-3
 same-length-3 c = search needs
 
--- src/lib.rt:58:1
 returns-4 : tie.Need-returns-4
 returns-4 c = text-none (c .before .before .before .before .before .before .before .before .before .args .s .now) (c .before .before .before .before .before .before .if1 .left) _ _ _ (c .before .before .before .before .query .ensures) (c .enum-told .given .1)
 

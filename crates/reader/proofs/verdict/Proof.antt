@@ -4,22 +4,18 @@ use Rattle.reader.proofs.verdict.Tie as tie
 use Rattle.reader.proofs.verdict.Reads as reads
 use Rattle.reader.proofs.verdict.Lts as lts
 
--- src/lib.rt:49:9
 returns : tie.Need-returns
 unfolding verdictOf
 returns c = rw (c .if1 .taken)
 
--- src/lib.rt:52:9
 returns-2 : tie.Need-returns-2
 unfolding verdictOf
 returns-2 c = rw (c .before .if1 .left, c .if2 .taken)
 
--- src/lib.rt:42:1
 returns-3 : tie.Need-returns-3
 unfolding verdictOf
 returns-3 c = rw (c .before .before .if1 .left, c .before .if2 .left, c .if3 .taken)
 
--- src/lib.rt:42:1
 returns-4 : tie.Need-returns-4
 unfolding verdictOf
 returns-4 c = rw (c .before .before .if1 .left, c .before .if2 .left, c .if3 .left)

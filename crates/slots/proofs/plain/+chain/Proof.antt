@@ -30,83 +30,63 @@ chain-below t = and 2 chain-kinds.ps (falls 2 chain-kinds.ps _<_ μ-chain t) cha
 abbrev chain-calls : ℕ → chain-lts.Claims
 chain-calls t = (part-reads.Asked, part-reads.Learnt, scan-reads.Asked, scan-reads.Learnt, one-deeper-reads.Asked, one-deeper-reads.Learnt, chain-below t, chain.Post, trimmed-reads.Asked, trimmed-reads.Learnt, wrap-reads.Asked, wrap-reads.Learnt, is-property-name-reads.Asked, is-property-name-reads.Learnt, flag-reads.Asked, flag-reads.Learnt)
 
--- src/plain.rt:52:9
 chain-part-requires : (t : ℕ) → chain-lts.Need-part-requires (chain-calls t) (chain-at t) chain.Post
 chain-part-requires t c κs = search needs
 
--- src/plain.rt:53:9
 chain-scan-requires : (t : ℕ) → chain-lts.Need-scan-requires (chain-calls t) (chain-at t) chain.Post
 chain-scan-requires t c κs = search needs
 
--- src/plain.rt:55:20
 chain-add-rest : (t : ℕ) → chain-lts.Need-add-rest (chain-calls t) (chain-at t) chain.Post
 chain-add-rest t c = omega (arith, dot-fits (c .before .before .before .before .before .args .s .now) (c .before .before .part .result .now) (c .before .before .before .before .before .args .at) (c .before .before .before .before .before .args .len) (c .before .scan .result) (c .before .before .part .ensures) (c .before .scan .ensures) (c .if1 .taken))
 
--- src/plain.rt:55:20
 chain-add-rest-2 : (t : ℕ) → chain-lts.Need-add-rest-2 (chain-calls t) (chain-at t) chain.Post
 chain-add-rest-2 t c = omega (arith, dot-fits (c .before .before .before .before .before .args .s .now) (c .before .before .part .result .now) (c .before .before .before .before .before .args .at) (c .before .before .before .before .before .args .len) (c .before .scan .result) (c .before .before .part .ensures) (c .before .scan .ensures) (c .if1 .taken))
 
--- src/plain.rt:56:20
 chain-sub-left : (t : ℕ) → chain-lts.Need-sub-left (chain-calls t) (chain-at t) chain.Post
 chain-sub-left t c = omega (arith, dot-fits (c .before .before .before .before .before .args .s .now) (c .before .before .part .result .now) (c .before .before .before .before .before .args .at) (c .before .before .before .before .before .args .len) (c .before .scan .result) (c .before .before .part .ensures) (c .before .scan .ensures) (c .if1 .taken))
 
--- src/plain.rt:56:20
 chain-sub-left-2 : (t : ℕ) → chain-lts.Need-sub-left-2 (chain-calls t) (chain-at t) chain.Post
 chain-sub-left-2 t c = omega (arith, dot-fits (c .before .before .before .before .before .args .s .now) (c .before .before .part .result .now) (c .before .before .before .before .before .args .at) (c .before .before .before .before .before .args .len) (c .before .scan .result) (c .before .before .part .ensures) (c .before .scan .ensures) (c .if1 .taken))
 
--- src/plain.rt:57:42
 chain-one-deeper-requires : (t : ℕ) → chain-lts.Need-one-deeper-requires (chain-calls t) (chain-at t) chain.Post
 chain-one-deeper-requires t c κs = search needs
 
--- src/plain.rt:57:13
 chain-chain-requires : (t : ℕ) → chain-lts.Need-chain-requires (chain-calls t) (chain-at t) chain.Post
 chain-chain-requires t c κs = (omega (arith, dot-fits (c .before .before .before .before .before .before .before .args .s .now) (c .before .before .before .before .part .result .now) (c .before .before .before .before .before .before .before .args .at) (c .before .before .before .before .before .before .before .args .len) (c .before .before .before .scan .result) (c .before .before .before .before .part .ensures) (c .before .before .before .scan .ensures) (c .before .before .if1 .taken)), tt)
 
--- src/plain.rt:58:13
 chain-trimmed-requires : (t : ℕ) → chain-lts.Need-trimmed-requires (chain-calls t) (chain-at t) chain.Post
 chain-trimmed-requires t c κs = search needs
 
--- src/plain.rt:59:13
 chain-wrap-requires : (t : ℕ) → chain-lts.Need-wrap-requires (chain-calls t) (chain-at t) chain.Post
 chain-wrap-requires t c κs = search needs
 
--- src/plain.rt:60:53
 chain-part-requires-2 : (t : ℕ) → chain-lts.Need-part-requires-2 (chain-calls t) (chain-at t) chain.Post
 chain-part-requires-2 t c κs = search needs
 
--- src/plain.rt:60:36
 chain-is-property-name-requires : (t : ℕ) → chain-lts.Need-is-property-name-requires (chain-calls t) (chain-at t) chain.Post
 chain-is-property-name-requires t c κs = search needs
 
--- src/plain.rt:60:9
 chain-flag-requires : (t : ℕ) → chain-lts.Need-flag-requires (chain-calls t) (chain-at t) chain.Post
 chain-flag-requires t c κs = search needs
 
--- src/plain.rt:60:9
 chain-same-length : (t : ℕ) → chain-lts.Need-same-length (chain-calls t) (chain-at t) chain.Post
 chain-same-length t c = search needs
 
--- src/plain.rt:60:9
 chain-returns : (t : ℕ) → chain-lts.Need-returns (chain-calls t) (chain-at t) chain.Post
 chain-returns t c = chain-on (c .before .before .before .before .before .before .before .before .before .before .before .before .before .before .before .before .before .before .args .s .now) _ (c .before .before .before .before .before .before .before .before .before .before .before .before .before .before .before .before .before .before .args .at) (c .before .before .before .before .before .before .before .before .before .before .before .before .before .before .before .before .before .before .args .len) _ (c .before .before .before .before .before .before .before .before .before .before .before .before .before .before .before .before .before .before .args .names) _ _ _ (c .before .before .before .before .before .before .before .trimmed .result) _ _ (c .before .before .before .before .before .before .before .before .before .before .before .before .before .before .before .part .ensures) (c .before .before .before .before .before .before .before .before .before .before .before .before .before .before .scan .ensures) (c .before .before .part2 .ensures) (c .before .is-property-name .ensures) _ _ _ _ _ (c .before .before .before .before .before .before .before .before .before .before .before .before .one-deeper .ensures) (c .before .before .before .before .before .before .before .before .before .before .before .before .before .if1 .taken) (c .before .before .before .before .before .before .before .before .before .before .chain .ensures) (c .before .before .before .before .before .before .before .trimmed .ensures) (c .before .before .before .before .before .wrap .ensures) (c .flag .ensures)
 
--- src/plain.rt:62:9
 chain-trimmed-requires-2 : (t : ℕ) → chain-lts.Need-trimmed-requires-2 (chain-calls t) (chain-at t) chain.Post
 chain-trimmed-requires-2 t c κs = search needs
 
--- src/plain.rt:63:46
 chain-part-requires-3 : (t : ℕ) → chain-lts.Need-part-requires-3 (chain-calls t) (chain-at t) chain.Post
 chain-part-requires-3 t c κs = search needs
 
--- src/plain.rt:63:29
 chain-is-property-name-requires-2 : (t : ℕ) → chain-lts.Need-is-property-name-requires-2 (chain-calls t) (chain-at t) chain.Post
 chain-is-property-name-requires-2 t c κs = search needs
 
--- src/plain.rt:63:5
 chain-flag-requires-2 : (t : ℕ) → chain-lts.Need-flag-requires-2 (chain-calls t) (chain-at t) chain.Post
 chain-flag-requires-2 t c κs = search needs
 
--- src/plain.rt:49:1
 chain-returns-2 : (t : ℕ) → chain-lts.Need-returns-2 (chain-calls t) (chain-at t) chain.Post
 chain-returns-2 t c = chain-last (c .before .before .before .before .before .before .before .before .before .args .s .now) _ (c .before .before .before .before .before .before .before .before .before .args .at) (c .before .before .before .before .before .before .before .before .before .args .len) _ (c .before .before .before .before .before .before .before .before .before .args .names) _ _ _ (c .before .before .before .trimmed2 .result) _ _ (c .before .before .before .before .before .before .part .ensures) (c .before .before .before .before .before .scan .ensures) (c .before .before .part3 .ensures) (c .before .is-property-name2 .ensures) (c .before .before .before .before .if1 .left) (c .before .before .before .trimmed2 .ensures) (c .flag2 .ensures)
 

@@ -29,67 +29,51 @@ more-pieces-below t =
 abbrev more-pieces-calls : ℕ → more-pieces-lts.Claims
 more-pieces-calls t = (after-reads.Asked, after-reads.Learnt, piece-at-reads.Asked, piece-at-reads.Learnt, piece-reads.Asked, piece-reads.Learnt, connect-reads.Asked, connect-reads.Learnt, more-pieces-below t, more-pieces.Post)
 
--- src/plain.rt:178:24
 more-pieces-slice-aggregate-after : (t : ℕ) → more-pieces-lts.Need-slice-aggregate-after (more-pieces-calls t) (more-pieces-at t) more-pieces.Post
 more-pieces-slice-aggregate-after t c = search (pieces, fewer, needs)
 
--- src/plain.rt:178:11
 more-pieces-after-requires : (t : ℕ) → more-pieces-lts.Need-after-requires (more-pieces-calls t) (more-pieces-at t) more-pieces.Post
 more-pieces-after-requires t c κs = search (pieces, fewer, needs)
 
--- src/plain.rt:179:19
 more-pieces-enum-known-i : (t : ℕ) → more-pieces-lts.Need-enum-known-i (more-pieces-calls t) (more-pieces-at t) more-pieces.Post
 more-pieces-enum-known-i t c = search (pieces, fewer, needs)
 
--- src/plain.rt:180:17
 more-pieces-piece-at-requires : (t : ℕ) → more-pieces-lts.Need-piece-at-requires (more-pieces-calls t) (more-pieces-at t) more-pieces.Post
 more-pieces-piece-at-requires t c κs = search (pieces, fewer, needs)
 
--- src/plain.rt:183:17
 more-pieces-piece-requires : (t : ℕ) → more-pieces-lts.Need-piece-requires (more-pieces-calls t) (more-pieces-at t) more-pieces.Post
 more-pieces-piece-requires t c κs = search (pieces, fewer, needs)
 
--- src/plain.rt:184:17
 more-pieces-connect-requires : (t : ℕ) → more-pieces-lts.Need-connect-requires (more-pieces-calls t) (more-pieces-at t) more-pieces.Post
 more-pieces-connect-requires t c κs = search (pieces, fewer, needs)
 
--- src/plain.rt:185:13
 more-pieces-more-pieces-requires : (t : ℕ) → more-pieces-lts.Need-more-pieces-requires (more-pieces-calls t) (more-pieces-at t) more-pieces.Post
 more-pieces-more-pieces-requires t c κs = search (pieces, fewer, needs)
 
--- src/plain.rt:187:46
 more-pieces-enum-told : (t : ℕ) → more-pieces-lts.Need-enum-told (more-pieces-calls t) (more-pieces-at t) more-pieces.Post
 more-pieces-enum-told t c = search (pieces, fewer, needs)
 
--- src/plain.rt:187:46
 more-pieces-slice-aggregate-after-2 : (t : ℕ) → more-pieces-lts.Need-slice-aggregate-after-2 (more-pieces-calls t) (more-pieces-at t) more-pieces.Post
 more-pieces-slice-aggregate-after-2 t c = search (pieces, fewer, needs)
 
--- src/plain.rt:187:33
 more-pieces-after-requires-2 : (t : ℕ) → more-pieces-lts.Need-after-requires-2 (more-pieces-calls t) (more-pieces-at t) more-pieces.Post
 more-pieces-after-requires-2 t c κs = search (pieces, fewer, needs)
 
--- src/plain.rt:188:23
 more-pieces-enum-known-i-2 : (t : ℕ) → more-pieces-lts.Need-enum-known-i-2 (more-pieces-calls t) (more-pieces-at t) more-pieces.Post
 more-pieces-enum-known-i-2 t c = search (pieces, fewer, needs)
 
--- src/plain.rt:189:31
 more-pieces-enum-told-2 : (t : ℕ) → more-pieces-lts.Need-enum-told-2 (more-pieces-calls t) (more-pieces-at t) more-pieces.Post
 more-pieces-enum-told-2 t c = search (pieces, fewer, needs)
 
--- src/plain.rt:175:1
 more-pieces-same-length : (t : ℕ) → more-pieces-lts.Need-same-length (more-pieces-calls t) (more-pieces-at t) more-pieces.Post
 more-pieces-same-length t c = search (pieces, fewer, needs)
 
--- src/plain.rt:175:1
 more-pieces-returns : (t : ℕ) → more-pieces-lts.Need-returns (more-pieces-calls t) (more-pieces-at t) more-pieces.Post
 more-pieces-returns t c = search (pieces, fewer, needs)
 
--- src/plain.rt:175:1
 more-pieces-returns-2 : (t : ℕ) → more-pieces-lts.Need-returns-2 (more-pieces-calls t) (more-pieces-at t) more-pieces.Post
 more-pieces-returns-2 t c = search (pieces, fewer, needs)
 
--- src/plain.rt:175:1
 more-pieces-returns-3 : (t : ℕ) → more-pieces-lts.Need-returns-3 (more-pieces-calls t) (more-pieces-at t) more-pieces.Post
 more-pieces-returns-3 t c = search (pieces, fewer, needs)
 

@@ -9,27 +9,21 @@ use Rattle.slots.proofs.rows.flag.Reads as flag-reads
 use Rattle.text.proofs.part.Reads as part-reads
 use Rattle.values.proofs.is_name.Reads as is-name-reads
 
--- src/plain.rt:150:9
 add-requires : tie.Need-add-requires
 add-requires c κs = search needs
 
--- src/plain.rt:160:41
 part-requires : tie.Need-part-requires
 part-requires c κs = search needs
 
--- src/plain.rt:160:33
 is-name-requires : tie.Need-is-name-requires
 is-name-requires c κs = search needs
 
--- src/plain.rt:160:5
 flag-requires : tie.Need-flag-requires
 flag-requires c κs = search needs
 
--- src/plain.rt:145:1
 same-length : tie.Need-same-length
 same-length c = search needs
 
--- src/plain.rt:145:1
 returns : tie.Need-returns
 returns c = category-is (c .before .before .before .before .before .before .before .before .before .args .s .now) (c .before .before .before .before .before .before .before .before .before .args .name) _ _ _ _ _ (c .before .before .before .before .before .before .before .before .before .args .bare) _ _ (c .before .before .before .before .before .add .ensures) (c .before .before .part .ensures) (c .before .is-name .ensures) (c .flag .ensures)
 

@@ -9,27 +9,21 @@ use Rattle.slots.proofs.plain.put_read.Reads as put-read-reads
 use Rattle.slots.proofs.rows.flag.Reads as flag-reads
 use Rattle.slots.proofs.rows.one_more.Reads as one-more-reads
 
--- src/plain.rt:134:41
 read-piece-requires : tie.Need-read-piece-requires
 read-piece-requires c κs = search needs
 
--- src/plain.rt:134:9
 put-read-requires : tie.Need-put-read-requires
 put-read-requires c κs = search needs
 
--- src/plain.rt:136:16
 one-more-requires : tie.Need-one-more-requires
 one-more-requires c κs = search needs
 
--- src/plain.rt:141:5
 flag-requires : tie.Need-flag-requires
 flag-requires c κs = search needs
 
--- src/plain.rt:130:1
 same-length : tie.Need-same-length
 same-length c = search needs
 
--- src/plain.rt:130:1
 returns : tie.Need-returns
 returns c = identifier-is (c .before .before .before .before .before .before .before .before .before .args .s .now) (c .before .before .before .before .before .before .before .before .before .args .c) (c .before .before .before .before .before .before .before .before .before .args .text) _ _ _ _ _ _ _ (c .before .before .before .before .before .read-piece .ensures) (c .before .before .before .before .put-read .ensures) (c .before .one-more .ensures) (c .flag .ensures)
 

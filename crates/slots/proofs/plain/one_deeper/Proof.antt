@@ -5,15 +5,12 @@ use Rattle.slots.proofs.plain.one_deeper.Tie as tie
 use Rattle.slots.proofs.plain.one_deeper.Reads as reads
 use Rattle.slots.proofs.plain.one_deeper.Lts as lts
 
--- src/plain.rt:45:16
 add-result : tie.Need-add-result
 add-result c = search needs
 
--- src/plain.rt:42:1
 returns : tie.Need-returns
 returns c = rw (lt-ltb _ _ (c .if1 .taken))
 
--- src/plain.rt:42:1
 returns-2 : tie.Need-returns-2
 returns-2 c = rw (le-ltb _ _ (c .if1 .left))
 

@@ -8,31 +8,24 @@ use Rattle.pieces.proofs.is_bare.Reads as is-bare-reads
 use Rattle.slots.proofs.plain.category.Reads as category-reads
 use Rattle.slots.proofs.plain.identifier.Reads as identifier-reads
 
--- src/plain.rt:168:21
 is-bare-requires : tie.Need-is-bare-requires
 is-bare-requires c κs = search needs
 
--- src/plain.rt:168:9
 category-requires : tie.Need-category-requires
 category-requires c κs = search needs
 
--- src/plain.rt:170:9
 identifier-requires : tie.Need-identifier-requires
 identifier-requires c κs = search needs
 
--- src/plain.rt:164:1
 same-length : tie.Need-same-length
 same-length c = search needs
 
--- src/plain.rt:164:1
 returns : tie.Need-returns
 returns c = piece-category (c .before .before .before .before .before .before .before .before .args .s .now) (c .before .before .before .before .before .before .before .before .args .c) (c .before .before .before .before .before .before .before .before .args .text) _ _ _ _ _ _ (c .before .before .before .before .before .if1 .taken) (c .before .before .before .before .is-bare .ensures) (c .before .before .category .ensures)
 
--- src/plain.rt:164:1
 same-length-2 : tie.Need-same-length-2
 same-length-2 c = search needs
 
--- src/plain.rt:164:1
 returns-2 : tie.Need-returns-2
 returns-2 c = piece-identifier (c .before .before .before .before .before .before .before .args .s .now) (c .before .before .before .before .before .before .before .args .c) (c .before .before .before .before .before .before .before .args .text) _ _ _ _ _ (c .before .before .before .before .if1 .left) (c .before .before .identifier .ensures)
 

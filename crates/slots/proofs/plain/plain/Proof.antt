@@ -11,55 +11,42 @@ use Rattle.slots.proofs.plain.identifier.Reads as identifier-reads
 use Rattle.slots.proofs.plain.more_pieces.Reads as more-pieces-reads
 use Rattle.slots.proofs.rows.flag.Reads as flag-reads
 
--- src/plain.rt:198:9
 piece-at-requires : tie.Need-piece-at-requires
 piece-at-requires c κs = search needs
 
--- src/plain.rt:202:9
 flag-requires : tie.Need-flag-requires
 flag-requires c κs = search needs
 
--- src/plain.rt:203:11
 category-of-requires : tie.Need-category-of-requires
 category-of-requires c κs = search needs
 
--- src/plain.rt:204:25
 enum-known-name : tie.Need-enum-known-name
 enum-known-name c = search needs
 
--- src/plain.rt:205:17
 category-requires : tie.Need-category-requires
 category-requires c κs = search needs
 
--- src/plain.rt:206:13
 more-pieces-requires : tie.Need-more-pieces-requires
 more-pieces-requires c κs = search needs
 
--- src/plain.rt:209:46
 enum-told : tie.Need-enum-told
 enum-told c = search needs
 
--- src/plain.rt:209:17
 identifier-requires : tie.Need-identifier-requires
 identifier-requires c κs = search needs
 
--- src/plain.rt:210:13
 more-pieces-requires-2 : tie.Need-more-pieces-requires-2
 more-pieces-requires-2 c κs = search needs
 
--- src/plain.rt:195:1
 same-length : tie.Need-same-length
 same-length c = search needs
 
--- src/plain.rt:195:1
 returns : tie.Need-returns
 returns c = plain-categories (c .before .before .before .before .before .before .before .before .before .before .before .before .before .before .before .before .before .args .s .now) (c .before .before .before .before .before .before .before .before .before .before .before .before .before .before .before .before .before .args .at) (c .before .before .before .before .before .before .before .before .before .before .before .before .before .before .before .before .before .args .depth) _ _ _ _ _ _ _ (c .before .before .before .before .before .before .before .before .before .before .before .before .before .before .piece-at .result) _ (c .before .before .before .before .before .before .before .before .before .before .before .before .before .before .piece-at .ensures) (c .before .before .before .before .before .before .before .before .before .before .before .before .flag .ensures) (c .before .before .before .before .before .before .before .before .before .before .before .category-of .ensures) _ (c .before .before .before .before .before .before .before .before .before .name .given .1) (c .before .before .before .before .before .before .category .ensures) (c .before .before .more-pieces .ensures)
 
--- src/plain.rt:195:1
 same-length-2 : tie.Need-same-length-2
 same-length-2 c = search needs
 
--- src/plain.rt:195:1
 returns-2 : tie.Need-returns-2
 returns-2 c = plain-identifiers (c .before .before .before .before .before .before .before .before .before .before .before .before .before .before .before .before .args .s .now) (c .before .before .before .before .before .before .before .before .before .before .before .before .before .before .before .before .args .at) (c .before .before .before .before .before .before .before .before .before .before .before .before .before .before .before .before .args .depth) _ _ _ _ _ _ _ (c .before .before .before .before .before .before .before .before .before .before .before .before .before .piece-at .result) _ (c .before .before .before .before .before .before .before .before .before .before .before .before .before .piece-at .ensures) (c .before .before .before .before .before .before .before .before .before .before .before .flag .ensures) (c .before .before .before .before .before .before .before .before .before .before .category-of .ensures) (c .before .before .before .before .before .before .before .before .enum-told .given .1) (c .before .before .before .before .before .before .identifier .ensures) (c .before .before .more-pieces2 .ensures)
 

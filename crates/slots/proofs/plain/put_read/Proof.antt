@@ -7,43 +7,33 @@ use Rattle.slots.proofs.plain.put_read.Lts as lts
 use Rattle.slots.proofs.rows.code_of.Reads as code-of-reads
 use Rattle.slots.proofs.rows.put.Reads as put-reads
 
--- src/plain.rt:100:28
 enum-known-piece : tie.Need-enum-known-piece
 enum-known-piece c = search needs
 
--- src/plain.rt:101:9
 put-requires : tie.Need-put-requires
 put-requires c κs = search needs
 
--- src/plain.rt:111:9
 same-length : tie.Need-same-length
 same-length c = search needs
 
--- src/plain.rt:111:9
 returns : tie.Need-returns
 returns c = put-namespace _ _ _ _ _ (c .before .before .before .before .before .piece .given .1) (c .before .before .put .ensures)
 
--- src/plain.rt:113:25
 enum-known-piece-2 : tie.Need-enum-known-piece-2
 enum-known-piece-2 c = search needs
 
--- src/plain.rt:114:9
 returns-2 : tie.Need-returns-2
 returns-2 c = put-nothing _ _ _ (read-left _ (c .before .match .keys2) (c .match2 .keys2))
 
--- src/plain.rt:121:19
 code-of-requires : tie.Need-code-of-requires
 code-of-requires c κs = search needs
 
--- src/plain.rt:116:5
 put-requires-2 : tie.Need-put-requires-2
 put-requires-2 c κs = search needs
 
--- src/plain.rt:96:1
 same-length-2 : tie.Need-same-length-2
 same-length-2 c = search needs
 
--- src/plain.rt:96:1
 returns-3 : tie.Need-returns-3
 returns-3 c = put-reference _ _ _ _ _ _ _ (c .before .before .before .before .before .before .piece2 .given .1) (c .before .before .before .code-of .ensures) (c .before .before .put2 .ensures)
 

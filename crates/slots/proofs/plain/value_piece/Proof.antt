@@ -11,35 +11,27 @@ use Rattle.slots.proofs.rows.flag.Reads as flag-reads
 use Rattle.text.proofs.part.Reads as part-reads
 use Rattle.values.proofs.is_value.Reads as is-value-reads
 
--- src/plain.rt:90:25
 is-existence-requires : tie.Need-is-existence-requires
 is-existence-requires c κs = search needs
 
--- src/plain.rt:90:9
 value-row-requires : tie.Need-value-row-requires
 value-row-requires c κs = search needs
 
--- src/plain.rt:91:9
 add-requires : tie.Need-add-requires
 add-requires c κs = search needs
 
--- src/plain.rt:92:45
 part-requires : tie.Need-part-requires
 part-requires c κs = search needs
 
--- src/plain.rt:92:36
 is-value-requires : tie.Need-is-value-requires
 is-value-requires c κs = search needs
 
--- src/plain.rt:92:5
 flag-requires : tie.Need-flag-requires
 flag-requires c κs = search needs
 
--- src/plain.rt:86:1
 same-length : tie.Need-same-length
 same-length c = search needs
 
--- src/plain.rt:86:1
 returns : tie.Need-returns
 returns c = value-is (c .before .before .before .before .before .before .before .before .before .before .before .args .s .now) (c .before .before .before .before .before .before .before .before .before .before .before .args .c) (c .before .before .before .before .before .before .before .before .before .before .before .args .text) (c .before .before .before .before .before .before .before .before .before .before .before .args .name) (c .before .before .before .before .before .before .before .before .before .before .before .args .depth) _ _ _ _ _ _ _ _ _ (c .before .before .before .before .before .before .before .before .is-existence .ensures) (c .before .before .before .before .before .before .before .value-row .ensures) (c .before .before .before .before .before .add .ensures) (c .before .before .part .ensures) (c .before .is-value .ensures) (c .flag .ensures)
 

@@ -6,16 +6,13 @@ use Rattle.slots.proofs.plain.value_row.Reads as reads
 use Rattle.slots.proofs.plain.value_row.Lts as lts
 use Rattle.slots.proofs.rows.code_of.Reads as code-of-reads
 
--- src/plain.rt:70:9
 returns : tie.Need-returns
 unfolding valueRow
 returns c = rw (c .if1 .taken)
 
--- src/plain.rt:79:15
 code-of-requires : tie.Need-code-of-requires
 code-of-requires c κs = search needs
 
--- src/plain.rt:65:1
 returns-2 : tie.Need-returns-2
 unfolding valueRow
 returns-2 c = rw (c .before .if1 .left, c .code-of .ensures)

@@ -7,19 +7,15 @@ use Rattle.slots.proofs.rows.add.Lts as lts
 use Rattle.slots.proofs.rows.one_more.Reads as one-more-reads
 use Rattle.slots.proofs.rows.put.Reads as put-reads
 
--- src/rows.rt:74:5
 put-requires : tie.Need-put-requires
 put-requires c κs = search needs
 
--- src/rows.rt:76:16
 one-more-requires : tie.Need-one-more-requires
 one-more-requires c κs = search needs
 
--- src/rows.rt:70:1
 same-length : tie.Need-same-length
 same-length c = search needs
 
--- src/rows.rt:70:1
 returns : tie.Need-returns
 returns c = adds-is _ _ _ _ _ (c .before .before .before .put .ensures) (c .one-more .ensures)
 

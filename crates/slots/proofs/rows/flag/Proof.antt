@@ -5,7 +5,6 @@ use Rattle.slots.proofs.rows.flag.Tie as tie
 use Rattle.slots.proofs.rows.flag.Reads as reads
 use Rattle.slots.proofs.rows.flag.Lts as lts
 
--- src/rows.rt:58:1
 returns : tie.Need-returns
 unfolding flagged
 returns c = refl

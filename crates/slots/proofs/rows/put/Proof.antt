@@ -9,103 +9,78 @@ use Rattle.slots.proofs.rows.put.Reads as reads
 use Rattle.slots.proofs.rows.put.Lts as lts
 use Rattle.slots.proofs.rows.small.Reads as small-reads
 
--- src/rows.rt:37:9
 returns : tie.Need-returns
 returns c = unwritten _ _ _ (c .if1 .taken)
 
--- src/rows.rt:39:13
 mul-b : tie.Need-mul-b
 mul-b c = search needs
 
--- src/rows.rt:42:5
 mul-slots : tie.Need-mul-slots
 mul-slots c = search needs
 
--- src/rows.rt:42:5
 slice-write-slots : tie.Need-slice-write-slots
 slice-write-slots c = search needs
 
--- src/rows.rt:43:11
 add-slots : tie.Need-add-slots
 add-slots c = search needs
 
--- src/rows.rt:43:5
 mul-slots-2 : tie.Need-mul-slots-2
 mul-slots-2 c = search needs
 
--- src/rows.rt:43:5
 slice-write-slots-2 : tie.Need-slice-write-slots-2
 slice-write-slots-2 c = simp length-set (omega arith)
 
--- src/rows.rt:44:20
 small-requires : tie.Need-small-requires
 small-requires c κs = search needs
 
--- src/rows.rt:44:11
 add-slots-2 : tie.Need-add-slots-2
 add-slots-2 c = search needs
 
--- src/rows.rt:44:5
 mul-slots-3 : tie.Need-mul-slots-3
 mul-slots-3 c = search needs
 
--- src/rows.rt:44:5
 slice-write-slots-3 : tie.Need-slice-write-slots-3
 slice-write-slots-3 c = simp length-set (omega arith)
 
--- src/rows.rt:45:20
 small-requires-2 : tie.Need-small-requires-2
 small-requires-2 c κs = search needs
 
--- src/rows.rt:45:11
 add-slots-3 : tie.Need-add-slots-3
 add-slots-3 c = search needs
 
--- src/rows.rt:45:5
 mul-slots-4 : tie.Need-mul-slots-4
 mul-slots-4 c = search needs
 
--- src/rows.rt:45:5
 slice-write-slots-4 : tie.Need-slice-write-slots-4
 slice-write-slots-4 c = simp length-set (omega arith)
 
--- src/rows.rt:46:20
 small-requires-3 : tie.Need-small-requires-3
 small-requires-3 c κs = search needs
 
--- src/rows.rt:46:11
 add-slots-4 : tie.Need-add-slots-4
 add-slots-4 c = search needs
 
--- src/rows.rt:46:5
 mul-slots-5 : tie.Need-mul-slots-5
 mul-slots-5 c = search needs
 
--- src/rows.rt:46:5
 slice-write-slots-5 : tie.Need-slice-write-slots-5
 slice-write-slots-5 c = simp length-set (omega arith)
 
--- src/rows.rt:47:20
 small-requires-4 : tie.Need-small-requires-4
 small-requires-4 c κs = search needs
 
--- src/rows.rt:47:11
 add-slots-5 : tie.Need-add-slots-5
 add-slots-5 c = search needs
 
--- src/rows.rt:47:5
 mul-slots-6 : tie.Need-mul-slots-6
 mul-slots-6 c = search needs
 
--- src/rows.rt:47:5
 slice-write-slots-6 : tie.Need-slice-write-slots-6
 slice-write-slots-6 c = simp length-set (omega arith)
 
--- src/rows.rt:33:1
 same-length : tie.Need-same-length
 same-length c = simp length-set
 
--- src/rows.rt:33:1
 returns-2 : tie.Need-returns-2
 returns-2 c = written _ _ _ _ _ _ _ (c .before .before .before .small .ensures) (c .before .before .small2 .ensures) (c .before .small3 .ensures) (c .small4 .ensures)
 

@@ -6,15 +6,12 @@ use Rattle.slots.proofs.rows.wrap.Reads as reads
 use Rattle.slots.proofs.rows.wrap.Lts as lts
 use Rattle.slots.proofs.rows.add.Reads as add-reads
 
--- src/rows.rt:105:5
 add-requires : tie.Need-add-requires
 add-requires c κs = search needs
 
--- src/rows.rt:101:1
 same-length : tie.Need-same-length
 same-length c = search needs
 
--- src/rows.rt:101:1
 returns : tie.Need-returns
 returns c = wraps-is _ _ _ _ _ (c .before .before .add .ensures)
 
