@@ -1,4 +1,4 @@
 pub mod Tables
 pub mod Demands
-mod Returned
+pub mod Returned
 pub mod Nothing

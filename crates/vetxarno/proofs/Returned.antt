@@ -1,6 +1,6 @@
 -- What a call returns to C, by the number of its answer.
 use Prim.Native.Nat.{ℕ, zero, suc, _≤_, _<_, _^_}
-use mathlib.Core.Path.{_≡_, refl, sym, ap, _∙_}
+use mathlib.Core.Path.{_≡_, refl, sym, ap, _∙_, subst}
 use mathlib.Core.Bool.{Bool, true, false, cond}
 use mathlib.Core.List.{List, [], _∷_, map}
 use mathlib.Core.Option.{Option, some, none}
@@ -64,7 +64,7 @@ module _ {A : Type 0} where
   few table (refused n) e h = let k = lowest-between 0 25 n table h (sym e) in omega (arith, k .1)
   few table (accepted a) e h = omega arith
 
-  pub returned-number : (a : Answer A) → negℤ (pos (numberOf a)) ≡ returned (λ x. 0) a
+  returned-number : (a : Answer A) → negℤ (pos (numberOf a)) ≡ returned (λ x. 0) a
   returned-number (refused n) = refl
   returned-number (accepted a) = refl
 
@@ -72,17 +72,21 @@ module _ (t h after : Bytes) (n : ℕ) (r : Registers t h after n) where
   pub register-few : n ≤ 24
   register-few = rw (r .number) (few (registerTable t h) (registerCall t h) (register-refuses t h) (register-rises t h))
 
+  pub register-call : RegisterCall t h after (negℤ (pos n))
+  register-call = record { number = ap (λ m. negℤ (pos m)) (r .number) ∙ returned-number (registerCall t h); buffer = r .buffer }
+
   pub register-returns : (z : ℤ) → z ≡ negℤ (pos n) → RegisterCall t h after (toZ w32 (ofZ w32 z))
-  register-returns z e =
-      record { number = negative-passed n (omega (arith, register-few)) z e ∙ ap (λ m. negℤ (pos m)) (r .number) ∙ returned-number (registerCall t h); buffer = r .buffer }
+  register-returns z e = subst (RegisterCall t h after) (sym (negative-passed n (omega (arith, register-few)) z e)) register-call
 
 module _ (h s b after : Bytes) (n : ℕ) (r : Queries h s b after n) where
   pub query-few : n ≤ 24
   query-few = rw (r .number) (few (queryTable h s b) (queryCall h s b) (query-refuses h s b) (query-rises h s b))
 
+  pub query-call : QueryCall h s b after (negℤ (pos n))
+  query-call = record { number = ap (λ m. negℤ (pos m)) (r .number) ∙ returned-number (queryCall h s b); buffer = r .buffer }
+
   pub query-returns : (z : ℤ) → z ≡ negℤ (pos n) → QueryCall h s b after (toZ w32 (ofZ w32 z))
-  query-returns z e =
-      record { number = negative-passed n (omega (arith, query-few)) z e ∙ ap (λ m. negℤ (pos m)) (r .number) ∙ returned-number (queryCall h s b); buffer = r .buffer }
+  query-returns z e = subst (QueryCall h s b after) (sym (negative-passed n (omega (arith, query-few)) z e)) query-call
 
 -- no more pages are marked than there are
 marked-few : (l : List Bool) → marked l ≤ length l
@@ -115,7 +119,7 @@ case (Asked.Refused n) = 0
 case (Asked.Marked n) = 1
 
 module _ (q h b after : Bytes) (a : Asked) (r : Asks q h b after a) where
-  refused-by : (n : ℕ) → a ≡ Asked.Refused n → askCall q h b ≡ refused n
+  pub refused-by : (n : ℕ) → a ≡ Asked.Refused n → askCall q h b ≡ refused n
   unfolding held case
   refused-by n e = go (askCall q h b) (sym (r .answer) ∙ e)
     where
@@ -123,7 +127,7 @@ module _ (q h b after : Bytes) (a : Asked) (r : Asks q h b after a) where
       go (refused m) p = ap refused (ap held p)
       go (accepted l) p = absurd (let y : _≡_ {A = ℕ} 1 0 = ap case p in omega (arith, y))
 
-  marked-by : (k : ℕ) → a ≡ Asked.Marked k → (m : List Bool) × (askCall q h b ≡ accepted m) × (k ≡ marked m)
+  pub marked-by : (k : ℕ) → a ≡ Asked.Marked k → (m : List Bool) × (askCall q h b ≡ accepted m) × (k ≡ marked m)
   unfolding held case
   marked-by k e = go (askCall q h b) (sym (r .answer) ∙ e)
     where
