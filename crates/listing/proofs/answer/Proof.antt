@@ -8,39 +8,30 @@ use Rattle.listing.proofs.answer_text.Reads as answer-text-reads
 use Rattle.listing.proofs.pagelist.put_refusal.Reads as put-refusal-reads
 use Rattle.register.proofs.register.Reads as register-reads
 
--- src/lib.rt:46:33
 slice-aggregate-register : tie.Need-slice-aggregate-register
 slice-aggregate-register c = search needs
 
--- src/lib.rt:46:9
 register-requires : tie.Need-register-requires
 register-requires c κs = search needs
 
--- src/lib.rt:48:9
 put-refusal-requires : tie.Need-put-refusal-requires
 put-refusal-requires c κs = search needs
 
--- src/lib.rt:48:9
 same-length : tie.Need-same-length
 same-length c = search needs
 
--- src/lib.rt:48:9
 returns : tie.Need-returns
 returns c = answer-refused _ _ _ _ _ (zeros-room 32770) (c .before .before .before .before .before .before .register .ensures) _ _ _ (c .before .before .before .before .if1 .taken) (c .before .before .put-refusal .ensures)
 
--- src/lib.rt:50:17
 slice-aggregate-answer-text : tie.Need-slice-aggregate-answer-text
 slice-aggregate-answer-text c = search needs
 
--- src/lib.rt:50:5
 answer-text-requires : tie.Need-answer-text-requires
 answer-text-requires c κs = search needs
 
--- src/lib.rt:42:1
 same-length-2 : tie.Need-same-length-2
 same-length-2 c = search needs
 
--- src/lib.rt:42:1
 returns-2 : tie.Need-returns-2
 returns-2 c = answer-held _ _ _ _ _ (zeros-room 32770) (c .before .before .before .before .before .before .before .register .ensures) _ _ _ (c .before .before .before .before .before .if1 .left) (c .before .before .answer-text .ensures)
 

@@ -8,47 +8,36 @@ use Rattle.ask.proofs.ask.Reads as ask-reads
 use Rattle.listing.proofs.pagelist.put_list.Reads as put-list-reads
 use Rattle.listing.proofs.pagelist.put_refusal.Reads as put-refusal-reads
 
--- src/lib.rt:22:33
 slice-aggregate-ask : tie.Need-slice-aggregate-ask
 slice-aggregate-ask c = search needs
 
--- src/lib.rt:22:9
 ask-requires : tie.Need-ask-requires
 ask-requires c κs = search needs
 
--- src/lib.rt:24:24
 enum-known-asked : tie.Need-enum-known-asked
 enum-known-asked c = search needs
 
--- src/lib.rt:24:30
 put-refusal-requires : tie.Need-put-refusal-requires
 put-refusal-requires c κs = search needs
 
--- src/lib.rt:25:23
 enum-known-asked-2 : tie.Need-enum-known-asked-2
 enum-known-asked-2 c = search needs
 
--- src/lib.rt:25:52
 slice-aggregate-put-list : tie.Need-slice-aggregate-put-list
 slice-aggregate-put-list c = search needs
 
--- src/lib.rt:25:29
 put-list-requires : tie.Need-put-list-requires
 put-list-requires c κs = search needs
 
--- src/lib.rt:18:1
 same-length : tie.Need-same-length
 same-length c = search needs
 
--- src/lib.rt:18:1
 returns : tie.Need-returns
 returns c = core-refused _ _ _ _ _ (zeros-room 256) (c .before .before .before .before .before .before .before .before .ask .ensures) _ _ _ _ (c .before .before .before .before .before .asked .given .1) (c .before .before .put-refusal .ensures)
 
--- src/lib.rt:18:1
 same-length-2 : tie.Need-same-length-2
 same-length-2 c = search needs
 
--- src/lib.rt:18:1
 returns-2 : tie.Need-returns-2
 returns-2 c = core-marked _ _ _ _ _ (zeros-room 256) (c .before .before .before .before .before .before .before .before .before .ask .ensures) _ _ _ _ (c .before .before .before .before .before .before .asked2 .given .1) (c .before .before .put-list .ensures)
 

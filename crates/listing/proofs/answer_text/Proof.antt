@@ -8,39 +8,30 @@ use Rattle.listing.proofs.answer_core.Reads as answer-core-reads
 use Rattle.listing.proofs.pagelist.put_refusal.Reads as put-refusal-reads
 use Rattle.query.proofs.query.Reads as query-reads
 
--- src/lib.rt:34:40
 slice-aggregate-query : tie.Need-slice-aggregate-query
 slice-aggregate-query c = search needs
 
--- src/lib.rt:34:9
 query-requires : tie.Need-query-requires
 query-requires c κs = search needs
 
--- src/lib.rt:36:9
 put-refusal-requires : tie.Need-put-refusal-requires
 put-refusal-requires c κs = search needs
 
--- src/lib.rt:36:9
 same-length : tie.Need-same-length
 same-length c = search needs
 
--- src/lib.rt:36:9
 returns : tie.Need-returns
 returns c = text-refused _ _ _ _ _ (zeros-room 6148) (c .before .before .before .before .before .before .query .ensures) _ _ _ (c .before .before .before .before .if1 .taken) (c .before .before .put-refusal .ensures)
 
--- src/lib.rt:38:17
 slice-aggregate-answer-core : tie.Need-slice-aggregate-answer-core
 slice-aggregate-answer-core c = search needs
 
--- src/lib.rt:38:5
 answer-core-requires : tie.Need-answer-core-requires
 answer-core-requires c κs = search needs
 
--- src/lib.rt:30:1
 same-length-2 : tie.Need-same-length-2
 same-length-2 c = search needs
 
--- src/lib.rt:30:1
 returns-2 : tie.Need-returns-2
 returns-2 c = text-core _ _ _ _ _ (zeros-room 6148) (c .before .before .before .before .before .before .before .query .ensures) _ _ _ (c .before .before .before .before .before .if1 .left) (c .before .before .answer-core .ensures)
 

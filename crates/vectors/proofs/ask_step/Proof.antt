@@ -11,47 +11,36 @@ use Rattle.vectors.proofs.least.Reads as least-reads
 use Rattle.vectors.proofs.write_line.Reads as write-line-reads
 use Rattle.vectors.proofs.write_places.Reads as write-places-reads
 
--- src/main.rt:60:9
 least-requires : tie.Need-least-requires
 least-requires c κs = search needs
 
--- src/main.rt:61:16
 array-borrow-prefix-marks : tie.Need-array-borrow-prefix-marks
 array-borrow-prefix-marks c = search needs
 
--- src/main.rt:61:9
 slice-aggregate-lent : tie.Need-slice-aggregate-lent
 slice-aggregate-lent c = sym (length-take-le (c .before .least .result) (replicate 256 0) (c .before .least .ensures))
 
--- src/main.rt:62:9
 ask-requires : tie.Need-ask-requires
 ask-requires c κs = search needs
 
--- src/main.rt:64:24
 enum-known-asked : tie.Need-enum-known-asked
 enum-known-asked c = search needs
 
--- src/main.rt:64:41
 slice-aggregate-write-line : tie.Need-slice-aggregate-write-line
 slice-aggregate-write-line c = search needs
 
--- src/main.rt:64:30
 write-line-requires : tie.Need-write-line-requires
 write-line-requires c κs = search needs
 
--- src/main.rt:65:23
 enum-known-asked-2 : tie.Need-enum-known-asked-2
 enum-known-asked-2 c = search needs
 
--- src/main.rt:65:29
 write-places-requires : tie.Need-write-places-requires
 write-places-requires c κs = search needs
 
--- src/main.rt:58:1
 returns : tie.Need-returns
 returns c = search needs
 
--- src/main.rt:58:1
 returns-2 : tie.Need-returns-2
 returns-2 c = search needs
 

@@ -17,39 +17,30 @@ Inv-loop script held₀ asked₀ at₀ held asked at = (length held ≡ length h
 abbrev μ-loop : tie.MeasureT-loop
 μ-loop script held₀ asked₀ at₀ held asked at = length script - at
 
--- src/main.rt:97:5
 loop-holds : tie.Need-loop-holds Inv-loop μ-loop
 loop-holds c = search needs
 
--- src/main.rt:98:13
 step-at-requires : tie.Need-step-at-requires Inv-loop μ-loop
 step-at-requires c κs = search needs
 
--- src/main.rt:99:13
 part-requires : tie.Need-part-requires Inv-loop μ-loop
 part-requires c κs = search needs
 
--- src/main.rt:100:9
 perform-requires : tie.Need-perform-requires Inv-loop μ-loop
 perform-requires c κs = search needs
 
--- src/main.rt:97:5
 loop-less : tie.Need-loop-less Inv-loop μ-loop
 loop-less c = let y = c .before .before .before .before .before .before .before .before .step-at .ensures (c .before .before .before .before .before .before .before .before .before .loop-test .taken) in let x = c .before .before .before .before .before .before .before .before .before .loop-test .taken in omega (arith, x, y)
 
--- src/main.rt:97:5
 loop-again : tie.Need-loop-again Inv-loop μ-loop
 loop-again c = search needs
 
--- src/main.rt:95:1
 same-length : tie.Need-same-length Inv-loop μ-loop
 same-length c = search needs
 
--- src/main.rt:95:1
 same-length-2 : tie.Need-same-length-2 Inv-loop μ-loop
 same-length-2 c = search needs
 
--- src/main.rt:95:1
 returns : tie.Need-returns Inv-loop μ-loop
 returns c = search needs
 

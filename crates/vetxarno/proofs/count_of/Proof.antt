@@ -5,11 +5,9 @@ use Rattle.vetxarno.proofs.count_of.Tie as tie
 use Rattle.vetxarno.proofs.count_of.Reads as reads
 use Rattle.vetxarno.proofs.count_of.Lts as lts
 
--- src/lib.rt:22:5
 cast-result : tie.Need-cast-result
 cast-result c = search needs
 
--- src/lib.rt:18:1
 returns : tie.Need-returns
 returns c = small-is (c .args .n) (c .pre)
 

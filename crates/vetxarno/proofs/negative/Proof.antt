@@ -6,15 +6,12 @@ use Rattle.vetxarno.proofs.negative.Tie as tie
 use Rattle.vetxarno.proofs.negative.Reads as reads
 use Rattle.vetxarno.proofs.negative.Lts as lts
 
--- src/lib.rt:13:13
 cast-m : tie.Need-cast-m
 cast-m c = search needs
 
--- src/lib.rt:14:5
 sub-result : tie.Need-sub-result
 sub-result c = negated-fits (c .args .n) (omega (arith, c .pre))
 
--- src/lib.rt:9:1
 returns : tie.Need-returns
 returns c = negated-is (c .args .n) (omega (arith, c .pre))
 

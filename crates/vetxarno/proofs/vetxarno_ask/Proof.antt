@@ -8,39 +8,30 @@ use Rattle.ask.proofs.ask.Reads as ask-reads
 use Rattle.vetxarno.proofs.count_of.Reads as count-of-reads
 use Rattle.vetxarno.proofs.negative.Reads as negative-reads
 
--- src/lib.rt:49:9
 ask-requires : tie.Need-ask-requires
 ask-requires c κs = search needs
 
--- src/lib.rt:51:24
 enum-known-asked : tie.Need-enum-known-asked
 enum-known-asked c = search needs
 
--- src/lib.rt:51:30
 negative-requires : tie.Need-negative-requires
 negative-requires c κs = refusal-few _ _ _ _ _ (c .before .before .before .before .before .ask .ensures) _ (c .before .asked .given .1)
 
--- src/lib.rt:52:23
 enum-known-asked-2 : tie.Need-enum-known-asked-2
 enum-known-asked-2 c = search needs
 
--- src/lib.rt:52:29
 count-of-requires : tie.Need-count-of-requires
 count-of-requires c κs = marks-few _ _ _ _ _ (c .before .before .before .before .before .ask .ensures) _ (c .before .asked2 .given .1)
 
--- src/lib.rt:45:1
 same-length : tie.Need-same-length
 same-length c = search needs
 
--- src/lib.rt:45:1
 returns : tie.Need-returns
 returns c = refusal-returns _ _ _ _ _ (c .before .before .before .before .before .before .ask .ensures) _ (c .before .before .asked .given .1) _ (c .negative .ensures)
 
--- src/lib.rt:45:1
 same-length-2 : tie.Need-same-length-2
 same-length-2 c = search needs
 
--- src/lib.rt:45:1
 returns-2 : tie.Need-returns-2
 returns-2 c = marks-return _ _ _ _ _ (c .before .before .before .before .before .before .ask .ensures) _ (c .before .before .asked2 .given .1) _ (c .count-of .ensures)
 

@@ -7,19 +7,15 @@ use Rattle.vetxarno.proofs.vetxarno_query.Lts as lts
 use Rattle.query.proofs.query.Reads as query-reads
 use Rattle.vetxarno.proofs.negative.Reads as negative-reads
 
--- src/lib.rt:40:9
 query-requires : tie.Need-query-requires
 query-requires c κs = search needs
 
--- src/lib.rt:41:5
 negative-requires : tie.Need-negative-requires
 negative-requires c κs = search (query-few, needs)
 
--- src/lib.rt:36:1
 same-length : tie.Need-same-length
 same-length c = search needs
 
--- src/lib.rt:36:1
 returns : tie.Need-returns
 returns c = query-returns _ _ _ _ _ (c .before .before .before .query .ensures) _ (c .negative .ensures)
 

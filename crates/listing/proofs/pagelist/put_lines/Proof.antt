@@ -17,35 +17,27 @@ Inv-loop out₀ at s t pages marks n to₀ i₀ out to i = (length out ≡ lengt
 abbrev μ-loop : tie.MeasureT-loop
 μ-loop out₀ at s t pages marks n to₀ i₀ out to i = n - i
 
--- src/pagelist.rt:51:5
 loop-holds : tie.Need-loop-holds Inv-loop μ-loop
 loop-holds c = search (line-ways, needs)
 
--- src/pagelist.rt:52:13
 byte-at-requires : tie.Need-byte-at-requires Inv-loop μ-loop
 byte-at-requires c κs = search (line-ways, needs)
 
--- src/pagelist.rt:53:9
 put-page-requires : tie.Need-put-page-requires Inv-loop μ-loop
 put-page-requires c κs = search (line-ways, needs)
 
--- src/pagelist.rt:54:9
 add-i : tie.Need-add-i Inv-loop μ-loop
 add-i c = search (line-ways, needs)
 
--- src/pagelist.rt:51:5
 loop-less : tie.Need-loop-less Inv-loop μ-loop
 loop-less c = search (line-ways, needs)
 
--- src/pagelist.rt:51:5
 loop-again : tie.Need-loop-again Inv-loop μ-loop
 loop-again c = search (line-ways, needs)
 
--- src/pagelist.rt:37:1
 same-length : tie.Need-same-length Inv-loop μ-loop
 same-length c = search (line-ways, needs)
 
--- src/pagelist.rt:37:1
 returns : tie.Need-returns Inv-loop μ-loop
 returns c = search (line-ways, needs)
 

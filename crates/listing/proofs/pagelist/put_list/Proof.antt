@@ -12,59 +12,45 @@ use Rattle.listing.proofs.parts.put_byte.Reads as put-byte-reads
 use Rattle.listing.proofs.parts.put_decimal.Reads as put-decimal-reads
 use Rattle.register.proofs.open_register.Reads as open-register-reads
 
--- src/pagelist.rt:64:35
 slice-aggregate-open-register : tie.Need-slice-aggregate-open-register
 slice-aggregate-open-register c = search needs
 
--- src/pagelist.rt:64:43
 slice-aggregate-open-register-2 : tie.Need-slice-aggregate-open-register-2
 slice-aggregate-open-register-2 c = search needs
 
--- src/pagelist.rt:64:55
 slice-aggregate-open-register-3 : tie.Need-slice-aggregate-open-register-3
 slice-aggregate-open-register-3 c = search needs
 
--- src/pagelist.rt:64:9
 open-register-requires : tie.Need-open-register-requires
 open-register-requires c κs = search needs
 
--- src/pagelist.rt:66:9
 text-in-requires : tie.Need-text-in-requires
 text-in-requires c κs = search needs
 
--- src/pagelist.rt:67:25
 slice-aggregate-put : tie.Need-slice-aggregate-put
 slice-aggregate-put c = search needs
 
--- src/pagelist.rt:67:9
 put-requires : tie.Need-put-requires
 put-requires c κs = search needs
 
--- src/pagelist.rt:68:9
 put-decimal-requires : tie.Need-put-decimal-requires
 put-decimal-requires c κs = search needs
 
--- src/pagelist.rt:69:9
 put-byte-requires : tie.Need-put-byte-requires
 put-byte-requires c κs = search needs
 
--- src/pagelist.rt:70:26
 slice-aggregate-put-lines : tie.Need-slice-aggregate-put-lines
 slice-aggregate-put-lines c = search needs
 
--- src/pagelist.rt:70:30
 slice-aggregate-put-lines-2 : tie.Need-slice-aggregate-put-lines-2
 slice-aggregate-put-lines-2 c = search needs
 
--- src/pagelist.rt:70:5
 put-lines-requires : tie.Need-put-lines-requires
 put-lines-requires c κs = search needs
 
--- src/pagelist.rt:58:1
 same-length : tie.Need-same-length
 same-length c = search needs
 
--- src/pagelist.rt:58:1
 returns : tie.Need-returns
 returns c = list-done _ _ _ _ _ _ _ _ _ _ _ _ _ _ _ _ _ (opens-with-room (c .before .before .before .before .before .before .before .before .before .before .before .before .before .before .before .before .before .before .before .before .before .before .before .open-register .ensures)) (c .before .before .before .before .before .before .before .before .before .before .before .before .before .before .before .before .before .before .before .text-in .ensures) (c .before .before .before .before .before .before .before .before .before .before .before .before .before .before .before .before .put .ensures) (c .before .before .before .before .before .before .before .before .before .before .before .before .put-decimal .ensures) (c .before .before .before .before .before .before .before .before .put-byte .ensures) (c .before .before .put-lines .ensures)
 

@@ -8,27 +8,21 @@ use Rattle.listing.proofs.parts.put_line.Reads as put-line-reads
 use Rattle.lookup.proofs.article_at.Reads as article-at-reads
 use Rattle.lookup.proofs.namespace_at.Reads as namespace-at-reads
 
--- src/pagelist.rt:29:9
 returns : tie.Need-returns
 returns c = page-unmarked _ _ _ _ _ _ _ (c .if1 .taken)
 
--- src/pagelist.rt:31:9
 namespace-at-requires : tie.Need-namespace-at-requires
 namespace-at-requires c κs = search needs
 
--- src/pagelist.rt:32:9
 article-at-requires : tie.Need-article-at-requires
 article-at-requires c κs = search needs
 
--- src/pagelist.rt:33:5
 put-line-requires : tie.Need-put-line-requires
 put-line-requires c κs = search needs
 
--- src/pagelist.rt:17:1
 same-length : tie.Need-same-length
 same-length c = search needs
 
--- src/pagelist.rt:17:1
 returns-2 : tie.Need-returns-2
 returns-2 c = page-marked _ _ _ _ _ _ _ _ _ _ _ (c .before .before .before .before .before .before .if1 .left) (c .before .before .before .before .before .namespace-at .ensures) (c .before .before .before .before .article-at .ensures) (c .before .before .put-line .ensures)
 

@@ -8,27 +8,21 @@ use Rattle.listing.proofs.parts.put.Reads as put-reads
 use Rattle.listing.proofs.parts.put_byte.Reads as put-byte-reads
 use Rattle.listing.proofs.parts.put_decimal.Reads as put-decimal-reads
 
--- src/pagelist.rt:78:25
 slice-aggregate-put : tie.Need-slice-aggregate-put
 slice-aggregate-put c = search needs
 
--- src/pagelist.rt:78:9
 put-requires : tie.Need-put-requires
 put-requires c κs = search needs
 
--- src/pagelist.rt:79:9
 put-decimal-requires : tie.Need-put-decimal-requires
 put-decimal-requires c κs = search needs
 
--- src/pagelist.rt:80:5
 put-byte-requires : tie.Need-put-byte-requires
 put-byte-requires c κs = search needs
 
--- src/pagelist.rt:75:1
 same-length : tie.Need-same-length
 same-length c = search needs
 
--- src/pagelist.rt:75:1
 returns : tie.Need-returns
 returns c = refusal-done _ _ _ _ _ _ _ _ (c .before .before .before .before .before .before .before .before .before .before .put .ensures) (c .before .before .before .before .before .before .put-decimal .ensures) (c .before .before .put-byte .ensures)
 

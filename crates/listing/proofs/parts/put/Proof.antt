@@ -16,35 +16,27 @@ Inv-loop out₀ at part to₀ i₀ out to i = (length out ≡ length out₀) × 
 abbrev μ-loop : tie.MeasureT-loop
 μ-loop out₀ at part to₀ i₀ out to i = length part - i
 
--- src/parts.rt:25:5
 loop-holds : tie.Need-loop-holds Inv-loop μ-loop
 loop-holds c = search (put-ways, needs)
 
--- src/parts.rt:26:32
 shared-slice-read-put-byte : tie.Need-shared-slice-read-put-byte Inv-loop μ-loop
 shared-slice-read-put-byte c = search (put-ways, needs)
 
--- src/parts.rt:26:9
 put-byte-requires : tie.Need-put-byte-requires Inv-loop μ-loop
 put-byte-requires c κs = search (put-ways, needs)
 
--- src/parts.rt:27:9
 add-i : tie.Need-add-i Inv-loop μ-loop
 add-i c = search (put-ways, needs)
 
--- src/parts.rt:25:5
 loop-less : tie.Need-loop-less Inv-loop μ-loop
 loop-less c = search (put-ways, needs)
 
--- src/parts.rt:25:5
 loop-again : tie.Need-loop-again Inv-loop μ-loop
 loop-again c = search (put-ways, needs)
 
--- src/parts.rt:20:1
 same-length : tie.Need-same-length Inv-loop μ-loop
 same-length c = search (put-ways, needs)
 
--- src/parts.rt:20:1
 returns : tie.Need-returns Inv-loop μ-loop
 returns c = search (put-ways, needs)
 

@@ -8,35 +8,27 @@ use Rattle.listing.proofs.parts.put.Reads as put-reads
 use Rattle.listing.proofs.parts.put_byte.Reads as put-byte-reads
 use Rattle.listing.proofs.parts.put_decimal.Reads as put-decimal-reads
 
--- src/parts.rt:59:9
 put-decimal-requires : tie.Need-put-decimal-requires
 put-decimal-requires c κs = search needs
 
--- src/parts.rt:60:9
 put-byte-requires : tie.Need-put-byte-requires
 put-byte-requires c κs = search needs
 
--- src/parts.rt:61:9
 put-requires : tie.Need-put-requires
 put-requires c κs = search needs
 
--- src/parts.rt:62:9
 put-byte-requires-2 : tie.Need-put-byte-requires-2
 put-byte-requires-2 c κs = search needs
 
--- src/parts.rt:63:9
 put-requires-2 : tie.Need-put-requires-2
 put-requires-2 c κs = search needs
 
--- src/parts.rt:64:5
 put-byte-requires-3 : tie.Need-put-byte-requires-3
 put-byte-requires-3 c κs = search needs
 
--- src/parts.rt:56:1
 same-length : tie.Need-same-length
 same-length c = search needs
 
--- src/parts.rt:56:1
 returns : tie.Need-returns
 returns c =
     puts-line _ _ _ _ _ _ _ _ _ _ _ _ _ _ _ _ _ (c .before .before .before .before .before .before .before .before .before .before .before .before .before .before .before .before .before .before .before .before .before .before .put-decimal .ensures) (c .before .before .before .before .before .before .before .before .before .before .before .before .before .before .before .before .before .before .put-byte .ensures) (c .before .before .before .before .before .before .before .before .before .before .before .before .before .before .put .ensures) (c .before .before .before .before .before .before .before .before .before .before .put-byte2 .ensures) (c .before .before .before .before .before .before .put2 .ensures) (c .before .before .put-byte3 .ensures)
