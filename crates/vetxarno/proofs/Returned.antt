@@ -75,8 +75,8 @@ module _ (t h after : Bytes) (n : ℕ) (r : Registers t h after n) where
   pub register-call : RegisterCall t h after (negℤ (pos n))
   register-call = record { number = ap (λ m. negℤ (pos m)) (r .number) ∙ returned-number (registerCall t h); buffer = r .buffer }
 
-  pub register-returns : (z : ℤ) → z ≡ negℤ (pos n) → RegisterCall t h after (toZ w32 (ofZ w32 z))
-  register-returns z e = subst (RegisterCall t h after) (sym (negative-passed n (omega (arith, register-few)) z e)) register-call
+  pub register-returns : (z : ℤ) → (n ≤ 24 → z ≡ negℤ (pos n)) → RegisterCall t h after (toZ w32 (ofZ w32 z))
+  register-returns z e = subst (RegisterCall t h after) (sym (negative-passed n (omega (arith, register-few)) z (e register-few))) register-call
 
 module _ (h s b after : Bytes) (n : ℕ) (r : Queries h s b after n) where
   pub query-few : n ≤ 24
@@ -85,8 +85,8 @@ module _ (h s b after : Bytes) (n : ℕ) (r : Queries h s b after n) where
   pub query-call : QueryCall h s b after (negℤ (pos n))
   query-call = record { number = ap (λ m. negℤ (pos m)) (r .number) ∙ returned-number (queryCall h s b); buffer = r .buffer }
 
-  pub query-returns : (z : ℤ) → z ≡ negℤ (pos n) → QueryCall h s b after (toZ w32 (ofZ w32 z))
-  query-returns z e = subst (QueryCall h s b after) (sym (negative-passed n (omega (arith, query-few)) z e)) query-call
+  pub query-returns : (z : ℤ) → (n ≤ 24 → z ≡ negℤ (pos n)) → QueryCall h s b after (toZ w32 (ofZ w32 z))
+  query-returns z e = subst (QueryCall h s b after) (sym (negative-passed n (omega (arith, query-few)) z (e query-few))) query-call
 
 -- no more pages are marked than there are
 marked-few : (l : List Bool) → marked l ≤ length l
@@ -139,14 +139,14 @@ module _ (q h b after : Bytes) (a : Asked) (r : Asks q h b after a) where
     pub refusal-few : a ≡ Asked.Refused n → n ≤ 24
     refusal-few e = let k = few (askTable q h b) (askCall q h b) (ask-refuses q h b) (ask-rises q h b) in let i = ap numberOf (refused-by n e) in omega (arith, k, i)
 
-    pub refusal-returns : a ≡ Asked.Refused n → (z : ℤ) → z ≡ negℤ (pos n) → AskCall q h b after (toZ w32 (ofZ w32 z))
+    pub refusal-returns : a ≡ Asked.Refused n → (z : ℤ) → (n ≤ 24 → z ≡ negℤ (pos n)) → AskCall q h b after (toZ w32 (ofZ w32 z))
     refusal-returns e z p =
-        record { number = negative-passed n (omega (arith, refusal-few e)) z p ∙ ap (returned marked) (sym (refused-by n e)); buffer = r .buffer }
+        record { number = negative-passed n (omega (arith, refusal-few e)) z (p (refusal-few e)) ∙ ap (returned marked) (sym (refused-by n e)); buffer = r .buffer }
 
     pub marks-few : a ≡ Asked.Marked n → n ≤ 256
     marks-few e = let k = marked-by n e in rw (k .2) (asked-few q h b (k .0) (k .1))
 
-    pub marks-return : a ≡ Asked.Marked n → (z : ℤ) → z ≡ pos n → AskCall q h b after (toZ w32 (ofZ w32 z))
+    pub marks-return : a ≡ Asked.Marked n → (z : ℤ) → (n ≤ 256 → z ≡ pos n) → AskCall q h b after (toZ w32 (ofZ w32 z))
     marks-return e z p =
         let k = marked-by n e in
-        record { number = count-passed n (marks-few e) z p ∙ ap pos (k .2) ∙ ap (returned marked) (sym (k .1)); buffer = r .buffer }
+        record { number = count-passed n (marks-few e) z (p (marks-few e)) ∙ ap pos (k .2) ∙ ap (returned marked) (sym (k .1)); buffer = r .buffer }

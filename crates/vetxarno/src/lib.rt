@@ -6,21 +6,19 @@ ghost use Rattle.vetxarno.specs.Calls.{RegisterCall, QueryCall, AskCall}
 use ask::Asked;
 use ask::ask;
 
-// A number that refuses, made negative; 0 stays.
-fn negative(n: usize) -> i32
-    requires { ⌜ n ≤ 24 ⌝ }
-    ensures { λ r. ⌜ r ≡ negℤ (pos n) ⌝ }
+// How many pages are marked, at most 256.
+fn count_of(n: usize) -> i32
+    ensures { λ r. ⌜ (n ≤ 256 → r ≡ pos n) ⌝ }
 {
-    let m = n as i32;
-    0 - m
+    (n % 257) as i32
 }
 
-// How many pages are marked.
-fn count_of(n: usize) -> i32
-    requires { ⌜ n ≤ 256 ⌝ }
-    ensures { λ r. ⌜ r ≡ pos n ⌝ }
+// A number that refuses, at most 24, made negative; 0 stays.
+fn negative(n: usize) -> i32
+    ensures { λ r. ⌜ (n ≤ 24 → r ≡ negℤ (pos n)) ⌝ }
 {
-    n as i32
+    let m = (n % 257) as i32;
+    0 - m
 }
 
 // The register call.

@@ -1,4 +1,4 @@
-use Rattle.vetxarno.proofs.Returned.{refusal-few, refusal-returns, marks-few, marks-return}
+use Rattle.vetxarno.proofs.Returned.{refusal-returns, marks-return}
 use borrow.Author.Needs.{needs}
 use Rattle.vetxarno.proofs.vetxarno_ask.Statement.{statement}
 use Rattle.vetxarno.proofs.vetxarno_ask.Tie as tie
@@ -15,13 +15,13 @@ enum-known-asked : tie.Need-enum-known-asked
 enum-known-asked c = search needs
 
 negative-requires : tie.Need-negative-requires
-negative-requires c κs = refusal-few _ _ _ _ _ (c .before .before .before .before .before .ask .ensures) _ (c .before .asked .given .1)
+negative-requires c κs = search needs
 
 enum-known-asked-2 : tie.Need-enum-known-asked-2
 enum-known-asked-2 c = search needs
 
 count-of-requires : tie.Need-count-of-requires
-count-of-requires c κs = marks-few _ _ _ _ _ (c .before .before .before .before .before .ask .ensures) _ (c .before .asked2 .given .1)
+count-of-requires c κs = search needs
 
 same-length : tie.Need-same-length
 same-length c = search needs

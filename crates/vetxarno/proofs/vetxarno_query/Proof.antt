@@ -1,4 +1,4 @@
-use Rattle.vetxarno.proofs.Returned.{query-few, query-returns}
+use Rattle.vetxarno.proofs.Returned.{query-returns}
 use borrow.Author.Needs.{needs}
 use Rattle.vetxarno.proofs.vetxarno_query.Statement.{statement}
 use Rattle.vetxarno.proofs.vetxarno_query.Tie as tie
@@ -11,7 +11,7 @@ query-requires : tie.Need-query-requires
 query-requires c κs = search needs
 
 negative-requires : tie.Need-negative-requires
-negative-requires c κs = search (query-few, needs)
+negative-requires c κs = search needs
 
 same-length : tie.Need-same-length
 same-length c = search needs

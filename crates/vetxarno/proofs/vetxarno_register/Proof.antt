@@ -1,5 +1,5 @@
 use borrow.Author.Needs.{needs}
-use Rattle.vetxarno.proofs.Returned.{register-few, register-returns}
+use Rattle.vetxarno.proofs.Returned.{register-returns}
 use Rattle.vetxarno.proofs.vetxarno_register.Statement.{statement}
 use Rattle.vetxarno.proofs.vetxarno_register.Tie as tie
 use Rattle.vetxarno.proofs.vetxarno_register.Reads as reads
@@ -11,7 +11,7 @@ register-requires : tie.Need-register-requires
 register-requires c κs = search needs
 
 negative-requires : tie.Need-negative-requires
-negative-requires c κs = search (register-few, needs)
+negative-requires c κs = search needs
 
 same-length : tie.Need-same-length
 same-length c = search needs
