@@ -1,41 +1,39 @@
 -- The ways through the answer.
-use Prim.Native.Nat.{ℕ, zero, suc, _+_, _≤_, _<_}
+use Prim.Native.Nat.{ℕ, zero, suc, _≤_, _<_}
 use mathlib.Core.Path.{_≡_, refl, sym, ap, _∙_, subst}
 use mathlib.Core.Bool.{Bool, true, false, cond}
 use mathlib.Core.List.{List, [], _∷_, _++_, map}
-use mathlib.Core.Option.{Option, some, none}
+use mathlib.Core.Option.{some}
 use native.Mathlib.Omega.{arith}
 use borrow.Author.Tests.{le-ltb}
 use lib.Dec.{ltb, eqb}
+use lib.IntN.{pos, negℤ}
 use lib.ListN.{length, getD, drop, replicate, length-replicate, length-map}
 use Rattle.text.specs.Bytes.{Bytes, bytes}
 use Rattle.text.specs.Table.{bit}
-use Rattle.language.specs.Answer.{Answer, refused, accepted, numberOf, Check, orRefuse, andThen}
+use Rattle.language.specs.Answer.{Answer, refused, accepted, numberOf, orRefuse, andThen}
 use Rattle.language.specs.Register.{Register}
-use Rattle.language.specs.RegisterText.{readRegister}
+use Rattle.language.specs.RegisterText.{registerOf, readRegister}
 use Rattle.language.specs.Core.{Core}
 use Rattle.language.specs.Semantics.{selects, run}
 use Rattle.language.specs.Calls.{coreOf}
 use Rattle.language.proofs.Registers.{accepted-sound}
 use Rattle.held.specs.Form.{registerSize, formOf, textIn}
-use Rattle.register.specs.Held.{heldRegister, registerCall, leftIn, Registers}
-use Rattle.register.proofs.Forms.{held-by, held-form, accepted-short}
+use Rattle.register.specs.Held.{heldRegister, registerCall, Registers}
+use Rattle.register.proofs.Forms.{held-by}
+use Rattle.register.proofs.Calls.{zero-accepted}
 use Rattle.nodes.specs.Held.{querySize, heldQuery}
-use Rattle.query.specs.Call.{queryCall, Stores, Queries}
+use Rattle.query.specs.Call.{queryCall, Queries}
 use Rattle.lookup.specs.View.{pageAt}
-use Rattle.ask.specs.Call.{askCall, marked, asked, marksIn, Asks}
+use Rattle.ask.specs.Call.{askCall, marked, marksIn, Asks}
 use Rattle.ask.specs.declared.Asked.{Asked}
-use Rattle.vetxarno.specs.Demands.{lowest, rises, registerTable, queryTable, askTable}
-use Rattle.vetxarno.proofs.Tables.{refusalOf, register-refuses, query-refuses, ask-refuses, register-rises, query-rises, ask-rises, lowest-between}
-use Rattle.vetxarno.proofs.Demands.{asked-is, run-is}
+use Rattle.vetxarno.specs.Calls.{RegisterCall, QueryCall}
+use Rattle.vetxarno.proofs.Demands.{register-stores, query-stores, asked-is, run-is}
+use Rattle.vetxarno.proofs.Returned.{register-few, register-call, query-few, query-call, refused-by, marked-by, refusal-few, marks-few}
 use Rattle.listing.specs.Listing.{decimal, linesTo, listing, outcome, asklist}
 use Rattle.listing.specs.Puts.{Puts}
-use Rattle.listing.specs.Answering.{ofCore, ofText, isMarked, PutsList, PutsRefusal, PutsAsked, AnswersCore, AnswersText}
+use Rattle.listing.specs.Answering.{ofCore, ofText, isMarked, PutsList, PutsRefusal, AnswersCore, AnswersText}
 use Rattle.listing.proofs.Lines.{lines-same}
-
--- a refusal's number is one of its call's table
-between : {A : Type 0} (table : List Check) (a : Answer A) (n : ℕ) → refusalOf a ≡ lowest table → rises 0 25 table ≡ true → a ≡ refused n → (0 < n) × (n < 25)
-between table a n e h k = lowest-between 0 25 n table h (sym e ∙ ap refusalOf k)
 
 -- what a buffer that is long enough changes: nothing
 roomy : {A B : Type 0} (n m k : ℕ) (a : Answer A) (f : A → B) → m ≤ n → andThen a (λ x. cond (ltb n m) (refused k) (accepted (f x))) ≡ andThen a (λ x. accepted (f x))
@@ -49,12 +47,6 @@ then-accepted : {A : Type 0} (a : Answer A) → andThen a (λ x. accepted x) ≡
 then-accepted (refused n) = refl
 then-accepted (accepted x) = refl
 
-marked-few : (l : List Bool) → marked l ≤ length l
-unfolding marked
-marked-few [] = omega arith
-marked-few (true ∷ l) = let y = marked-few l in omega (arith, y)
-marked-few (false ∷ l) = let y = marked-few l in omega (arith, y)
-
 -- a mark's byte is 1 where the page is marked
 mark-byte : (m : List Bool) (x : Bytes) (i : ℕ) → i < length m → eqb (getD (map bit m ++ x) i 0) 1 ≡ getD m i false
 mark-byte [] x i l = absurd (omega (arith, l))
@@ -64,98 +56,73 @@ mark-byte (b ∷ m) x (suc i) l = mark-byte m x i (omega (arith, l))
 
 -- answer_core
 module _ (q h b marks : Bytes) (a : Asked) (room : 256 ≤ length b) (k : Asks q h b marks a) (out after : Bytes) (r : ℕ) where
-  module _ (c : Core) (R : Register) (e : heldQuery q ≡ some c) (p : heldRegister h ≡ some R) where
-    few : length (R .pages) ≤ 256
-    few = accepted-sound (textIn h) R (held-by h R p .text) .fewPages
+  runs : (c : Core) (R : Register) → heldQuery q ≡ some c → heldRegister h ≡ some R → askCall q h b ≡ run c R
+  runs c R e p =
+      let few = accepted-sound (textIn h) R (held-by h R p .text) .fewPages in
+      asked-is q h b c R e p ∙ roomy (length b) (length (R .pages)) 24 (run c R) (λ m. m) (omega (arith, few, room)) ∙ then-accepted (run c R)
 
-    runs : askCall q h b ≡ run c R
-    runs = asked-is q h b c R e p ∙ roomy (length b) (length (R .pages)) 24 (run c R) (λ m. m) (omega (arith, few, room)) ∙ then-accepted (run c R)
-
-    puts : PutsAsked h marks out after r a → Puts out 0 (ofCore R c) after r
-    unfolding ofCore PutsRefusal PutsList listing
-    puts w = go (run c R) refl
-      where
-        is : (x : Answer (List Bool)) → run c R ≡ x → PutsAsked h marks out after r (asked x)
-        is x g = subst (PutsAsked h marks out after r) (k .answer ∙ ap asked (runs ∙ g)) w
-
-        go : (x : Answer (List Bool)) → run c R ≡ x → Puts out 0 (outcome (andThen x (λ m. accepted (listing R m)))) after r
-        go (refused n) g =
-            let l = between (askTable q h b) (askCall q h b) n (ask-refuses q h b) (ask-rises q h b) (runs ∙ g) .1 in
-            is (refused n) g (omega (arith, l))
-        go (accepted m) g =
-            let long : length m ≡ length (R .pages) = ap length (run-is c R m g .1) ∙ length-map (R .pages) (selects c R) in
-            let held : marks ≡ map bit m ++ drop (length m) b = k .buffer ∙ ap (marksIn b) (runs ∙ g) in
-            let same : linesTo (length (R .pages)) (isMarked marks) (pageAt R) ≡ linesTo (length (R .pages)) (λ i. getD m i false) (pageAt R) = lines-same (length (R .pages)) (isMarked marks) (λ i. getD m i false) (pageAt R) (λ i l. ap (λ x. isMarked x i) held ∙ mark-byte m (drop (length m) b) i (omega (arith, l, long))) in
-            let y = marked-few m in
-            subst (λ x. Puts out 0 (bytes "pages " ++ decimal (marked m) ++ (10 ∷ []) ++ x) after r) same (is (accepted m) g R p (omega (arith, y, long, few)))
+  -- what the lines are, by the marks that the run gave
+  marked-lines : (c : Core) (R : Register) (m : List Bool) → run c R ≡ accepted m → askCall q h b ≡ accepted m
+      → linesTo (length (R .pages)) (isMarked marks) (pageAt R) ≡ linesTo (length (R .pages)) (λ i. getD m i false) (pageAt R)
+  marked-lines c R m e g =
+      let long : length m ≡ length (R .pages) = ap length (run-is c R m e .1) ∙ length-map (R .pages) (selects c R) in
+      let held : marks ≡ map bit m ++ drop (length m) b = k .buffer ∙ ap (marksIn b) g in
+      lines-same (length (R .pages)) (isMarked marks) (λ i. getD m i false) (pageAt R)
+      (λ i l. ap (λ x. isMarked x i) held ∙ mark-byte m (drop (length m) b) i (omega (arith, l, long)))
 
   pub core-refused : (n : ℕ) → a ≡ Asked.Refused n → PutsRefusal n out after r → AnswersCore q h out after r
-  unfolding AnswersCore
-  core-refused n g w c R e p = puts c R e p (subst (PutsAsked h marks out after r) (sym g) w)
+  unfolding AnswersCore ofCore PutsRefusal
+  core-refused n g w c R e p =
+      let few = refusal-few q h b marks a k n g in
+      let is : run c R ≡ refused n = sym (runs c R e p) ∙ refused-by q h b marks a k n g in
+      subst (λ x. Puts out 0 (outcome (andThen x (λ m. accepted (listing R m)))) after r) (sym is) (w (omega (arith, few)))
 
   pub core-marked : (n : ℕ) → a ≡ Asked.Marked n → PutsList h n marks out after r → AnswersCore q h out after r
-  unfolding AnswersCore
-  core-marked n g w c R e p = puts c R e p (subst (PutsAsked h marks out after r) (sym g) w)
+  unfolding AnswersCore ofCore PutsList listing
+  core-marked n g w c R e p =
+      let few = marks-few q h b marks a k n g in
+      let (m, x, count) = marked-by q h b marks a k n g in
+      let is : run c R ≡ accepted m = sym (runs c R e p) ∙ x in
+      subst (λ x. Puts out 0 (outcome (andThen x (λ m. accepted (listing R m)))) after r) (sym is)
+      (subst (λ l. Puts out 0 (bytes "pages " ++ decimal (marked m) ++ (10 ∷ []) ++ l) after r) (marked-lines c R m is x)
+      (subst (λ j. Puts out 0 (bytes "pages " ++ decimal j ++ (10 ∷ []) ++ linesTo (length (R .pages)) (isMarked marks) (pageAt R)) after r) count (w R p (omega (arith, few)))))
 
--- a call's answer, known by its number, and answered on
-module _ {A : Type 0} (a : Answer A) (n : ℕ) (number : n ≡ numberOf a) (few : (m : ℕ) → a ≡ refused m → (0 < m) × (m < 25)) (f : A → Answer Bytes) (out after : Bytes) (r : ℕ) where
-  refused-first : (n ≡ 0 → ⊥) → PutsRefusal n out after r → Puts out 0 (outcome (andThen a f)) after r
-  unfolding PutsRefusal
-  refused-first h w = go a number few
-    where
-      go : (a : Answer A) → n ≡ numberOf a → ((m : ℕ) → a ≡ refused m → (0 < m) × (m < 25)) → Puts out 0 (outcome (andThen a f)) after r
-      go (refused m) e few =
-          let l = few m refl .1 in
-          subst (λ j. Puts out 0 (outcome (refused j)) after r) e (w (omega (arith, l, e)))
-      go (accepted x) e few = absurd (h e)
-
-  accepted-first : n ≡ 0 → ((x : A) → a ≡ accepted x → Puts out 0 (outcome (f x)) after r) → Puts out 0 (outcome (andThen a f)) after r
-  accepted-first z w = go a number few w
-    where
-      go : (a : Answer A) → n ≡ numberOf a → ((m : ℕ) → a ≡ refused m → (0 < m) × (m < 25)) → ((x : A) → a ≡ accepted x → Puts out 0 (outcome (f x)) after r) → Puts out 0 (outcome (andThen a f)) after r
-      go (refused m) e few w = let l = few m refl .0 in absurd (omega (arith, l, e, z))
-      go (accepted x) e few w = w x refl
+-- a call that refused, known by its number
+refused-first : {A : Type 0} (a : Answer A) (n : ℕ) (f : A → Answer Bytes) (out after : Bytes) (r : ℕ) → n ≡ numberOf a → n ≤ 24
+    → (n ≡ 0 → ⊥) → PutsRefusal n out after r → Puts out 0 (outcome (andThen a f)) after r
+unfolding PutsRefusal
+refused-first (refused m) n f out after r e few h w = subst (λ j. Puts out 0 (outcome (refused j)) after r) e (w (omega (arith, few)))
+refused-first (accepted x) n f out after r e few h w = absurd (h e)
 
 -- answer_text
 module _ (h s b q : Bytes) (n : ℕ) (room : 6148 ≤ length b) (k : Queries h s b q n) (out after : Bytes) (r : ℕ) where
-  module _ (R : Register) (p : heldRegister h ≡ some R) where
-    fits : queryCall h s b ≡ coreOf R s
-    unfolding queryCall
-    fits =
-        ap (λ o. andThen (orRefuse 11 o) (λ R. andThen (coreOf R s) (λ c. cond (ltb (length b) querySize) (refused 20) (accepted c)))) p
-        ∙ roomy (length b) querySize 20 (coreOf R s) (λ c. c) room
-        ∙ then-accepted (coreOf R s)
-
-    text-number : n ≡ numberOf (coreOf R s)
-    text-number = k .number ∙ ap numberOf fits
-
-    text-few : (m : ℕ) → coreOf R s ≡ refused m → (0 < m) × (m < 25)
-    text-few m e = between (queryTable h s b) (queryCall h s b) m (query-refuses h s b) (query-rises h s b) (fits ∙ e)
+  text-number : (R : Register) → heldRegister h ≡ some R → n ≡ numberOf (coreOf R s)
+  unfolding queryCall
+  text-number R p =
+      k .number
+      ∙ ap numberOf
+      (ap (λ o. andThen (orRefuse 11 o) (λ R. andThen (coreOf R s) (λ c. cond (ltb (length b) querySize) (refused 20) (accepted c)))) p
+      ∙ roomy (length b) querySize 20 (coreOf R s) (λ c. c) room
+      ∙ then-accepted (coreOf R s))
 
   pub text-refused : (n ≡ 0 → ⊥) → PutsRefusal n out after r → AnswersText h s out after r
   unfolding AnswersText ofText
   text-refused f w R p =
-      refused-first (coreOf R s) n (text-number R p) (text-few R p) (λ c. andThen (run c R) (λ m. accepted (listing R m))) out after r f w
+      refused-first (coreOf R s) n (λ c. andThen (run c R) (λ m. accepted (listing R m))) out after r (text-number R p) (query-few h s b q n k) f w
 
   pub text-core : n ≡ 0 → AnswersCore q h out after r → AnswersText h s out after r
   unfolding AnswersText AnswersCore ofText ofCore
   text-core z w R p =
-      accepted-first (coreOf R s) n (text-number R p) (text-few R p) (λ c. andThen (run c R) (λ m. accepted (listing R m))) out after r z
-      (λ c e. let held : Stores (accepted c) b q = subst (λ a. Stores a b q) (fits R p ∙ e) (k .buffer) in w c R (held .0) p)
+      let call : QueryCall h s b q (pos 0) = subst (λ j. QueryCall h s b q (negℤ (pos j))) z (query-call h s b q n k) in
+      let (c, e, held) = query-stores h s b q R call p in
+      subst (λ a. Puts out 0 (outcome (andThen a (λ c. andThen (run c R) (λ m. accepted (listing R m))))) after r) (sym e) (w c R held p)
 
 -- answer
 module _ (t s h held : Bytes) (n : ℕ) (room : 32770 ≤ length h) (k : Registers t h held n) (out after : Bytes) (r : ℕ) where
-  call-is : (a : Answer Register) → readRegister t ≡ a → registerCall t h ≡ andThen a (λ R. accepted (formOf t ++ drop registerSize h))
-  unfolding registerCall
-  call-is a e =
-      roomy (length h) registerSize 8 (readRegister t) (λ R. formOf t ++ drop registerSize h) room
-      ∙ ap (λ a. andThen a (λ R. accepted (formOf t ++ drop registerSize h))) e
-
-  register-few : (m : ℕ) → readRegister t ≡ refused m → (0 < m) × (m < 25)
-  register-few m e = between (registerTable t h) (registerCall t h) m (register-refuses t h) (register-rises t h) (call-is (refused m) e)
-
   register-number : n ≡ numberOf (readRegister t)
-  register-number = k .number ∙ ap numberOf (call-is (readRegister t) refl) ∙ same (readRegister t)
+  unfolding registerCall
+  register-number =
+      k .number ∙ ap numberOf (roomy (length h) registerSize 8 (readRegister t) (λ R. formOf t ++ drop registerSize h) room) ∙ same (readRegister t)
     where
       same : (a : Answer Register) → numberOf (andThen a (λ R. accepted (formOf t ++ drop registerSize h))) ≡ numberOf a
       same (refused m) = refl
@@ -164,12 +131,12 @@ module _ (t s h held : Bytes) (n : ℕ) (room : 32770 ≤ length h) (k : Registe
   pub answer-refused : (n ≡ 0 → ⊥) → PutsRefusal n out after r → Puts out 0 (asklist t s) after r
   unfolding asklist
   answer-refused f w =
-      refused-first (readRegister t) n register-number register-few (λ R. andThen (coreOf R s) (λ c. andThen (run c R) (λ m. accepted (listing R m)))) out after r f w
+      refused-first (readRegister t) n (λ R. andThen (coreOf R s) (λ c. andThen (run c R) (λ m. accepted (listing R m)))) out after r register-number (register-few t h held n k) f w
 
   pub answer-held : n ≡ 0 → AnswersText held s out after r → Puts out 0 (asklist t s) after r
   unfolding asklist AnswersText ofText
   answer-held z w =
-      accepted-first (readRegister t) n register-number register-few (λ R. andThen (coreOf R s) (λ c. andThen (run c R) (λ m. accepted (listing R m)))) out after r z
-      (λ R e.
-      let is : held ≡ formOf t ++ drop registerSize h = k .buffer ∙ ap (leftIn h) (call-is (accepted R) e) in
-      w R (ap heldRegister is ∙ held-form t (drop registerSize h) R (accepted-short t R e) e))
+      let call : RegisterCall t h held (pos 0) = subst (λ j. RegisterCall t h held (negℤ (pos j))) z (register-call t h held n k) in
+      let (l, entries, e) = zero-accepted t (sym register-number ∙ z) in
+      subst (λ a. Puts out 0 (outcome (andThen a (λ R. andThen (coreOf R s) (λ c. andThen (run c R) (λ m. accepted (listing R m)))))) after r) (sym e)
+      (w (registerOf l) (register-stores t h held (registerOf l) call e))

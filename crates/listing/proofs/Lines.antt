@@ -3,7 +3,7 @@ use Prim.Native.Nat.{ℕ, zero, suc, _+_, _≤_, _<_}
 use mathlib.Core.Path.{_≡_, refl, sym, ap, ap₂, _∙_, subst}
 use mathlib.Core.Bool.{Bool, true, false, cond}
 use mathlib.Core.List.{List, [], _∷_, _++_}
-use mathlib.Core.Option.{Option, some, none}
+use mathlib.Core.Option.{some, Option·some-injective}
 use native.Mathlib.Omega.{arith}
 use borrow.Author.Tests.{eq-eqb, ne-eqb}
 use lib.Dec.{eqb}
@@ -65,9 +65,6 @@ module _ (s : Bytes) (t pages : List ℕ) (marks : Bytes) (b : Bytes) (at : ℕ)
 
 pub ruleset line-ways = (lines-none, lines-more, lines-all)
 
-some-is : {A : Type 0} {a b : A} → some a ≡ some b → a ≡ b
-some-is e = cc
-
 -- put_list
 pub list-done : (h s : Bytes) (t props pages : List ℕ) (o : Judged) (marks out a b c after : Bytes) (count k m n r : ℕ)
     → Opens h t props pages o → s ≡ textIn h
@@ -84,7 +81,7 @@ list-done h s t props pages o marks out a b c after count k m n r O is one two t
     zero-is = O .is R p
 
     held : View R (textIn h) t props pages o
-    held = record { register = some-is (sym p ∙ O .register zero-is); index = O .index zero-is; sound = accepted-sound (textIn h) R (held-by h R p .text) }
+    held = record { register = Option·some-injective _ _ (sym p ∙ O .register zero-is); index = O .index zero-is; sound = accepted-sound (textIn h) R (held-by h R p .text) }
 
     view : View R s t props pages o
     view = subst (λ x. View R x t props pages o) (sym is) held

@@ -16,7 +16,6 @@ use Rattle.rows.specs.declared.Judged.{Judged}
 use Rattle.register.specs.Held.{heldRegister}
 use Rattle.nodes.specs.Held.{heldQuery}
 use Rattle.lookup.specs.View.{pageAt, View}
-use Rattle.ask.specs.declared.Asked.{Asked}
 use Rattle.listing.specs.Listing.{decimal, lineOf, linesTo, listing, outcome}
 use Rattle.listing.specs.Puts.{Puts}
 
@@ -49,11 +48,6 @@ PutsList h count marks b after r =
 
 unfoldable pub PutsRefusal : ℕ → Bytes → Bytes → ℕ → Type 0
 PutsRefusal n b after r = n < 1000 → Puts b 0 (outcome (refused n)) after r
-
--- What an ask call answered.
-abbrev pub PutsAsked : Bytes → Bytes → Bytes → Bytes → ℕ → Asked → Type 0
-PutsAsked h marks b after r (Asked.Refused n) = PutsRefusal n b after r
-PutsAsked h marks b after r (Asked.Marked n) = PutsList h n marks b after r
 
 -- The answer to a held query, and to a query text, on the register in h.
 unfoldable pub AnswersCore : Bytes → Bytes → Bytes → Bytes → ℕ → Type 0
