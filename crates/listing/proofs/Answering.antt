@@ -31,8 +31,8 @@ use Rattle.vetxarno.specs.Calls.{RegisterCall, QueryCall}
 use Rattle.vetxarno.proofs.Demands.{register-stores, query-stores, asked-is, run-is}
 use Rattle.vetxarno.proofs.Returned.{register-few, register-call, query-few, query-call, refused-by, marked-by, refusal-few, marks-few}
 use Rattle.listing.specs.Listing.{decimal, linesTo, listing, outcome, asklist}
-use Rattle.listing.specs.Puts.{Puts}
-use Rattle.listing.specs.Answering.{ofCore, ofText, isMarked, PutsList, PutsRefusal, AnswersCore, AnswersText}
+use Rattle.listing.specs.Appends.{Appends}
+use Rattle.listing.specs.Answering.{ofCore, ofText, isMarked, AppendsList, AppendsRefusal, AnswersCore, AnswersText}
 use Rattle.listing.proofs.Lines.{lines-same}
 
 -- what a buffer that is long enough changes: nothing
@@ -70,28 +70,28 @@ module _ (q h b marks : Bytes) (a : Asked) (room : 256 ≤ length b) (k : Asks q
       lines-same (length (R .pages)) (isMarked marks) (λ i. getD m i false) (pageAt R)
       (λ i l. ap (λ x. isMarked x i) held ∙ mark-byte m (drop (length m) b) i (omega (arith, l, long)))
 
-  pub core-refused : (n : ℕ) → a ≡ Asked.Refused n → PutsRefusal n out after r → AnswersCore q h out after r
-  unfolding AnswersCore ofCore PutsRefusal
+  pub core-refused : (n : ℕ) → a ≡ Asked.Refused n → AppendsRefusal n out after r → AnswersCore q h out after r
+  unfolding AnswersCore ofCore AppendsRefusal
   core-refused n g w c R e p =
       let few = refusal-few q h b marks a k n g in
       let is : run c R ≡ refused n = sym (runs c R e p) ∙ refused-by q h b marks a k n g in
-      subst (λ x. Puts out 0 (outcome (andThen x (λ m. accepted (listing R m)))) after r) (sym is) (w (omega (arith, few)))
+      subst (λ x. Appends out 0 (outcome (andThen x (λ m. accepted (listing R m)))) after r) (sym is) (w (omega (arith, few)))
 
-  pub core-marked : (n : ℕ) → a ≡ Asked.Marked n → PutsList h n marks out after r → AnswersCore q h out after r
-  unfolding AnswersCore ofCore PutsList listing
+  pub core-marked : (n : ℕ) → a ≡ Asked.Marked n → AppendsList h n marks out after r → AnswersCore q h out after r
+  unfolding AnswersCore ofCore AppendsList listing
   core-marked n g w c R e p =
       let few = marks-few q h b marks a k n g in
       let (m, x, count) = marked-by q h b marks a k n g in
       let is : run c R ≡ accepted m = sym (runs c R e p) ∙ x in
-      subst (λ x. Puts out 0 (outcome (andThen x (λ m. accepted (listing R m)))) after r) (sym is)
-      (subst (λ l. Puts out 0 (bytes "pages " ++ decimal (marked m) ++ (10 ∷ []) ++ l) after r) (marked-lines c R m is x)
-      (subst (λ j. Puts out 0 (bytes "pages " ++ decimal j ++ (10 ∷ []) ++ linesTo (length (R .pages)) (isMarked marks) (pageAt R)) after r) count (w R p (omega (arith, few)))))
+      subst (λ x. Appends out 0 (outcome (andThen x (λ m. accepted (listing R m)))) after r) (sym is)
+      (subst (λ l. Appends out 0 (bytes "pages " ++ decimal (marked m) ++ (10 ∷ []) ++ l) after r) (marked-lines c R m is x)
+      (subst (λ j. Appends out 0 (bytes "pages " ++ decimal j ++ (10 ∷ []) ++ linesTo (length (R .pages)) (isMarked marks) (pageAt R)) after r) count (w R p (omega (arith, few)))))
 
 -- a call that refused, known by its number
 refused-first : {A : Type 0} (a : Answer A) (n : ℕ) (f : A → Answer Bytes) (out after : Bytes) (r : ℕ) → n ≡ numberOf a → n ≤ 24
-    → (n ≡ 0 → ⊥) → PutsRefusal n out after r → Puts out 0 (outcome (andThen a f)) after r
-unfolding PutsRefusal
-refused-first (refused m) n f out after r e few h w = subst (λ j. Puts out 0 (outcome (refused j)) after r) e (w (omega (arith, few)))
+    → (n ≡ 0 → ⊥) → AppendsRefusal n out after r → Appends out 0 (outcome (andThen a f)) after r
+unfolding AppendsRefusal
+refused-first (refused m) n f out after r e few h w = subst (λ j. Appends out 0 (outcome (refused j)) after r) e (w (omega (arith, few)))
 refused-first (accepted x) n f out after r e few h w = absurd (h e)
 
 -- answer_text
@@ -105,7 +105,7 @@ module _ (h s b q : Bytes) (n : ℕ) (room : 6148 ≤ length b) (k : Queries h s
       ∙ roomy (length b) querySize 20 (coreOf R s) (λ c. c) room
       ∙ then-accepted (coreOf R s))
 
-  pub text-refused : (n ≡ 0 → ⊥) → PutsRefusal n out after r → AnswersText h s out after r
+  pub text-refused : (n ≡ 0 → ⊥) → AppendsRefusal n out after r → AnswersText h s out after r
   unfolding AnswersText ofText
   text-refused f w R p =
       refused-first (coreOf R s) n (λ c. andThen (run c R) (λ m. accepted (listing R m))) out after r (text-number R p) (query-few h s b q n k) f w
@@ -115,7 +115,7 @@ module _ (h s b q : Bytes) (n : ℕ) (room : 6148 ≤ length b) (k : Queries h s
   text-core z w R p =
       let call : QueryCall h s b q (pos 0) = subst (λ j. QueryCall h s b q (negℤ (pos j))) z (query-call h s b q n k) in
       let (c, e, held) = query-stores h s b q R call p in
-      subst (λ a. Puts out 0 (outcome (andThen a (λ c. andThen (run c R) (λ m. accepted (listing R m))))) after r) (sym e) (w c R held p)
+      subst (λ a. Appends out 0 (outcome (andThen a (λ c. andThen (run c R) (λ m. accepted (listing R m))))) after r) (sym e) (w c R held p)
 
 -- answer
 module _ (t s h held : Bytes) (n : ℕ) (room : 32770 ≤ length h) (k : Registers t h held n) (out after : Bytes) (r : ℕ) where
@@ -128,15 +128,15 @@ module _ (t s h held : Bytes) (n : ℕ) (room : 32770 ≤ length h) (k : Registe
       same (refused m) = refl
       same (accepted R) = refl
 
-  pub answer-refused : (n ≡ 0 → ⊥) → PutsRefusal n out after r → Puts out 0 (asklist t s) after r
+  pub answer-refused : (n ≡ 0 → ⊥) → AppendsRefusal n out after r → Appends out 0 (asklist t s) after r
   unfolding asklist
   answer-refused f w =
       refused-first (readRegister t) n (λ R. andThen (coreOf R s) (λ c. andThen (run c R) (λ m. accepted (listing R m)))) out after r register-number (register-few t h held n k) f w
 
-  pub answer-held : n ≡ 0 → AnswersText held s out after r → Puts out 0 (asklist t s) after r
+  pub answer-held : n ≡ 0 → AnswersText held s out after r → Appends out 0 (asklist t s) after r
   unfolding asklist AnswersText ofText
   answer-held z w =
       let call : RegisterCall t h held (pos 0) = subst (λ j. RegisterCall t h held (negℤ (pos j))) z (register-call t h held n k) in
       let (l, entries, e) = zero-accepted t (sym register-number ∙ z) in
-      subst (λ a. Puts out 0 (outcome (andThen a (λ R. andThen (coreOf R s) (λ c. andThen (run c R) (λ m. accepted (listing R m)))))) after r) (sym e)
+      subst (λ a. Appends out 0 (outcome (andThen a (λ R. andThen (coreOf R s) (λ c. andThen (run c R) (λ m. accepted (listing R m)))))) after r) (sym e)
       (w (registerOf l) (register-stores t h held (registerOf l) call e))

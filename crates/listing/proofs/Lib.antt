@@ -1,3 +1,3 @@
-pub mod Putting
+pub mod Appending
 pub mod Lines
 pub mod Answering

@@ -17,7 +17,7 @@ use Rattle.register.specs.Held.{heldRegister}
 use Rattle.nodes.specs.Held.{heldQuery}
 use Rattle.lookup.specs.View.{pageAt, View}
 use Rattle.listing.specs.Listing.{decimal, lineOf, linesTo, listing, outcome}
-use Rattle.listing.specs.Puts.{Puts}
+use Rattle.listing.specs.Appends.{Appends}
 
 -- What is written for a core query, and for a query text, on a register.
 unfoldable pub ofCore : Register → Core → Bytes
@@ -31,27 +31,27 @@ abbrev pub isMarked : Bytes → ℕ → Bool
 isMarked marks i = eqb (getD marks i 0) 1
 
 -- The line of a page whose byte is `mark`; the tables hold the register.
-unfoldable pub PutsPage : Bytes → List ℕ → List ℕ → ℕ → ℕ → Bytes → ℕ → Bytes → ℕ → Type 0
-PutsPage s t pages i mark b at after r =
-    (R : Register) (props : List ℕ) (c : Judged) → View R s t props pages c → i < c .pages → Puts b at (cond (eqb mark 1) (lineOf i (pageAt R i)) []) after r
+unfoldable pub AppendsPage : Bytes → List ℕ → List ℕ → ℕ → ℕ → Bytes → ℕ → Bytes → ℕ → Type 0
+AppendsPage s t pages i mark b at after r =
+    (R : Register) (props : List ℕ) (c : Judged) → View R s t props pages c → i < c .pages → Appends b at (cond (eqb mark 1) (lineOf i (pageAt R i)) []) after r
 
 -- The lines of the first n pages.
-unfoldable pub PutsLines : Bytes → List ℕ → List ℕ → Bytes → ℕ → Bytes → ℕ → Bytes → ℕ → Type 0
-PutsLines s t pages marks n b at after r =
-    (R : Register) (props : List ℕ) (c : Judged) → View R s t props pages c → n ≤ c .pages → Puts b at (linesTo n (isMarked marks) (pageAt R)) after r
+unfoldable pub AppendsLines : Bytes → List ℕ → List ℕ → Bytes → ℕ → Bytes → ℕ → Bytes → ℕ → Type 0
+AppendsLines s t pages marks n b at after r =
+    (R : Register) (props : List ℕ) (c : Judged) → View R s t props pages c → n ≤ c .pages → Appends b at (linesTo n (isMarked marks) (pageAt R)) after r
 
 -- The list of the register in h, with a count of marked pages.
-unfoldable pub PutsList : Bytes → ℕ → Bytes → Bytes → Bytes → ℕ → Type 0
-PutsList h count marks b after r =
+unfoldable pub AppendsList : Bytes → ℕ → Bytes → Bytes → Bytes → ℕ → Type 0
+AppendsList h count marks b after r =
     (R : Register) → heldRegister h ≡ some R → count < 1000
-    → Puts b 0 (bytes "pages " ++ decimal count ++ (10 ∷ []) ++ linesTo (length (R .pages)) (isMarked marks) (pageAt R)) after r
+    → Appends b 0 (bytes "pages " ++ decimal count ++ (10 ∷ []) ++ linesTo (length (R .pages)) (isMarked marks) (pageAt R)) after r
 
-unfoldable pub PutsRefusal : ℕ → Bytes → Bytes → ℕ → Type 0
-PutsRefusal n b after r = n < 1000 → Puts b 0 (outcome (refused n)) after r
+unfoldable pub AppendsRefusal : ℕ → Bytes → Bytes → ℕ → Type 0
+AppendsRefusal n b after r = n < 1000 → Appends b 0 (outcome (refused n)) after r
 
 -- The answer to a held query, and to a query text, on the register in h.
 unfoldable pub AnswersCore : Bytes → Bytes → Bytes → Bytes → ℕ → Type 0
-AnswersCore q h b after r = (c : Core) (R : Register) → heldQuery q ≡ some c → heldRegister h ≡ some R → Puts b 0 (ofCore R c) after r
+AnswersCore q h b after r = (c : Core) (R : Register) → heldQuery q ≡ some c → heldRegister h ≡ some R → Appends b 0 (ofCore R c) after r
 
 unfoldable pub AnswersText : Bytes → Bytes → Bytes → Bytes → ℕ → Type 0
-AnswersText h s b after r = (R : Register) → heldRegister h ≡ some R → Puts b 0 (ofText R s) after r
+AnswersText h s b after r = (R : Register) → heldRegister h ≡ some R → Appends b 0 (ofText R s) after r

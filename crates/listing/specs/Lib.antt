@@ -1,3 +1,3 @@
 pub mod Listing
-pub mod Puts
+pub mod Appends
 pub mod Answering

@@ -1,7 +1,7 @@
 // The list of the marked pages, and a refusal.
 ghost use mathlib.Core.Path.{_≡_};
 ghost use Prim.Native.Nat.{ℕ};
-ghost use Rattle.listing.specs.Answering.{PutsPage, PutsLines, PutsList, PutsRefusal};
+ghost use Rattle.listing.specs.Answering.{AppendsPage, AppendsLines, AppendsList, AppendsRefusal};
 use crate::parts::put;
 use crate::parts::put_byte;
 use crate::parts::put_decimal;
@@ -22,7 +22,7 @@ fn put_page(
     i: usize,
     mark: u8,
 ) -> usize
-    ensures { λ r. ⌜ PutsPage (now (s .entry)) (now (t .entry)) (now (pages .entry)) i mark (now (out .entry)) at (now (out .exit)) r ⌝ }
+    ensures { λ r. ⌜ AppendsPage (now (s .entry)) (now (t .entry)) (now (pages .entry)) i mark (now (out .entry)) at (now (out .exit)) r ⌝ }
 {
     if mark != 1 {
         return at;
@@ -42,7 +42,7 @@ fn put_lines(
     marks: &[u8],
     n: usize,
 ) -> usize
-    ensures { λ r. ⌜ PutsLines (now (s .entry)) (now (t .entry)) (now (pages .entry)) (now (marks .entry)) n (now (out .entry)) at (now (out .exit)) r ⌝ }
+    ensures { λ r. ⌜ AppendsLines (now (s .entry)) (now (t .entry)) (now (pages .entry)) (now (marks .entry)) n (now (out .entry)) at (now (out .exit)) r ⌝ }
 {
     let mut to = at;
     let mut i: usize = 0;
@@ -56,7 +56,7 @@ fn put_lines(
 
 // Writes the word, the count and the lines of the marked pages of a held register.
 pub fn put_list(out: &mut [u8], h: &[u8], count: usize, marks: &[u8]) -> usize
-    ensures { λ r. ⌜ PutsList (now (h .entry)) count (now (marks .entry)) (now (out .entry)) (now (out .exit)) r ⌝ }
+    ensures { λ r. ⌜ AppendsList (now (h .entry)) count (now (marks .entry)) (now (out .entry)) (now (out .exit)) r ⌝ }
 {
     let mut t = [0u16; 27500];
     let mut props = [0u16; 5500];
@@ -72,7 +72,7 @@ pub fn put_list(out: &mut [u8], h: &[u8], count: usize, marks: &[u8]) -> usize
 
 // Writes the word and the number of a refusal.
 pub fn put_refusal(out: &mut [u8], n: usize) -> usize
-    ensures { λ r. ⌜ PutsRefusal n (now (out .entry)) (now (out .exit)) r ⌝ }
+    ensures { λ r. ⌜ AppendsRefusal n (now (out .entry)) (now (out .exit)) r ⌝ }
 {
     let a = put(out, 0, b"refused ");
     let b = put_decimal(out, a, n);

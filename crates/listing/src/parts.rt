@@ -3,11 +3,11 @@ ghost use Prim.Native.Nat.{ℕ, _+_, _<_};
 ghost use mathlib.Core.Path.{_≡_};
 ghost use mathlib.Core.List.{[], _∷_};
 ghost use Rattle.listing.specs.Listing.{decimal, nameLine};
-ghost use Rattle.listing.specs.Puts.{Puts};
+ghost use Rattle.listing.specs.Appends.{Appends};
 
 // Writes a byte, and answers the place behind it.
 pub fn put_byte(out: &mut [u8], at: usize, b: u8) -> usize
-    ensures { λ r. ⌜ Puts (now (out .entry)) at (b ∷ []) (now (out .exit)) r ⌝ }
+    ensures { λ r. ⌜ Appends (now (out .entry)) at (b ∷ []) (now (out .exit)) r ⌝ }
 {
     if out.len() <= at {
         return at;
@@ -18,7 +18,7 @@ pub fn put_byte(out: &mut [u8], at: usize, b: u8) -> usize
 
 // Writes bytes, and answers the place behind them.
 pub fn put(out: &mut [u8], at: usize, part: &[u8]) -> usize
-    ensures { λ r. ⌜ Puts (now (out .entry)) at (now (part .entry)) (now (out .exit)) r ⌝ }
+    ensures { λ r. ⌜ Appends (now (out .entry)) at (now (part .entry)) (now (out .exit)) r ⌝ }
 {
     let mut to = at;
     let mut i: usize = 0;
@@ -38,7 +38,7 @@ fn digit(n: usize) -> u8
 
 // Writes a number below 1,000 in decimal.
 pub fn put_decimal(out: &mut [u8], at: usize, n: usize) -> usize
-    ensures { λ r. ⌜ (n < 1000 → Puts (now (out .entry)) at (decimal n) (now (out .exit)) r) ⌝ }
+    ensures { λ r. ⌜ (n < 1000 → Appends (now (out .entry)) at (decimal n) (now (out .exit)) r) ⌝ }
 {
     if n < 10 {
         return put_byte(out, at, digit(n));
@@ -54,7 +54,7 @@ pub fn put_decimal(out: &mut [u8], at: usize, n: usize) -> usize
 
 // Writes a page's line: place, space, namespace, colon, article name.
 pub fn put_line(out: &mut [u8], at: usize, i: usize, namespace: &[u8], article: &[u8]) -> usize
-    ensures { λ r. ⌜ (i < 1000 → Puts (now (out .entry)) at (nameLine i (now (namespace .entry)) (now (article .entry))) (now (out .exit)) r) ⌝ }
+    ensures { λ r. ⌜ (i < 1000 → Appends (now (out .entry)) at (nameLine i (now (namespace .entry)) (now (article .entry))) (now (out .exit)) r) ⌝ }
 {
     let a = put_decimal(out, at, i);
     let b = put_byte(out, a, 32);

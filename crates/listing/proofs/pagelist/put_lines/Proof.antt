@@ -2,7 +2,7 @@ use Prim.Native.Nat.{_-_, _≤_}
 use mathlib.Core.Path.{_≡_}
 use lib.ListN.{length}
 use borrow.Author.Needs.{needs}
-use Rattle.listing.specs.Answering.{PutsLines}
+use Rattle.listing.specs.Answering.{AppendsLines}
 use Rattle.listing.proofs.Lines.{line-ways}
 use Rattle.listing.proofs.pagelist.put_lines.Statement.{statement}
 use Rattle.listing.proofs.pagelist.put_lines.Tie as tie
@@ -12,7 +12,7 @@ use Rattle.listing.proofs.pagelist.put_page.Reads as put-page-reads
 use Rattle.text.proofs.byte_at.Reads as byte-at-reads
 
 abbrev Inv-loop : tie.InvT-loop
-Inv-loop out₀ at s t pages marks n to₀ i₀ out to i = (length out ≡ length out₀) × (i ≤ n) × PutsLines s t pages marks i out₀ at out to
+Inv-loop out₀ at s t pages marks n to₀ i₀ out to i = (length out ≡ length out₀) × (i ≤ n) × AppendsLines s t pages marks i out₀ at out to
 
 abbrev μ-loop : tie.MeasureT-loop
 μ-loop out₀ at s t pages marks n to₀ i₀ out to i = n - i

@@ -2,8 +2,8 @@ use Prim.Native.Nat.{_-_}
 use mathlib.Core.Path.{_≡_}
 use lib.ListN.{length, take}
 use borrow.Author.Needs.{needs}
-use Rattle.listing.specs.Puts.{Puts}
-use Rattle.listing.proofs.Putting.{put-ways}
+use Rattle.listing.specs.Appends.{Appends}
+use Rattle.listing.proofs.Appending.{append-ways}
 use Rattle.listing.proofs.parts.put.Statement.{statement}
 use Rattle.listing.proofs.parts.put.Tie as tie
 use Rattle.listing.proofs.parts.put.Reads as reads
@@ -11,34 +11,34 @@ use Rattle.listing.proofs.parts.put.Lts as lts
 use Rattle.listing.proofs.parts.put_byte.Reads as put-byte-reads
 
 abbrev Inv-loop : tie.InvT-loop
-Inv-loop out₀ at part to₀ i₀ out to i = (length out ≡ length out₀) × Puts out₀ at (take i part) out to
+Inv-loop out₀ at part to₀ i₀ out to i = (length out ≡ length out₀) × Appends out₀ at (take i part) out to
 
 abbrev μ-loop : tie.MeasureT-loop
 μ-loop out₀ at part to₀ i₀ out to i = length part - i
 
 loop-holds : tie.Need-loop-holds Inv-loop μ-loop
-loop-holds c = search (put-ways, needs)
+loop-holds c = search (append-ways, needs)
 
 shared-slice-read-put-byte : tie.Need-shared-slice-read-put-byte Inv-loop μ-loop
-shared-slice-read-put-byte c = search (put-ways, needs)
+shared-slice-read-put-byte c = search (append-ways, needs)
 
 put-byte-requires : tie.Need-put-byte-requires Inv-loop μ-loop
-put-byte-requires c κs = search (put-ways, needs)
+put-byte-requires c κs = search (append-ways, needs)
 
 add-i : tie.Need-add-i Inv-loop μ-loop
-add-i c = search (put-ways, needs)
+add-i c = search (append-ways, needs)
 
 loop-less : tie.Need-loop-less Inv-loop μ-loop
-loop-less c = search (put-ways, needs)
+loop-less c = search (append-ways, needs)
 
 loop-again : tie.Need-loop-again Inv-loop μ-loop
-loop-again c = search (put-ways, needs)
+loop-again c = search (append-ways, needs)
 
 same-length : tie.Need-same-length Inv-loop μ-loop
-same-length c = search (put-ways, needs)
+same-length c = search (append-ways, needs)
 
 returns : tie.Need-returns Inv-loop μ-loop
-returns c = search (put-ways, needs)
+returns c = search (append-ways, needs)
 
 pub put-spec : {M : Type 1} → statement M
 put-spec =

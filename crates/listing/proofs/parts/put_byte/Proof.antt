@@ -1,4 +1,4 @@
-use Rattle.listing.proofs.Putting.{byte-ways}
+use Rattle.listing.proofs.Appending.{byte-ways}
 use borrow.Author.Needs.{needs}
 use Rattle.listing.proofs.parts.put_byte.Statement.{statement}
 use Rattle.listing.proofs.parts.put_byte.Tie as tie

@@ -1,4 +1,4 @@
-use Rattle.listing.proofs.Putting.{digits}
+use Rattle.listing.proofs.Appending.{digits}
 use borrow.Author.Needs.{needs}
 use Rattle.listing.proofs.parts.put_decimal.Statement.{statement}
 use Rattle.listing.proofs.parts.put_decimal.Tie as tie

@@ -10,6 +10,6 @@ abbrev pub least : ℕ → ℕ → ℕ
 least a b = b - (b - a)
 
 -- x was written from `at` on, and r is the place behind it.
-pub record Puts (before : Bytes) (at : ℕ) (x after : Bytes) (r : ℕ) : Type 0 where
+pub record Appends (before : Bytes) (at : ℕ) (x after : Bytes) (r : ℕ) : Type 0 where
   pub bytes : at ≤ length before → after ≡ written before at x
   pub place : at ≤ length before → r ≡ least (at + length x) (length before)
