@@ -1,4 +1,4 @@
--- Working definitions: bytes written one part after the other, as far as there is room.
+-- What is appended to a buffer, part after part, as far as there is room.
 use Prim.Native.Nat.{ℕ, _+_, _-_, _≤_}
 use mathlib.Core.Path.{_≡_}
 use lib.ListN.{length}
