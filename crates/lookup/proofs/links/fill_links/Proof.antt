@@ -20,39 +20,30 @@ Inv-loop s t rows m n hashes slots links₀ j₀ links j = (HashIndex s t rows m
 abbrev μ-loop : tie.MeasureT-loop
 μ-loop s t rows m n hashes slots links₀ j₀ links j = n - j
 
--- src/links.rt:45:5
 loop-holds : tie.Need-loop-holds Inv-loop μ-loop
 loop-holds c = (λ a few. tabled-none _ _, refl)
 
--- src/links.rt:46:56
 item-at-requires : tie.Need-item-at-requires Inv-loop μ-loop
 item-at-requires c κs = search needs
 
--- src/links.rt:46:23
 item-code-requires : tie.Need-item-code-requires Inv-loop μ-loop
 item-code-requires c κs = search needs
 
--- src/links.rt:46:9
 put-requires : tie.Need-put-requires Inv-loop μ-loop
 put-requires c κs = search needs
 
--- src/links.rt:47:9
 add-j : tie.Need-add-j Inv-loop μ-loop
 add-j c = omega arith
 
--- src/links.rt:45:5
 loop-less : tie.Need-loop-less Inv-loop μ-loop
 loop-less c = omega arith
 
--- src/links.rt:45:5
 loop-again : tie.Need-loop-again Inv-loop μ-loop
 loop-again c = (λ a few. linked-more (c .before .before .before .before .before .before .before .before .before .before .before .before .before .before .args .s .now) (c .before .before .before .before .before .before .before .before .before .before .before .before .before .before .args .t .now) (c .before .before .before .before .before .before .before .before .before .before .before .before .before .before .args .rows .now) (c .before .before .before .before .before .before .before .before .before .before .before .before .before .before .args .m) (c .before .before .before .before .before .before .before .loop .j) (c .before .before .before .before .before .before .before .loop .links) (c .before .before .before .before .item-at .result) _ _ (c .before .before .before .before .before .before .before .loop .inv .0 a few) few (c .before .before .before .before .item-at .ensures) (c .before .before .before .item-code .ensures a) (c .before .before .put .ensures), ap length (c .before .before .put .ensures) ∙ simp length-set (c .before .before .before .before .before .before .before .loop .inv .1))
 
--- src/links.rt:33:1
 same-length : tie.Need-same-length Inv-loop μ-loop
 same-length c = c .before .loop .inv .1
 
--- src/links.rt:33:1
 returns : tie.Need-returns Inv-loop μ-loop
 returns c = (λ a few. tabled-less _ _ _ _ (c .before .loop .inv .0 a few) (c .loop-test .left), c .before .loop .inv .1)
 

@@ -6,23 +6,18 @@ use Rattle.lookup.proofs.links.is_page_kind.Reads as reads
 use Rattle.lookup.proofs.links.is_page_kind.Lts as lts
 use Rattle.pages.proofs.seek.same_kind.Reads as same-kind-reads
 
--- src/links.rt:141:24
 enum-known-k : tie.Need-enum-known-k
 enum-known-k c = search needs
 
--- src/links.rt:141:33
 same-kind-requires : tie.Need-same-kind-requires
 same-kind-requires c κs = search needs
 
--- src/links.rt:142:30
 enum-told : tie.Need-enum-told
 enum-told c = search needs
 
--- src/links.rt:137:1
 returns : tie.Need-returns
 returns c = page-kind _ _ _ (c .before .before .k .given .1) (c .same-kind .ensures)
 
--- src/links.rt:137:1
 returns-2 : tie.Need-returns-2
 returns-2 c = search needs
 

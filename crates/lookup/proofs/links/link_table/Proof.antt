@@ -9,43 +9,33 @@ use Rattle.lookup.proofs.codes.page_hashes.Reads as page-hashes-reads
 use Rattle.lookup.proofs.codes.page_slots.Reads as page-slots-reads
 use Rattle.lookup.proofs.links.fill_links.Reads as fill-links-reads
 
--- src/links.rt:59:33
 slice-aggregate-page-hashes : tie.Need-slice-aggregate-page-hashes
 slice-aggregate-page-hashes c = search needs
 
--- src/links.rt:59:5
 page-hashes-requires : tie.Need-page-hashes-requires
 page-hashes-requires c κs = search needs
 
--- src/links.rt:61:16
 slice-aggregate-page-slots : tie.Need-slice-aggregate-page-slots
 slice-aggregate-page-slots c = search needs
 
--- src/links.rt:61:28
 slice-aggregate-page-slots-2 : tie.Need-slice-aggregate-page-slots-2
 slice-aggregate-page-slots-2 c = search needs
 
--- src/links.rt:61:5
 page-slots-requires : tie.Need-page-slots-requires
 page-slots-requires c κs = search needs
 
--- src/links.rt:62:40
 slice-aggregate-fill-links : tie.Need-slice-aggregate-fill-links
 slice-aggregate-fill-links c = search needs
 
--- src/links.rt:62:49
 slice-aggregate-fill-links-2 : tie.Need-slice-aggregate-fill-links-2
 slice-aggregate-fill-links-2 c = search needs
 
--- src/links.rt:62:5
 fill-links-requires : tie.Need-fill-links-requires
 fill-links-requires c κs = search needs
 
--- src/links.rt:54:1
 same-length : tie.Need-same-length
 same-length c = search needs
 
--- src/links.rt:54:1
 returns : tie.Need-returns
 unfolding Links
 returns c = (λ R props v room. c .before .before .fill-links .ensures .0 (record { hashed = c .before .before .before .before .before .before .before .before .before .before .before .page-hashes .ensures; slotted = c .before .before .before .before .before .before .before .page-slots .ensures }) (view-few v), c .before .before .fill-links .ensures .1)
