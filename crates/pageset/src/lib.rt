@@ -51,11 +51,8 @@ impl PageSet {
     pub fn has(self, page: usize) -> bool
         ensures { λ r. ⌜ r ≡ getD (self .marks) page false ⌝ }
     {
-        if page >= 256 {
-            return false;
-        }
         let marks = self.marks;
-        marks[page]
+        mark_at(&marks, page)
     }
 
     pub fn union(self, other: PageSet) -> PageSet
