@@ -10,13 +10,11 @@ pub mod mismatch; // mismatch.rt: number 23's test
 
 use evaluation::capped;
 use evaluation::eval;
-use evaluation::is_subquery;
 use held::text_in;
 use lookup::link_table;
 use mismatch::has_mismatch;
-use nodes::NodeRead;
+use nodes::follows_at;
 use nodes::is_query;
-use nodes::node_at;
 use nodes::two_at;
 use pageset::PageSet;
 use register::open_register;
@@ -64,12 +62,7 @@ fn follows_links(h: &[u8]) -> bool {
     let n = two_at(h, 2);
     let mut i: usize = 0;
     while i < n {
-        let read = node_at(h, i);
-        let NodeRead::Is(node) = read else {
-            return false;
-        };
-        let selector = node.selector;
-        if is_subquery(selector) {
+        if follows_at(h, i) {
             return true;
         }
         i += 1;

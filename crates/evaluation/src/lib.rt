@@ -61,8 +61,7 @@ pub fn name_of(selector: Selector) -> Span
     }
 }
 
-// Whether a selector is a subquery, which follows links.
-pub fn is_subquery(selector: Selector) -> bool
+fn is_subquery(selector: Selector) -> bool
     ensures { λ r. ⌜ r ≡ isSubquery selector ⌝ }
 {
     match selector {

@@ -11,6 +11,7 @@ pub use bytes::put_two;
 pub use bytes::two_at;
 use language::Comparator;
 pub use query::is_query;
+pub use reading::follows_at;
 pub use reading::node_at;
 use text::Span;
 pub use writing::put_node;

@@ -18,8 +18,9 @@ use values::is_namespace;
 use values::is_property_name;
 use values::is_value;
 ghost use mathlib.Core.Path.{_≡_};
+ghost use lib.Dec.{eqb};
 ghost use Rattle.text.specs.Bytes.{part as partFrom};
-ghost use Rattle.nodes.specs.Held.{slot, comparatorFrom, slotFrom, textIn, nodeOf, nodeIn};
+ghost use Rattle.nodes.specs.Held.{slot, comparatorFrom, slotFrom, slotIn, textIn, nodeOf, nodeIn};
 ghost use Rattle.nodes.specs.Reading.{comparatorRead, chosen, selected, joining, ConstantReads, Reads};
 
 // The comparator of a code.
@@ -175,6 +176,13 @@ fn slot_bytes(h: &[u8], i: usize) -> &[u8]
         return &h[..0];
     }
     part(h, 1028 + 20 * i, 20)
+}
+
+// Whether the node in a place, if it is one, is a subquery: by its tag alone.
+pub fn follows_at(h: &[u8], i: usize) -> bool
+    ensures { λ r. ⌜ r ≡ eqb (slotIn (now (h .entry)) i .tag) 5 ⌝ }
+{
+    byte_at(slot_bytes(h, i), 0) == 5
 }
 
 // The node in a place.
