@@ -1,5 +1,5 @@
 -- The ways through `eval` and `eval_selector`.
-use Prim.Native.Nat.{ℕ, suc, _-_, _≤_, _<_}
+use Prim.Native.Nat.{ℕ, zero, suc, _-_, _≤_, _<_}
 use mathlib.Core.Path.{_≡_, refl, sym, ap, _∙_}
 use mathlib.Core.Bool.{Bool, true, false, _&&_, _||_, true≢false, false≢true}
 use mathlib.Core.List.{List, [], _∷_}
@@ -7,12 +7,12 @@ use mathlib.Core.Option.{Option, some, none}
 use native.Mathlib.Omega.{arith}
 use borrow.Author.Tests.{lt-ltb}
 use lib.Dec.{ltb}
-use lib.ListN.{getD, replicate, getD-replicate}
+use lib.ListN.{length, getD, replicate}
 use Rattle.text.specs.Bytes.{Bytes}
 use Rattle.text.specs.Parts.{partOf}
 use Rattle.text.specs.Table.{tabulate}
 use Rattle.text.specs.declared.Span.{Span}
-use Rattle.text.proofs.Tables.{getD-tabulate, tabulate-ext}
+use Rattle.text.proofs.Tables.{length-tabulate, getD-tabulate, tabulate-ext}
 use Rattle.pageset.specs.declared.PageSet.{PageSet}
 use Rattle.pageset.proofs.Laws.{tabulate-both}
 use Rattle.language.specs.Answer.{_>>=_}
@@ -61,13 +61,13 @@ module _ (R : Register) (n : ℕ) (h : Bytes) where
 
   -- a subquery, by what its query means
   means-within : (at : ℕ) (x : Bytes) (o : Option (List Core)) (inner r : Evaluated) → n ≤ 256 → Means R n h at o inner
-      → ((test : Page → Bool) → Agrees R n (inner .set .marks) test → r .set .marks ≡ tabulate 256 (λ j. ltb j n && holds x (follows noMixed R test) (pageAt R j)))
+      → ((test : Page → Bool) → Agrees R n (inner .set .marks) test → length (inner .set .marks) ≤ 256 → r .set .marks ≡ tabulate 256 (λ j. ltb j n && holds x (follows noMixed R test) (pageAt R j)))
       → r .next ≡ inner .next → Means R n h (suc at) (o >>= stepped (Node.subquery x)) r
   unfolding Means marksOf Q stepped
   means-within at x none inner r few i f g = tt
   means-within at x (some []) inner r few i f g = tt
   means-within at x (some (q ∷ st)) inner r few i f g =
-      (f (λ p. Q q noMixed R p) (marks-agree q (inner .set .marks) few (i .0)), rw g (i .1), omega (arith, i .2))
+      (f (λ p. Q q noMixed R p) (marks-agree q (inner .set .marks) few (i .0)) (omega (arith, ap length (i .0), length-tabulate 256 (λ j. ltb j n && Q q noMixed R (pageAt R j)))), rw g (i .1), omega (arith, i .2))
 
   -- a node that joins two queries by k, which means op
   module _ (m : Node) (k : Core → Core → Core) (op : Bool → Bool → Bool) (j : Joins R m k op) where
@@ -106,8 +106,9 @@ or-joins : (R : Register) → Joins R Node.disjunction Core.disjunction _||_
 unfolding stepped Q
 or-joins R = record { empty = refl; single = λ b. refl; pair = λ b a st. refl; no-page = refl; means = λ a b p. refl }
 
-no-pages : (R : Register) (n : ℕ) (marks : List Bool) → n ≤ 256 → marks ≡ replicate 256 false → Agrees R n marks (λ p. false)
-no-pages R n marks few e j l = rw e (getD-replicate 256 j false false (omega arith))
+no-pages : (R : Register) (n : ℕ) (marks : List Bool) → marks ≡ replicate 1 false → Agrees R n marks (λ p. false)
+no-pages R n marks e zero l = rw e
+no-pages R n marks e (suc j) l = rw e
 
 abbrev named : Bytes → Span → Bytes
 named h p = partOf (textIn h) p
@@ -115,12 +116,12 @@ named h p = partOf (textIn h) p
 module _ (s : Bytes) (t props pages links : List ℕ) (c : Judged) (h : Bytes) where
   -- eval_selector
   module _ (at : ℕ) (selector : Selector) (b : Bool) (is : b ≡ isSubquery selector) where
-    pub eval-leaf : (inner set : PageSet) → b ≡ false → inner .marks ≡ replicate 256 false
-        → Selects s t props pages links c (textIn h) selector (inner .marks) (c .pages) (set .marks)
+    pub eval-leaf : (inner : List Bool) (set : PageSet) → b ≡ false → inner ≡ replicate 1 false
+        → Selects s t props pages links c (textIn h) selector inner (c .pages) (set .marks)
         → Evaluates s t props pages links c h (suc at) (stackWith h at selector) (record { set = set; next = at })
     unfolding Evaluates Selects S stepped
     eval-leaf inner set e f g R v =
-        go selector (sym is ∙ e) (g R v (λ p. false) (no-pages R (c .pages) (inner .marks) (view-few (v .view)) f))
+        go selector (sym is ∙ e) (g R v (λ p. false) (no-pages R (c .pages) inner f) (omega (arith, ap (length {A = Bool}) f)))
       where
         leaf : (m : Node) (k : Core.Selector) → ((st : List Core) → stepped m st ≡ some (Core.select k ∷ st))
             → set .marks ≡ tabulate 256 (λ j. ltb j (c .pages) && S k noMixed R (pageAt R j)) → Means R (c .pages) h (suc at) (stackAt h at >>= stepped m) (record { set = set; next = at })
@@ -143,7 +144,7 @@ module _ (s : Bytes) (t props pages links : List ℕ) (c : Judged) (h : Bytes) w
     eval-within inner set e i g R v = go selector (sym is ∙ e) (g R v)
       where
         go : (y : Selector) → isSubquery y ≡ true
-            → ((test : Page → Bool) → Agrees R (c .pages) (inner .set .marks) test → set .marks ≡ tabulate 256 (λ j. ltb j (c .pages) && matches (textIn h) (partOf (textIn h) (nameSpan y)) R test y (pageAt R j)))
+            → ((test : Page → Bool) → Agrees R (c .pages) (inner .set .marks) test → length (inner .set .marks) ≤ 256 → set .marks ≡ tabulate 256 (λ j. ltb j (c .pages) && matches (textIn h) (partOf (textIn h) (nameSpan y)) R test y (pageAt R j)))
             → Means R (c .pages) h (suc at) (stackWith h at y) (record { set = set; next = inner .next })
         go (Selector.Category p) w f = absurd (false≢true w)
         go (Selector.Namespace p) w f = absurd (false≢true w)

@@ -69,19 +69,19 @@ pub ruleset passing = (passes-category, passes-namespace, passes-article, passes
 module _ (s : Bytes) (t props pages links : List ℕ) (c : Judged) (q : Bytes) (selector : Selector) (inner : List Bool) where
   pub selects-none : (marks : List Bool) → marks ≡ replicate 256 false → Selects s t props pages links c q selector inner 0 marks
   unfolding Selects
-  selects-none marks e R v test a = marks-none 256 _ marks e
+  selects-none marks e R v test a short = marks-none 256 _ marks e
 
   module _ (i n : ℕ) (few : Capped (c .pages) n) (marks : List Bool) (so-far : Selects s t props pages links c q selector inner i marks) where
-    pub selects-more : (y x : Bytes) (p : Span) (k : KindRead) (b : Bool) → i < n → length inner ≤ 256 → y ≡ q → p ≡ nameSpan selector → x ≡ partOf y p
+    pub selects-more : (y x : Bytes) (p : Span) (k : KindRead) (b : Bool) → i < n → y ≡ q → p ≡ nameSpan selector → x ≡ partOf y p
         → ((R : Register) (pages : List ℕ) → View R s t props pages c → kindOf k ≡ kindsOf R x)
         → Passes s t pages links c y selector x k inner i b → Selects s t props pages links c q selector inner (i + 1) (set marks i b)
     unfolding Selects Passes
-    selects-more y x p k b l few-marks d m e f g R v test a =
-        let w : b ≡ matches y x R test selector (pageAt R i) = g R props v (omega (arith, few .below)) (f R pages (v .view)) test a few-marks in
-        marks-more 256 _ marks i b (omega (arith, few .places)) (rw (e, m, d) at w) (so-far R v test a)
+    selects-more y x p k b l d m e f g R v test a short =
+        let w : b ≡ matches y x R test selector (pageAt R i) = g R props v (omega (arith, few .below)) (f R pages (v .view)) test a short in
+        marks-more 256 _ marks i b (omega (arith, few .places)) (rw (e, m, d) at w) (so-far R v test a short)
 
     pub selects-all : i ≤ n → n ≤ i → Selects s t props pages links c q selector inner (c .pages) marks
     unfolding Selects
-    selects-all l m R v test a =
+    selects-all l m R v test a short =
         let e : i ≡ c .pages = omega (arith, few .is (view-few (v .view))) in
-        rw e at (so-far R v test a)
+        rw e at (so-far R v test a short)

@@ -77,7 +77,7 @@ matches q x R inner (Selector.Value p c v) page = holds x (Cv noMixed c (constan
 -- The marks of the first i places: the pages that match, where the set's marks are what the subquery selects.
 unfoldable pub Selects : Bytes → List ℕ → List ℕ → List ℕ → List ℕ → Judged → Bytes → Selector → List Bool → ℕ → List Bool → Type 0
 Selects s t props pages links c q selector set i marks =
-    (R : Register) → Tables R s t props pages links c → (inner : Page → Bool) → Agrees R (c .pages) set inner
+    (R : Register) → Tables R s t props pages links c → (inner : Page → Bool) → Agrees R (c .pages) set inner → length set ≤ 256
     → marks ≡ tabulate 256 (λ j. ltb j i && matches q (partOf q (nameSpan selector)) R inner selector (pageAt R j))
 
 -- The same of the page in one place; x is the selector's name, and k the kind that it is declared with.

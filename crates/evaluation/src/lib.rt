@@ -112,11 +112,11 @@ fn page_passes(
     }
 }
 
-// The pages that match a selector; set is what its subquery selects.
+// The pages that match a selector; inner are the marks of what its subquery selects.
 fn select(
     h: &[u8],
     selector: Selector,
-    set: PageSet,
+    inner: &[bool],
     s: &[u8],
     t: &[u16],
     props: &[u16],
@@ -124,18 +124,17 @@ fn select(
     links: &[u16],
     c: Judged,
 ) -> PageSet
-    ensures { λ r. ⌜ Selects (now (s .entry)) (now (t .entry)) (now (props .entry)) (now (pages .entry)) (now (links .entry)) c (textIn (now (h .entry))) selector (set .marks) (c .pages) (r .marks) ⌝ }
+    ensures { λ r. ⌜ Selects (now (s .entry)) (now (t .entry)) (now (props .entry)) (now (pages .entry)) (now (links .entry)) c (textIn (now (h .entry))) selector (now (inner .entry)) (c .pages) (r .marks) ⌝ }
 {
     let q = query_text(h);
     let p = name_of(selector);
     let x = part(q, p.start, p.len);
     let k = kind_of(s, t, props, c, x);
     let n = capped(c.pages);
-    let inner = set.marks;
     let mut marks = [false; 256];
     let mut i: usize = 0;
     while i < n {
-        marks[i] = page_passes(s, t, pages, links, c, q, selector, x, k, &inner, i);
+        marks[i] = page_passes(s, t, pages, links, c, q, selector, x, k, inner, i);
         i += 1;
     }
     PageSet { marks: marks }
@@ -218,13 +217,15 @@ fn eval_selector(
     if is_subquery(selector) {
         let inner = eval(h, at, s, t, props, pages, links, c);
         let set = inner.set;
+        let marks = set.marks;
         return Evaluated {
-            set: select(h, selector, set, s, t, props, pages, links, c),
+            set: select(h, selector, &marks, s, t, props, pages, links, c),
             next: inner.next,
         };
     }
+    let none = [false; 1];
     Evaluated {
-        set: select(h, selector, PageSet::none(), s, t, props, pages, links, c),
+        set: select(h, selector, &none, s, t, props, pages, links, c),
         next: at,
     }
 }

@@ -16,7 +16,6 @@ use Rattle.evaluation.proofs.join.Reads as join-reads
 use Rattle.evaluation.proofs.nothing.Reads as nothing-reads
 use Rattle.evaluation.proofs.select.Reads as select-reads
 use Rattle.nodes.proofs.node_at.Reads as node-at-reads
-use Rattle.pageset.proofs.PageSet.none.Reads as none-reads
 use Rattle.evaluation.proofs.+eval+eval_selector.{statement}
 use Rattle.evaluation.proofs.+eval+eval_selector.Tie.{close}
 
@@ -48,7 +47,7 @@ abbrev eval-calls : ℕ → eval-lts.Claims
 eval-calls t = (nothing-reads.Asked, nothing-reads.Learnt, node-at-reads.Asked, node-at-reads.Learnt, is-selection-reads.Asked, is-selection-reads.Learnt, eval-selector-below t, eval-selector.Post, eval-below t, eval.Post, join-reads.Asked, join-reads.Learnt)
 
 abbrev eval-selector-calls : ℕ → eval-selector-lts.Claims
-eval-selector-calls t = (is-subquery-reads.Asked, is-subquery-reads.Learnt, eval-below t, eval.Post, select-reads.Asked, select-reads.Learnt, none-reads.Asked, none-reads.Learnt)
+eval-selector-calls t = (is-subquery-reads.Asked, is-subquery-reads.Learnt, eval-below t, eval.Post, select-reads.Asked, select-reads.Learnt)
 
 eval-nothing-requires : (t : ℕ) → eval-lts.Need-nothing-requires (eval-calls t) (eval-at t) eval.Post
 eval-nothing-requires t c κs = search needs
@@ -107,14 +106,17 @@ eval-selector-is-subquery-requires t c κs = search needs
 eval-selector-eval-requires : (t : ℕ) → eval-selector-lts.Need-eval-requires (eval-selector-calls t) (eval-selector-at t) eval-selector.Post
 eval-selector-eval-requires t c κs = (omega arith, tt)
 
+eval-selector-slice-aggregate-select : (t : ℕ) → eval-selector-lts.Need-slice-aggregate-select (eval-selector-calls t) (eval-selector-at t) eval-selector.Post
+eval-selector-slice-aggregate-select t c = search needs
+
 eval-selector-select-requires : (t : ℕ) → eval-selector-lts.Need-select-requires (eval-selector-calls t) (eval-selector-at t) eval-selector.Post
 eval-selector-select-requires t c κs = search needs
 
 eval-selector-returns : (t : ℕ) → eval-selector-lts.Need-returns (eval-selector-calls t) (eval-selector-at t) eval-selector.Post
 eval-selector-returns t c = search (evaluating, needs)
 
-eval-selector-none-requires : (t : ℕ) → eval-selector-lts.Need-none-requires (eval-selector-calls t) (eval-selector-at t) eval-selector.Post
-eval-selector-none-requires t c κs = search needs
+eval-selector-slice-aggregate-select-2 : (t : ℕ) → eval-selector-lts.Need-slice-aggregate-select-2 (eval-selector-calls t) (eval-selector-at t) eval-selector.Post
+eval-selector-slice-aggregate-select-2 t c = search needs
 
 eval-selector-select-requires-2 : (t : ℕ) → eval-selector-lts.Need-select-requires-2 (eval-selector-calls t) (eval-selector-at t) eval-selector.Post
 eval-selector-select-requires-2 t c κs = search needs
@@ -144,8 +146,9 @@ pub +eval+eval-selector-spec : {M : Type 1} → statement M
     λ t. eval-selector-lts.spec (eval-selector-calls t) (eval-selector-at t) eval-selector.Post
     (eval-selector-is-subquery-requires t)
     (eval-selector-eval-requires t)
+    (eval-selector-slice-aggregate-select t)
     (eval-selector-select-requires t)
     (eval-selector-returns t)
-    (eval-selector-none-requires t)
+    (eval-selector-slice-aggregate-select-2 t)
     (eval-selector-select-requires-2 t)
     (eval-selector-returns-2 t)
