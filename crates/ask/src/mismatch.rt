@@ -13,6 +13,7 @@ use nodes::NodeRead;
 use nodes::Selector;
 use nodes::node_at;
 use nodes::two_at;
+use nodes::wants_at;
 use rows::Judged;
 use text::part;
 use values::Kind;
@@ -53,6 +54,9 @@ fn mixes_at(
 ) -> bool
     ensures { λ r. ⌜ Mixes (now (s .entry)) (now (t .entry)) (now (props .entry)) (now (pages .entry)) c (now (h .entry)) i r ⌝ }
 {
+    if !wants_at(h, i) {
+        return false;
+    }
     let read = node_at(h, i);
     let NodeRead::Is(node) = read else {
         return false;

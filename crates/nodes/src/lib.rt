@@ -13,6 +13,7 @@ use language::Comparator;
 pub use query::is_query;
 pub use reading::follows_at;
 pub use reading::node_at;
+pub use reading::wants_at;
 use text::Span;
 pub use writing::put_node;
 

@@ -18,6 +18,7 @@ use values::is_namespace;
 use values::is_property_name;
 use values::is_value;
 ghost use mathlib.Core.Path.{_≡_};
+ghost use mathlib.Core.Bool.{_||_};
 ghost use lib.Dec.{eqb};
 ghost use Rattle.text.specs.Bytes.{part as partFrom};
 ghost use Rattle.nodes.specs.Held.{slot, comparatorFrom, slotFrom, slotIn, textIn, nodeOf, nodeIn};
@@ -178,11 +179,26 @@ fn slot_bytes(h: &[u8], i: usize) -> &[u8]
     part(h, 1028 + 20 * i, 20)
 }
 
+// The tag of the node in a place.
+fn tag_at(h: &[u8], i: usize) -> u8
+    ensures { λ r. ⌜ r ≡ slotIn (now (h .entry)) i .tag ⌝ }
+{
+    byte_at(slot_bytes(h, i), 0)
+}
+
 // Whether the node in a place, if it is one, is a subquery: by its tag alone.
 pub fn follows_at(h: &[u8], i: usize) -> bool
     ensures { λ r. ⌜ r ≡ eqb (slotIn (now (h .entry)) i .tag) 5 ⌝ }
 {
-    byte_at(slot_bytes(h, i), 0) == 5
+    tag_at(h, i) == 5
+}
+
+// Whether the node in a place, if it is one, is a subquery or a value comparison, the nodes that want values of one kind.
+pub fn wants_at(h: &[u8], i: usize) -> bool
+    ensures { λ r. ⌜ r ≡ (eqb (slotIn (now (h .entry)) i .tag) 5 || eqb (slotIn (now (h .entry)) i .tag) 7) ⌝ }
+{
+    let tag = tag_at(h, i);
+    (tag == 5) | (tag == 7)
 }
 
 // The node in a place.

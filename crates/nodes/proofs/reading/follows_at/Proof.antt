@@ -1,17 +1,12 @@
 use borrow.Author.Needs.{needs}
-use Rattle.nodes.specs.Held.{slotFrom}
 use Rattle.nodes.proofs.reading.follows_at.Statement.{statement}
 use Rattle.nodes.proofs.reading.follows_at.Tie as tie
 
-slot-bytes-requires : tie.Need-slot-bytes-requires
-slot-bytes-requires c κs = search needs
-
-byte-at-requires : tie.Need-byte-at-requires
-byte-at-requires c κs = search needs
+tag-at-requires : tie.Need-tag-at-requires
+tag-at-requires c κs = search needs
 
 returns : tie.Need-returns
-unfolding slotFrom
-returns c = rw (c .byte-at .ensures, c .before .slot-bytes .ensures)
+returns c = rw (c .tag-at .ensures)
 
 pub follows-at-spec : {M : Type 1} → statement M
-follows-at-spec = tie.close (tie.spec slot-bytes-requires byte-at-requires returns)
+follows-at-spec = tie.close (tie.spec tag-at-requires returns)
