@@ -11,7 +11,7 @@
  * - The buffers of one call must not overlap. A buffer of length 0 still needs a pointer that is not null.
  * - No state is kept and no memory is allocated. Calls from several threads are fine as long as they share no buffer
  *   that one of them writes.
- * - Stack: vetxarno_ask needs up to 0.65 MB, for 256 nodes nested in one another; vetxarno_query 0.32 MB and vetxarno_register
+ * - Stack: vetxarno_ask needs up to 0.7 MB, for 256 nodes nested in one another; vetxarno_query 0.35 MB and vetxarno_register
  *   0.09 MB (docs/BENCHMARKS.md). */
 #ifndef VETXARNO_H
 #define VETXARNO_H
