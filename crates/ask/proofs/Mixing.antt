@@ -1,22 +1,19 @@
 -- Mismatches: what a node wants, and that the nodes of a query mix kinds where the query does.
 use Prim.Native.Nat.{ℕ, zero, suc, _+_, _≤_}
 use mathlib.Core.Path.{_≡_, refl, sym, ap₂, _∙_}
-use mathlib.Core.Bool.{Bool, true, false, not, cond, _||_, or-true, or-false, or-comm, true≢false}
+use mathlib.Core.Bool.{Bool, true, false, not, _||_, or-true, or-false, or-comm, true≢false}
 use mathlib.Core.List.{List, [], _∷_}
 use mathlib.Core.Option.{Option, some, none}
 use native.Mathlib.Numerals.{add-one}
 use native.Mathlib.Omega.{arith}
 use borrow.Author.Tests.{not-true}
-use lib.Dec.{eqb}
 use Rattle.text.specs.Bytes.{Bytes, any}
 use Rattle.text.specs.Parts.{partOf}
 use Rattle.text.specs.declared.Span.{Span}
-use Rattle.values.specs.Names.{isName, isNamespace, isPropertyName}
 use Rattle.values.specs.Values.{kindOfConstant}
-use Rattle.values.specs.Values as Constants
 use Rattle.values.specs.declared.Kind.{Kind}
 use Rattle.values.specs.declared.KindRead.{KindRead}
-use Rattle.language.specs.Answer.{_>>=_, onlyIf, found}
+use Rattle.language.specs.Answer.{_>>=_, found}
 use Rattle.language.specs.Core.{Core}
 use Rattle.language.specs.Core as Selectors
 use Rattle.language.specs.Register.{Register, kindsOf}
@@ -24,9 +21,9 @@ use Rattle.language.specs.Semantics.{someOther, mismatch, mismatchIn}
 use Rattle.language.specs.declared.Comparator.{Comparator}
 use Rattle.rows.specs.Rows.{anyTo}
 use Rattle.rows.specs.declared.Judged.{Judged}
-use Rattle.nodes.specs.Held.{comparatorFrom, nodeFrom, nodeOf, slotIn, countIn, textIn, nodeIn}
+use Rattle.nodes.specs.Held.{countIn, textIn, nodeIn}
 use Rattle.nodes.specs.Postfix.{Node, stepped}
-use Rattle.nodes.specs.Reading.{joinedBy, Reads}
+use Rattle.nodes.specs.Reading.{joinedBy, Reads, wantsKind, Tells}
 use Rattle.nodes.specs.Stack.{stackAt}
 use Rattle.nodes.specs.declared.Constant.{Constant}
 use Rattle.nodes.specs.declared.Selector.{Selector}
@@ -132,45 +129,26 @@ module _ (R : Register) where
       go (some k) none f g = cc
       go (some k) (some m) f g = rw (f k refl) (sym (step-mixes m k st g))
 
--- a node that is neither a subquery nor a value comparison mixes nothing
-module _ (R : Register) where
-  abbrev Quiet : Option Node → Type 0
-  Quiet o = found o (mixes R) false ≡ false
-
-  quiet-cond : (b : Bool) (o p : Option Node) → Quiet o → Quiet p → Quiet (cond b o p)
-  quiet-cond true o p f g = f
-  quiet-cond false o p f g = g
-
-  quiet-only : (b : Bool) (o : Option Node) → Quiet o → Quiet (onlyIf b o)
-  quiet-only true o f = f
-  quiet-only false o f = refl
-
-  quiet-article : (y : Bytes) (o : Option Comparator) → Quiet (o >>= λ d. some (Node.article d y))
-  quiet-article y none = refl
-  quiet-article y (some d) = refl
-
-  quiet-from : (tag d : ℕ) (v : Option Constants.Constant) (x y : Bytes) → eqb tag 5 ≡ false → eqb tag 7 ≡ false → Quiet (nodeFrom tag d v x y)
-  unfolding nodeFrom
-  quiet-from tag d v x y e f =
-      rw (e, f)
-      (quiet-cond (eqb tag 0) _ _ refl
-      (quiet-cond (eqb tag 1) _ _ refl
-      (quiet-cond (eqb tag 2) _ _ (quiet-only (isName x) _ refl)
-      (quiet-cond (eqb tag 3) _ _ (quiet-only (isNamespace x) _ refl)
-      (quiet-cond (eqb tag 4) _ _ (quiet-only (isPropertyName x) _ refl)
-      (quiet-cond (eqb tag 6) _ none (quiet-only (isName y) _ (quiet-article y (comparatorFrom d))) refl))))))
-
-neither : (a b : Bool) → (a || b) ≡ false → (a ≡ false) × (b ≡ false)
-neither true b e = absurd (true≢false e)
-neither false b e = (refl, e)
+-- a node that wants no kind mixes none
+mixes-quiet : (R : Register) (m : Node) → wantsKind m ≡ false → mixes R m ≡ false
+mixes-quiet R Node.conjunction e = refl
+mixes-quiet R Node.disjunction e = refl
+mixes-quiet R (Node.category x) e = refl
+mixes-quiet R (Node.namespace x) e = refl
+mixes-quiet R (Node.existence x) e = refl
+mixes-quiet R (Node.subquery x) e = absurd (true≢false e)
+mixes-quiet R (Node.article c x) e = refl
+mixes-quiet R (Node.value x c v) e = absurd (true≢false e)
 
 module _ (s : Bytes) (t props pages : List ℕ) (c : Judged) (h : Bytes) where
   -- mixes_at
-  pub mixes-plain : (i : ℕ) (b : Bool) → b ≡ (eqb (slotIn h i .tag) 5 || eqb (slotIn h i .tag) 7) → not b ≡ true → Mixes s t props pages c h i false
-  unfolding Mixes mixesIn nodeIn nodeOf
-  mixes-plain i b e f R v =
-      let z = neither (eqb (slotIn h i .tag) 5) (eqb (slotIn h i .tag) 7) (sym e ∙ not-true b f) in
-      sym (quiet-from R (slotIn h i .tag) (slotIn h i .comparator) _ _ _ (z .0) (z .1))
+  pub mixes-plain : (i : ℕ) (b : Bool) → Tells wantsKind (nodeIn h i) b → not b ≡ true → Mixes s t props pages c h i false
+  unfolding Mixes mixesIn Tells
+  mixes-plain i b f e R v = go (nodeIn h i) f
+    where
+      go : (o : Option Node) → ((m : Node) → o ≡ some m → b ≡ wantsKind m) → false ≡ found o (mixes R) false
+      go none f = refl
+      go (some m) f = sym (mixes-quiet R m (sym (f m refl) ∙ not-true b e))
 
   module _ (i : ℕ) (read : NodeRead) (u : Reads (textIn h) (nodeIn h i) read) where
     pub mixes-unread : read ≡ NodeRead.Nothing → Mixes s t props pages c h i false

@@ -3,3 +3,4 @@ pub mod Written
 pub mod Ways
 pub mod Kept
 pub mod Stacks
+mod Tags

@@ -107,3 +107,28 @@ keepsRead s (NodeRead.Is n) = keeps s n
 pub record Reads (s : Bytes) (o : Option Postfix.Node) (r : NodeRead) : Type 0 where
   pub is : o ≡ readBy s r
   pub keeps : keepsRead s r ≡ true
+
+-- A node that follows links, and one that wants values of one kind.
+abbrev pub followsLinks : Postfix.Node → Bool
+followsLinks (Postfix.subquery x) = true
+followsLinks Postfix.conjunction = false
+followsLinks Postfix.disjunction = false
+followsLinks (Postfix.category x) = false
+followsLinks (Postfix.namespace x) = false
+followsLinks (Postfix.existence x) = false
+followsLinks (Postfix.article c x) = false
+followsLinks (Postfix.value x c v) = false
+
+abbrev pub wantsKind : Postfix.Node → Bool
+wantsKind (Postfix.subquery x) = true
+wantsKind Postfix.conjunction = false
+wantsKind Postfix.disjunction = false
+wantsKind (Postfix.category x) = false
+wantsKind (Postfix.namespace x) = false
+wantsKind (Postfix.existence x) = false
+wantsKind (Postfix.article c x) = false
+wantsKind (Postfix.value x c v) = true
+
+-- What is told of a node, where there is one.
+unfoldable pub Tells : (Postfix.Node → Bool) → Option Postfix.Node → Bool → Type 0
+Tells f o r = (m : Postfix.Node) → o ≡ some m → r ≡ f m

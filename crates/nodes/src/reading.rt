@@ -18,11 +18,9 @@ use values::is_namespace;
 use values::is_property_name;
 use values::is_value;
 ghost use mathlib.Core.Path.{_≡_};
-ghost use mathlib.Core.Bool.{_||_};
-ghost use lib.Dec.{eqb};
 ghost use Rattle.text.specs.Bytes.{part as partFrom};
 ghost use Rattle.nodes.specs.Held.{slot, comparatorFrom, slotFrom, slotIn, textIn, nodeOf, nodeIn};
-ghost use Rattle.nodes.specs.Reading.{comparatorRead, chosen, selected, joining, ConstantReads, Reads};
+ghost use Rattle.nodes.specs.Reading.{comparatorRead, chosen, selected, joining, ConstantReads, Reads, followsLinks, wantsKind, Tells};
 
 // The comparator of a code.
 fn comparator_from(code: u8) -> ComparatorRead
@@ -186,16 +184,16 @@ fn tag_at(h: &[u8], i: usize) -> u8
     byte_at(slot_bytes(h, i), 0)
 }
 
-// Whether the node in a place, if it is one, is a subquery: by its tag alone.
+// Whether the node in a place is a subquery: by its tag alone.
 pub fn follows_at(h: &[u8], i: usize) -> bool
-    ensures { λ r. ⌜ r ≡ eqb (slotIn (now (h .entry)) i .tag) 5 ⌝ }
+    ensures { λ r. ⌜ Tells followsLinks (nodeIn (now (h .entry)) i) r ⌝ }
 {
     tag_at(h, i) == 5
 }
 
-// Whether the node in a place, if it is one, is a subquery or a value comparison, the nodes that want values of one kind.
+// Whether the node in a place is a subquery or a value comparison: by its tag alone.
 pub fn wants_at(h: &[u8], i: usize) -> bool
-    ensures { λ r. ⌜ r ≡ (eqb (slotIn (now (h .entry)) i .tag) 5 || eqb (slotIn (now (h .entry)) i .tag) 7) ⌝ }
+    ensures { λ r. ⌜ Tells wantsKind (nodeIn (now (h .entry)) i) r ⌝ }
 {
     let tag = tag_at(h, i);
     (tag == 5) | (tag == 7)
