@@ -34,11 +34,20 @@ fn high_byte(text: &[u8]) -> u8
     (text.len() / 256 % 256) as u8
 }
 
-// Copies the first n bytes of a text behind its length. This loop and the next are the plain ones that compilers know.
+// Copies the first n bytes of a text behind its length, where there is room. This loop and the next are the plain ones that
+// compilers know.
 fn put_text(text: &[u8], n: usize, held: &mut [u8])
-    requires { ⌜ (n ≡ heldOf (now text)) × (n ≤ length (now text)) × (n ≤ 32768) × (32770 ≤ length (now held)) ⌝ }
-    ensures { λ _. ⌜ ((h : Bytes) → Copied (now (text .entry)) h (now (held .entry)) 0 → Copied (now (text .entry)) h (now (held .exit)) n) ⌝ }
+    ensures { λ _. ⌜ ((h : Bytes) → n ≡ heldOf (now (text .entry)) → Copied (now (text .entry)) h (now (held .entry)) 0 → Copied (now (text .entry)) h (now (held .exit)) n) ⌝ }
 {
+    if held.len() < 32770 {
+        return;
+    }
+    if text.len() < n {
+        return;
+    }
+    if 32768 < n {
+        return;
+    }
     let mut i: usize = 0;
     while i < n {
         held[i + 2] = text[i];
@@ -46,11 +55,16 @@ fn put_text(text: &[u8], n: usize, held: &mut [u8])
     }
 }
 
-// Zeros behind the text.
+// Zeros behind the text, where there is room.
 fn put_zeros(n: usize, held: &mut [u8])
-    requires { ⌜ (n ≤ 32768) × (32770 ≤ length (now held)) ⌝ }
     ensures { λ _. ⌜ ((t h : Bytes) → Padded t h (now (held .entry)) n → Padded t h (now (held .exit)) 32768) ⌝ }
 {
+    if held.len() < 32770 {
+        return;
+    }
+    if 32768 < n {
+        return;
+    }
     let mut i = n;
     while i < 32768 {
         held[i + 2] = 0;

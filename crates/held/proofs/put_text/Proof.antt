@@ -4,18 +4,26 @@ use mathlib.Core.Path.{_≡_, refl, subst}
 use native.Mathlib.Omega.{arith}
 use lib.ListN.{length}
 use Rattle.text.specs.Bytes.{Bytes}
+use Rattle.held.specs.Form.{heldOf}
 use Rattle.held.specs.Loops.{Copied}
-use Rattle.held.proofs.Laws.{copied-more}
+use Rattle.held.proofs.Laws.{held-most, copied-more}
 use Rattle.held.proofs.put_text.Statement.{statement}
 use Rattle.held.proofs.put_text.Tie as tie
-use Rattle.held.proofs.put_text.Reads as reads
-use Rattle.held.proofs.put_text.Lts as lts
 
 abbrev Inv-loop : tie.InvT-loop
-Inv-loop text n held₀ i₀ held i = (length held ≡ length held₀) × (i ≤ n) × ((h : Bytes) → Copied text h held₀ 0 → Copied text h held i)
+Inv-loop text n held₀ i₀ held i = (length held ≡ length held₀) × (i ≤ n) × ((h : Bytes) → n ≡ heldOf text → Copied text h held₀ 0 → Copied text h held i)
 
 abbrev μ-loop : tie.MeasureT-loop
 μ-loop text n held₀ i₀ held i = n - i
+
+returns : tie.Need-returns Inv-loop μ-loop
+returns c = λ h e k. absurd (omega (arith, c .if1 .taken, k .done .room, k .done .size))
+
+returns-2 : tie.Need-returns-2 Inv-loop μ-loop
+returns-2 c = λ h e k. absurd (omega (arith, c .if2 .taken, e, held-most (c .before .before .args .text .now) .1))
+
+returns-3 : tie.Need-returns-3 Inv-loop μ-loop
+returns-3 c = λ h e k. absurd (omega (arith, c .if3 .taken, e, held-most (c .before .before .before .args .text .now) .0))
 
 loop-holds : tie.Need-loop-holds Inv-loop μ-loop
 loop-holds c = search needs
@@ -37,13 +45,13 @@ loop-less c = search needs
 
 loop-again : tie.Need-loop-again Inv-loop μ-loop
 loop-again c =
-    (search needs, omega (arith, c .before .loop-test .taken), λ h k. copied-more _ _ _ _ _ (c .before .before .loop .inv .2 h k) (let e = c .before .before .before .pre .0 in let l = c .before .loop-test .taken in omega (arith, e, l)) refl)
+    (search needs, omega (arith, c .before .loop-test .taken), λ h e k. copied-more _ _ _ _ _ (c .before .before .loop .inv .2 h e k) (omega (arith, e, c .before .loop-test .taken)) refl)
 
 same-length : tie.Need-same-length Inv-loop μ-loop
 same-length c = search needs
 
-returns : tie.Need-returns Inv-loop μ-loop
-returns c = λ h k. subst (Copied _ h _) (let l = c .before .loop .inv .1 in let m = c .loop-test .left in let e : c .before .loop .i ≡ c .before .before .args .n = omega (arith, l, m) in e) (c .before .loop .inv .2 h k)
+returns-4 : tie.Need-returns-4 Inv-loop μ-loop
+returns-4 c = λ h e k. subst (Copied _ h _) (let d : c .before .loop .i ≡ c .before .before .before .before .before .args .n = omega (arith, c .before .loop .inv .1, c .loop-test .left) in d) (c .before .loop .inv .2 h e k)
 
 pub put-text-spec : {M : Type 1} → statement M
 put-text-spec =
@@ -51,6 +59,9 @@ put-text-spec =
     (tie.spec
     Inv-loop
     μ-loop
+    returns
+    returns-2
+    returns-3
     loop-holds
     shared-slice-read-held
     add-held
@@ -59,4 +70,4 @@ put-text-spec =
     loop-less
     loop-again
     same-length
-    returns)
+    returns-4)

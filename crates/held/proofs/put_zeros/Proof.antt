@@ -8,14 +8,18 @@ use Rattle.held.specs.Loops.{Padded}
 use Rattle.held.proofs.Laws.{padded-more}
 use Rattle.held.proofs.put_zeros.Statement.{statement}
 use Rattle.held.proofs.put_zeros.Tie as tie
-use Rattle.held.proofs.put_zeros.Reads as reads
-use Rattle.held.proofs.put_zeros.Lts as lts
 
 abbrev Inv-loop : tie.InvT-loop
 Inv-loop n held₀ i₀ held i = (length held ≡ length held₀) × (i ≤ 32768) × ((t h : Bytes) → Padded t h held₀ n → Padded t h held i)
 
 abbrev μ-loop : tie.MeasureT-loop
 μ-loop n held₀ i₀ held i = 32768 - i
+
+returns : tie.Need-returns Inv-loop μ-loop
+returns c = λ t h k. absurd (omega (arith, c .if1 .taken, k .done .room, k .done .size))
+
+returns-2 : tie.Need-returns-2 Inv-loop μ-loop
+returns-2 c = λ t h k. absurd (omega (arith, c .if2 .taken, k .done .most))
 
 loop-holds : tie.Need-loop-holds Inv-loop μ-loop
 loop-holds c = search needs
@@ -39,8 +43,8 @@ loop-again c =
 same-length : tie.Need-same-length Inv-loop μ-loop
 same-length c = search needs
 
-returns : tie.Need-returns Inv-loop μ-loop
-returns c = λ t h k. subst (Padded t h _) (let l = c .before .loop .inv .1 in let m = c .loop-test .left in let e : c .before .loop .i ≡ 32768 = omega (arith, l, m) in e) (c .before .loop .inv .2 t h k)
+returns-3 : tie.Need-returns-3 Inv-loop μ-loop
+returns-3 c = λ t h k. subst (Padded t h _) (let d : c .before .loop .i ≡ 32768 = omega (arith, c .before .loop .inv .1, c .loop-test .left) in d) (c .before .loop .inv .2 t h k)
 
 pub put-zeros-spec : {M : Type 1} → statement M
 put-zeros-spec =
@@ -48,6 +52,8 @@ put-zeros-spec =
     (tie.spec
     Inv-loop
     μ-loop
+    returns
+    returns-2
     loop-holds
     add-held
     slice-write-held
@@ -55,4 +61,4 @@ put-zeros-spec =
     loop-less
     loop-again
     same-length
-    returns)
+    returns-3)

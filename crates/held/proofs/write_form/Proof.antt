@@ -1,17 +1,10 @@
 use mathlib.Core.Path.{refl}
 use native.Mathlib.Omega.{arith}
 use lib.ListN.{set, length-set}
-use Rattle.held.proofs.Laws.{no-room, held-most, copied-none, copied-all, padded-all}
+use Rattle.held.proofs.Laws.{no-room, copied-none, copied-all, padded-all}
 use borrow.Author.Needs.{needs}
 use Rattle.held.proofs.write_form.Statement.{statement}
 use Rattle.held.proofs.write_form.Tie as tie
-use Rattle.held.proofs.write_form.Reads as reads
-use Rattle.held.proofs.write_form.Lts as lts
-use Rattle.held.proofs.held_of.Reads as held-of-reads
-use Rattle.held.proofs.high_byte.Reads as high-byte-reads
-use Rattle.held.proofs.low_byte.Reads as low-byte-reads
-use Rattle.held.proofs.put_text.Reads as put-text-reads
-use Rattle.held.proofs.put_zeros.Reads as put-zeros-reads
 
 returns : tie.Need-returns
 returns c = search (no-room, needs)
@@ -32,16 +25,16 @@ slice-write-held-2 : tie.Need-slice-write-held-2
 slice-write-held-2 c = let y = length-set (c .before .before .before .before .before .before .args .held .now) 0 (c .before .low-byte .result) in let l = c .before .before .before .if1 .left in omega (arith, y, l)
 
 put-text-requires : tie.Need-put-text-requires
-put-text-requires c κs = (c .before .before .before .held-of .ensures, let m = held-most (c .before .before .before .before .before .before .before .args .text .now) in let e = c .before .before .before .held-of .ensures in omega (arith, m .1, e), let m = held-most (c .before .before .before .before .before .before .before .args .text .now) in let e = c .before .before .before .held-of .ensures in omega (arith, m .0, e), let y = length-set (c .before .before .before .before .before .before .before .args .held .now) 0 (c .before .before .low-byte .result) in let z = length-set (set (c .before .before .before .before .before .before .before .args .held .now) 0 (c .before .before .low-byte .result)) 1 (c .before .high-byte .result) in let l = c .before .before .before .before .if1 .left in omega (arith, y, z, l))
+put-text-requires c κs = search needs
 
 put-zeros-requires : tie.Need-put-zeros-requires
-put-zeros-requires c κs = (let m = held-most (c .before .before .before .before .before .before .before .before .before .before .before .args .text .now) in let e = c .before .before .before .before .before .before .before .held-of .ensures in omega (arith, m .0, e), let y = length-set (c .before .before .before .before .before .before .before .before .before .before .before .args .held .now) 0 (c .before .before .before .before .before .before .low-byte .result) in let z = length-set (set (c .before .before .before .before .before .before .before .before .before .before .before .args .held .now) 0 (c .before .before .before .before .before .before .low-byte .result)) 1 (c .before .before .before .before .before .high-byte .result) in let l = c .before .before .before .before .before .before .before .before .if1 .left in let k = c .before .slice-known2 .given in let q = c .before .before .held .given in omega (arith, y, z, l))
+put-zeros-requires c κs = search needs
 
 same-length : tie.Need-same-length
-same-length c = (c .before .before .put-zeros .ensures (c .before .before .before .before .before .before .before .before .before .before .before .before .before .before .args .text .now) (c .before .before .before .before .before .before .before .before .before .before .before .before .before .before .args .held .now) (copied-all (c .before .before .before .before .before .before .before .before .before .before .before .before .before .before .args .text .now) (c .before .before .before .before .before .before .before .before .before .before .before .before .before .before .args .held .now) _ _ (c .before .before .before .before .before .before .before .before .before .before .held-of .ensures) (c .before .before .before .before .before .before .put-text .ensures (c .before .before .before .before .before .before .before .before .before .before .before .before .before .before .args .held .now) (copied-none (c .before .before .before .before .before .before .before .before .before .before .before .before .before .before .args .text .now) (c .before .before .before .before .before .before .before .before .before .before .before .before .before .before .args .held .now) _ _ _ refl (c .before .before .before .before .before .before .before .before .before .before .before .if1 .left) (c .before .before .before .before .before .before .before .before .before .low-byte .ensures) (c .before .before .before .before .before .before .before .before .high-byte .ensures))))) .done .size
+same-length c = (c .before .before .put-zeros .ensures (c .before .before .before .before .before .before .before .before .before .before .before .before .before .before .args .text .now) (c .before .before .before .before .before .before .before .before .before .before .before .before .before .before .args .held .now) (copied-all (c .before .before .before .before .before .before .before .before .before .before .before .before .before .before .args .text .now) (c .before .before .before .before .before .before .before .before .before .before .before .before .before .before .args .held .now) _ _ (c .before .before .before .before .before .before .before .before .before .before .held-of .ensures) (c .before .before .before .before .before .before .put-text .ensures (c .before .before .before .before .before .before .before .before .before .before .before .before .before .before .args .held .now) (c .before .before .before .before .before .before .before .before .before .before .held-of .ensures) (copied-none (c .before .before .before .before .before .before .before .before .before .before .before .before .before .before .args .text .now) (c .before .before .before .before .before .before .before .before .before .before .before .before .before .before .args .held .now) _ _ _ refl (c .before .before .before .before .before .before .before .before .before .before .before .if1 .left) (c .before .before .before .before .before .before .before .before .before .low-byte .ensures) (c .before .before .before .before .before .before .before .before .high-byte .ensures))))) .done .size
 
 returns-2 : tie.Need-returns-2
-returns-2 c = padded-all (c .before .before .before .before .before .before .before .before .before .before .before .before .before .before .args .text .now) (c .before .before .before .before .before .before .before .before .before .before .before .before .before .before .args .held .now) _ (c .before .before .put-zeros .ensures (c .before .before .before .before .before .before .before .before .before .before .before .before .before .before .args .text .now) (c .before .before .before .before .before .before .before .before .before .before .before .before .before .before .args .held .now) (copied-all (c .before .before .before .before .before .before .before .before .before .before .before .before .before .before .args .text .now) (c .before .before .before .before .before .before .before .before .before .before .before .before .before .before .args .held .now) _ _ (c .before .before .before .before .before .before .before .before .before .before .held-of .ensures) (c .before .before .before .before .before .before .put-text .ensures (c .before .before .before .before .before .before .before .before .before .before .before .before .before .before .args .held .now) (copied-none (c .before .before .before .before .before .before .before .before .before .before .before .before .before .before .args .text .now) (c .before .before .before .before .before .before .before .before .before .before .before .before .before .before .args .held .now) _ _ _ refl (c .before .before .before .before .before .before .before .before .before .before .before .if1 .left) (c .before .before .before .before .before .before .before .before .before .low-byte .ensures) (c .before .before .before .before .before .before .before .before .high-byte .ensures)))))
+returns-2 c = padded-all (c .before .before .before .before .before .before .before .before .before .before .before .before .before .before .args .text .now) (c .before .before .before .before .before .before .before .before .before .before .before .before .before .before .args .held .now) _ (c .before .before .put-zeros .ensures (c .before .before .before .before .before .before .before .before .before .before .before .before .before .before .args .text .now) (c .before .before .before .before .before .before .before .before .before .before .before .before .before .before .args .held .now) (copied-all (c .before .before .before .before .before .before .before .before .before .before .before .before .before .before .args .text .now) (c .before .before .before .before .before .before .before .before .before .before .before .before .before .before .args .held .now) _ _ (c .before .before .before .before .before .before .before .before .before .before .held-of .ensures) (c .before .before .before .before .before .before .put-text .ensures (c .before .before .before .before .before .before .before .before .before .before .before .before .before .before .args .held .now) (c .before .before .before .before .before .before .before .before .before .before .held-of .ensures) (copied-none (c .before .before .before .before .before .before .before .before .before .before .before .before .before .before .args .text .now) (c .before .before .before .before .before .before .before .before .before .before .before .before .before .before .args .held .now) _ _ _ refl (c .before .before .before .before .before .before .before .before .before .before .before .if1 .left) (c .before .before .before .before .before .before .before .before .before .low-byte .ensures) (c .before .before .before .before .before .before .before .before .high-byte .ensures)))))
 
 pub write-form-spec : {M : Type 1} → statement M
 write-form-spec =
