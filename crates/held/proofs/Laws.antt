@@ -204,4 +204,4 @@ module _ (h t : Bytes) where
   pub cleared-all : (i : ℕ) (b : Bool) → Cleared h t i b → 32768 ≤ i → b ≡ sameForm h t
   cleared-all i b c l = alike-all h t i b (c .done) l
 
-pub ruleset comparing = (form-short, compared-all, cleared-all, cleared-more)
+pub ruleset comparing = (form-short, compared-all, cleared-all)

@@ -1,3 +1,4 @@
+// Sets of up to 256 pages, by value: the mark at each place, and what joins and counts them.
 ghost use mathlib.Core.Path.{_≡_};
 ghost use mathlib.Core.Bool.{true, false, _||_, _&&_};
 ghost use lib.ListN.{getD, set, replicate};

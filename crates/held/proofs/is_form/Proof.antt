@@ -2,7 +2,7 @@ use borrow.Author.Needs.{needs}
 use Prim.Native.Nat.{_-_}
 use mathlib.Core.Path.{refl}
 use native.Mathlib.Omega.{arith}
-use Rattle.held.proofs.Laws.{Compared, Cleared, compared-none, compared-more, comparing}
+use Rattle.held.proofs.Laws.{Compared, Cleared, compared-none, compared-more, cleared-more, comparing}
 use Rattle.held.proofs.is_form.Statement.{statement}
 use Rattle.held.proofs.is_form.Tie as tie
 use Rattle.held.proofs.is_form.Reads as reads
@@ -78,7 +78,7 @@ loop2-less : tie.Need-loop2-less Inv-loop μ-loop Inv-loop2 μ-loop2
 loop2-less c = search (comparing, needs)
 
 loop2-again : tie.Need-loop2-again Inv-loop μ-loop Inv-loop2 μ-loop2
-loop2-again c = search (comparing, needs)
+loop2-again c = cleared-more _ _ _ _ (c .before .before .loop2 .inv) (c .before .loop2-test .taken)
 
 returns-2 : tie.Need-returns-2 Inv-loop μ-loop Inv-loop2 μ-loop2
 returns-2 c = search (comparing, needs)
