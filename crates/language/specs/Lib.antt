@@ -1,6 +1,8 @@
 pub mod Answer
 pub mod Register
 pub mod RegisterText
+pub mod Rules
+pub mod Joining
 pub mod Surface
 pub mod RawQuery
 pub mod QueryText

@@ -1,3 +1,4 @@
 pub mod Names
 pub mod Values
 pub mod Answers
+pub mod Spelling

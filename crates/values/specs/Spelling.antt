@@ -1,0 +1,38 @@
+-- The shortest text of a value. Request 9: "numbers at their shortest, booleans as true and false, main links without a colon,
+-- other links without blanks at theirs".
+use Prim.Native.Nat.{ℕ, zero, suc, _+_, _/_, _%_}
+use mathlib.Core.Bool.{Bool, true, false, cond}
+use mathlib.Core.List.{[], _∷_, _++_}
+use lib.Dec.{ltb, eqb}
+use lib.IntN.{ℤ, pos, negsuc}
+use lib.ListN.{length}
+use Rattle.text.specs.Bytes.{Bytes, bytes}
+use Rattle.values.specs.Names.{Identifier}
+use Rattle.values.specs.Values.{Constant, number, boolean, string, Value, plain, link}
+
+-- The decimal digits of a number; the first number bounds how many.
+unfoldable pub digitsWithin : ℕ → ℕ → Bytes
+digitsWithin zero n = []
+digitsWithin (suc k) n = elim (ltb n 10) [ true ↦ (48 + n) ∷ [] | false ↦ digitsWithin k (n / 10) ++ ((48 + (n % 10)) ∷ []) ]
+
+-- A number has no more digits than units, but for 0, which has one.
+unfoldable pub digits : ℕ → Bytes
+digits n = digitsWithin (suc n) n
+
+unfoldable pub spellNumber : ℤ → Bytes
+spellNumber (pos n) = digits n
+spellNumber (negsuc n) = 45 ∷ digits (suc n)
+
+abbrev pub spellBoolean : Bool → Bytes
+spellBoolean true = bytes "true"
+spellBoolean false = bytes "false"
+
+-- `name`, or `namespace:name`
+unfoldable pub spellIdentifier : Identifier → Bytes
+spellIdentifier i = cond (eqb (length (i .namespace)) 0) (i .article) (i .namespace ++ (58 ∷ i .article))
+
+unfoldable pub spelling : Value → Bytes
+spelling (plain (number z)) = spellNumber z
+spelling (plain (boolean b)) = spellBoolean b
+spelling (plain (string s)) = s
+spelling (link i) = spellIdentifier i
