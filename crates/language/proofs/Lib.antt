@@ -4,7 +4,13 @@ pub mod Shorter
 pub mod Leaving
 pub mod Readers
 pub mod Entries
+pub mod Rules
+pub mod Unions
+pub mod Sameness
+pub mod Adding
 pub mod Registers
+pub mod Accepted
+pub mod Joined
 pub mod Typed
 pub mod Holding
 pub mod Mixing

@@ -1,7 +1,10 @@
 -- Tests over the members of a list, and the truth values that they come to.
+use Prim.Native.Nat.{ℕ, zero, suc, _<_}
 use mathlib.Core.Path.{_≡_, refl, sym, ap, ap₂, _∙_, subst}
 use mathlib.Core.Bool.{Bool, true, false, not, _&&_, _||_, true≢false, false≢true}
 use mathlib.Core.List.{List, [], _∷_, map, List·Memᴰ, List·Memᴰ·head, List·Memᴰ·tail}
+use native.Mathlib.Omega.{arith}
+use lib.ListN.{length, getD}
 use Rattle.text.specs.Bytes.{any, all}
 
 -- the parts of a true `&&` and of a false `||`
@@ -35,6 +38,16 @@ module _ {A : Type 0} where
   all-at p h (List·Memᴰ·head {x = x} {xs = xs} e) = ap p e ∙ and-true (p x) (all p xs) h .0
   all-at p h (List·Memᴰ·tail {x = x} {xs = xs} m) = all-at p (and-true (p x) (all p xs) h .1) m
 
+  pub all-of : (p : A → Bool) (l : List A) → ((a : A) → List·Memᴰ a l → p a ≡ true) → all p l ≡ true
+  unfolding all
+  all-of p [] h = refl
+  all-of p (x ∷ l) h = both-true (h x (List·Memᴰ·head refl)) (all-of p l (λ a m. h a (List·Memᴰ·tail m)))
+
+  pub all-map : {B : Type 0} (p : B → Bool) (f : A → B) (l : List A) → ((a : A) → List·Memᴰ a l → p (f a) ≡ true) → all p (map f l) ≡ true
+  unfolding all
+  all-map p f [] h = refl
+  all-map p f (x ∷ l) h = both-true (h x (List·Memᴰ·head refl)) (all-map p f l (λ a m. h a (List·Memᴰ·tail m)))
+
   pub any-same : (p q : A → Bool) (l : List A) → ((a : A) → List·Memᴰ a l → p a ≡ q a) → any p l ≡ any q l
   unfolding any
   any-same p q [] h = refl
@@ -60,3 +73,12 @@ module _ {A : Type 0} where
   pub map-same : {B : Type 0} (f g : A → B) (l : List A) → ((a : A) → List·Memᴰ a l → f a ≡ g a) → map f l ≡ map g l
   map-same f g [] h = refl
   map-same f g (x ∷ l) h = ap₂ _∷_ (h x (List·Memᴰ·head refl)) (map-same f g l (λ a m. h a (List·Memᴰ·tail m)))
+
+  pub map-itself : (f : A → A) (l : List A) → ((a : A) → List·Memᴰ a l → f a ≡ a) → map f l ≡ l
+  map-itself f [] h = refl
+  map-itself f (x ∷ l) h = ap₂ _∷_ (h x (List·Memᴰ·head refl)) (map-itself f l (λ a m. h a (List·Memᴰ·tail m)))
+
+  pub getD-mapped : {B : Type 0} (f : A → B) (l : List A) (i : ℕ) (d : A) (e : B) → i < length l → getD (map f l) i e ≡ f (getD l i d)
+  getD-mapped f [] i d e h = absurd (omega arith)
+  getD-mapped f (x ∷ l) zero d e h = refl
+  getD-mapped f (x ∷ l) (suc i) d e h = getD-mapped f l i d e (omega arith)

@@ -1,7 +1,7 @@
 -- Accepted register texts give sound registers.
-use Prim.Native.Nat.{ℕ, zero, suc, _+_, _≤_, _<_}
-use mathlib.Core.Path.{_≡_, refl, sym, ap, ap₂, _∙_, subst}
-use mathlib.Core.Bool.{Bool, true, false, cond, not, _&&_, _||_}
+use Prim.Native.Nat.{ℕ, _≤_}
+use mathlib.Core.Path.{_≡_, refl, sym, ap, _∙_, subst}
+use mathlib.Core.Bool.{Bool, true, false, cond, not, _||_}
 use mathlib.Core.List.{List, [], _∷_}
 use mathlib.Core.Option.{Option, some, none}
 use native.Mathlib.Omega.{arith}
@@ -10,14 +10,14 @@ use lib.Dec.{ltb}
 use lib.ListN.{length}
 use Rattle.text.specs.Bytes.{Bytes, same, any, all}
 use Rattle.values.specs.declared.Kind.{Kind}
-use Rattle.values.specs.Names.{Identifier, sameIdentifier}
 use Rattle.values.specs.Values.{Value, kindOf, readValue}
 use Rattle.values.proofs.Laws.{read-kind}
-use Rattle.language.specs.Answer.{Answer, refused, accepted, Check, _if_, judge, _>>=_, found}
-use Rattle.language.specs.Register.{Property, Held, Page, Register, kindAmong, kindsOf, sameKind, hasKind, kindsHold, distinct, sameProperty, samePage, Sound}
-use Rattle.language.specs.RegisterText.{Entry, prop, page, cat, val, close, entries, breaksRule, sameDeclared, someTwice, properties, isUndeclared, valueOf, isUnfit, isPage, isInner, countOf, overLimits, sameHeld, addHeld, addCategory, withCategory, withValue, emptyPage, filled, pagesOf, registerOf, checks, readRegister}
+use Rattle.language.specs.Answer.{refused, accepted, Check, _if_, judge, _>>=_, found}
+use Rattle.language.specs.Register.{Property, Held, Page, Register, kindAmong, sameKind, hasKind, kindsHold, distinct, sameProperty, samePage, Sound}
+use Rattle.language.specs.RegisterText.{Entry, prop, page, cat, val, close, entries, breaksRule, sameDeclared, someTwice, properties, isUndeclared, valueOf, isUnfit, isPage, isInner, countOf, overLimits, sameHeld, withCategory, withValue, emptyPage, filled, pagesOf, registerOf, checks, readRegister}
 use Rattle.language.proofs.Options.{OnSome}
-use Rattle.language.proofs.Members.{and-true, or-false, both-true, both-false}
+use Rattle.language.proofs.Members.{or-false, both-true}
+use Rattle.language.proofs.Adding.{held-added, all-added}
 
 -- a check that was passed, and the verdict behind it
 pub judge-passed : {A : Type 0} (n : ℕ) (b : Bool) (l : List Check) (a r : A) → judge (n if b ∷ l) a ≡ accepted r → (b ≡ false) × (judge l a ≡ accepted r)
@@ -52,16 +52,6 @@ module _ (ps : List Property) where
       go none = tt
       go (some k) = read k (readValue k v) refl
 
-  all-added : (h : Held) (l : List Held) → rightly h ≡ true → all rightly l ≡ true → all rightly (addHeld h l) ≡ true
-  unfolding all addHeld
-  all-added h [] a b = both-true a refl
-  all-added h (g ∷ l) a b =
-      let t = and-true (rightly g) (all rightly l) b in go (sameHeld h g) (both-true (t .0) (all-added h l a (t .1)))
-    where
-      go : (c : Bool) → all rightly (g ∷ addHeld h l) ≡ true → all rightly (cond c (g ∷ l) (g ∷ addHeld h l)) ≡ true
-      go true r = b
-      go false r = r
-
   -- what the inner forms leave as it was
   pub filled-identifier : (p : Page) (l : List Entry) → filled ps p l .identifier ≡ p .identifier
   unfolding filled
@@ -86,7 +76,9 @@ module _ (ps : List Property) where
     where
       go : (o : Option Value) → OnSome (λ w. hasKind (kindAmong ps x) (kindOf w) ≡ true) o → all rightly (found o (λ w. withValue x w p) p .values) ≡ true
       go none r = h
-      go (some w) r = all-added (record { property = x; value = w }) (p .values) r h
+      go (some w) r =
+          let g : Held = record { property = x; value = w } in
+          rw (held-added g (p .values)) (all-added sameHeld g (p .values) rightly r h)
   filled-rightly p (close ∷ l) h = h
 
   pages-rightly : (l : List Entry) → all (λ p. all rightly (p .values)) (pagesOf ps l) ≡ true
@@ -148,7 +140,7 @@ properties-once (cat x ∷ l) h = properties-once l (or-false (any (sameDeclared
 properties-once (val x v ∷ l) h = properties-once l (or-false (any (sameDeclared (val x v)) l) (someTwice l) h .1)
 properties-once (close ∷ l) h = properties-once l (or-false (any (sameDeclared close) l) (someTwice l) h .1)
 
-entries-sound : (l : List Entry) → someTwice l ≡ false → overLimits l ≡ false → Sound (registerOf l)
+pub entries-sound : (l : List Entry) → someTwice l ≡ false → overLimits l ≡ false → Sound (registerOf l)
 unfolding registerOf overLimits kindsHold
 entries-sound l once few =
     let t = or-false (ltb 64 (length (properties l)) || ltb 256 (countOf isPage l)) (ltb 2048 (countOf isInner l)) few in
@@ -161,24 +153,39 @@ entries-sound l once few =
       fewPages = rw (pages-count (properties l) l) (ltb-false 256 _ (u .1));
     }
 
--- "with no page and no property twice", and every value of its property's kind
-pub accepted-sound : (s : Bytes) (R : Register) → readRegister s ≡ accepted R → Sound R
+-- What the checks of an accepted text found.
+pub record Passed (s : Bytes) (l : List Entry) : Type 0 where
+  pub short : length s ≤ 32768
+  pub read : entries s ≡ some l
+  pub ruled : any breaksRule l ≡ false
+  pub once : someTwice l ≡ false
+  pub declared : any (isUndeclared (properties l)) l ≡ false
+  pub fit : any (isUnfit (properties l)) l ≡ false
+  pub few : overLimits l ≡ false
+
+-- What holds of the register of every text that passes holds of an accepted one.
+pub of-accepted : (P : Register → Type 0) (s : Bytes) (R : Register) → readRegister s ≡ accepted R → ((l : List Entry) → Passed s l → P (registerOf l)) → P R
 unfolding readRegister
-accepted-sound s R h = long (ltb 32768 (length s)) h
+of-accepted P s R h f = long (ltb 32768 (length s)) refl h
   where
-    judged : (l : List Entry) → judge (checks l) (registerOf l) ≡ accepted R → Sound R
-    judged l h =
+    judged : (l : List Entry) → length s ≤ 32768 → entries s ≡ some l → judge (checks l) (registerOf l) ≡ accepted R → P R
+    judged l short read h =
         let t3 = judge-passed 3 (any breaksRule l) _ (registerOf l) R h in
         let t4 = judge-passed 4 (someTwice l) _ (registerOf l) R (t3 .1) in
         let t5 = judge-passed 5 (any (isUndeclared (properties l)) l) _ (registerOf l) R (t4 .1) in
         let t6 = judge-passed 6 (any (isUnfit (properties l)) l) _ (registerOf l) R (t5 .1) in
         let t7 = judge-passed 7 (overLimits l) [] (registerOf l) R (t6 .1) in
-        subst Sound (judge-all (registerOf l) R (t7 .1)) (entries-sound l (t4 .0) (t7 .0))
+        subst P (judge-all (registerOf l) R (t7 .1))
+        (f l (record { short = short; read = read; ruled = t3 .0; once = t4 .0; declared = t5 .0; fit = t6 .0; few = t7 .0 }))
 
-    read : (o : Option (List Entry)) → found o (λ l. judge (checks l) (registerOf l)) (refused 2) ≡ accepted R → Sound R
-    read none h = absurd (let y : _≡_ {A = ℕ} 0 1 = cc in omega arith)
-    read (some l) h = judged l h
+    taken : (o : Option (List Entry)) → length s ≤ 32768 → entries s ≡ o → found o (λ l. judge (checks l) (registerOf l)) (refused 2) ≡ accepted R → P R
+    taken none short read h = absurd (let y : _≡_ {A = ℕ} 0 1 = cc in omega arith)
+    taken (some l) short read h = judged l short read h
 
-    long : (b : Bool) → cond b (refused 1) (found (entries s) (λ l. judge (checks l) (registerOf l)) (refused 2)) ≡ accepted R → Sound R
-    long true h = absurd (let y : _≡_ {A = ℕ} 0 1 = cc in omega arith)
-    long false h = read (entries s) h
+    long : (b : Bool) → ltb 32768 (length s) ≡ b → cond b (refused 1) (found (entries s) (λ l. judge (checks l) (registerOf l)) (refused 2)) ≡ accepted R → P R
+    long true e h = absurd (let y : _≡_ {A = ℕ} 0 1 = cc in omega arith)
+    long false e h = taken (entries s) (ltb-false 32768 (length s) e) refl h
+
+-- "with no page and no property twice", and every value of its property's kind
+pub accepted-sound : (s : Bytes) (R : Register) → readRegister s ≡ accepted R → Sound R
+accepted-sound s R h = of-accepted Sound s R h (λ l t. entries-sound l (t .once) (t .few))

@@ -8,6 +8,10 @@ use Rattle.language.specs.Answer.{found}
 use Rattle.language.specs.Register.{Property, Page, Register, kindsOf, sameKind, sameProperty, samePage}
 use Rattle.language.specs.RegisterText.{sameHeld}
 
+-- The register with no properties and no pages.
+abbrev pub emptyRegister : Register
+emptyRegister = record { properties = []; pages = [] }
+
 module _ {A : Type 0} (alike : A → A → Bool) where
   -- Those of the second list that are like none of the first, in their order.
   unfoldable pub onlyIn : List A → List A → List A

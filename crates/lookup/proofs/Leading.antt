@@ -9,7 +9,6 @@ use borrow.Author.Tests.{not-true, not-false}
 use lib.ListN.{length, getD, take, set, length-take, List·getD-eq-default}
 use Rattle.text.specs.Bytes.{Bytes, same, part, any}
 use Rattle.text.specs.Parts.{partOf}
-use Rattle.text.proofs.Laws.{same-refl}
 use Rattle.values.specs.declared.Kind.{Kind}
 use Rattle.values.specs.declared.KindRead.{KindRead}
 use Rattle.values.specs.Names.{Identifier, sameIdentifier}
@@ -26,7 +25,7 @@ use Rattle.rows.specs.declared.Judged.{Judged}
 use Rattle.pages.specs.Forms.{identifierOf}
 use Rattle.pages.specs.Tests.{innerAt, kindOf, valTag}
 use Rattle.pages.proofs.Abstract.{page-identifier}
-use Rattle.pages.proofs.Pages.{identifier-eq}
+use Rattle.values.proofs.Sameness.{identifier-eq, identifier-refl}
 use Rattle.pages.proofs.Looking.{item-val, item-other}
 use Rattle.lookup.specs.View.{pageAt, View}
 use Rattle.lookup.specs.Linking.{placeAmong, placeOf, linkPlace, codeOf, linkCode, Linked, linksTo}
@@ -44,9 +43,6 @@ place-below i f (r ∷ l) k h = go (sameIdentifier (identifierOf (f r)) i) (plac
     go true o below h = let z : 0 ≡ k = cc in omega arith
     go false none below h = absurd (let z : _≡_ {A = ℕ} 0 1 = cc in omega arith)
     go false (some j) below h = let z : suc j ≡ k = cc in omega (arith, below j refl)
-
-identifier-refl : (i : Identifier) → sameIdentifier i i ≡ true
-identifier-refl i = rw (same-refl (i .namespace), same-refl (i .article))
 
 -- where no page of l is like p, none has the identifier that p has
 none-else : (p : Page) (i : Identifier) (test : Page → Bool) (l : List Page) → sameIdentifier (p .identifier) i ≡ true → any (samePage p) l ≡ false → any (λ q. sameIdentifier (q .identifier) i && test q) l ≡ false

@@ -26,7 +26,7 @@ use Rattle.entries.specs.Table.{entryAt}
 use Rattle.entries.specs.declared.Item.{Item}
 use Rattle.pages.specs.Forms.{identifierOf}
 use Rattle.pages.specs.Tests.{valTag}
-use Rattle.pages.proofs.Pages.{identifier-eq}
+use Rattle.values.proofs.Sameness.{identifier-eq}
 use Rattle.pages.proofs.Looking.{item-val, item-other}
 use Rattle.lookup.specs.Linking.{placeAmong, placeOf, linkPlace, codeOf, linkCode, Hashed, Slotted, NoneBefore, HashIndex, hashOf}
 

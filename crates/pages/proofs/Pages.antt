@@ -1,79 +1,16 @@
 -- What a page holds, by its inner forms: a repeat changes no test.
-use Prim.Native.Nat.{ℕ}
 use mathlib.Core.Path.{_≡_, refl, sym, ap, _∙_}
-use mathlib.Core.Bool.{Bool, true, false, cond, _&&_, _||_, or-false, false≢true}
+use mathlib.Core.Bool.{Bool, true, false, cond, _&&_, _||_, or-false}
 use mathlib.Core.List.{List, [], _∷_}
 use mathlib.Core.Option.{Option, some, none}
-use native.Mathlib.Omega.{arith}
-use lib.IntN.{ℤ, pos, negsuc}
-use lib.Dec.{ltb}
-use borrow.Author.Tests.{ltb-false}
-use Rattle.text.specs.Bytes.{Bytes, same, any, orderOf, numbers}
-use Rattle.text.specs.declared.Order.{Order}
-use Rattle.text.proofs.Laws.{same-eq, order-eq}
-use Rattle.values.specs.Names.{Identifier, sameIdentifier}
-use Rattle.values.specs.Values.{number, boolean, string, Value, plain, link, orderNumbers, orderBooleans, isEqualOrder, sameValue}
+use Rattle.text.specs.Bytes.{Bytes, same, any}
+use Rattle.text.proofs.Laws.{same-eq}
+use Rattle.values.specs.Values.{Value}
 use Rattle.language.specs.Answer.{found}
 use Rattle.language.specs.Register.{Property, Held, Page, holds}
 use Rattle.language.specs.RegisterText.{Entry, prop, page, cat, val, close, valueOf, sameHeld, addCategory, addHeld, withCategory, withValue, filled}
-use Rattle.language.proofs.Members.{and-true, by-test}
+use Rattle.language.proofs.Sameness.{held-eq}
 use Rattle.pages.specs.Forms.{innerOf, inCategory, heldBy}
-
--- equal values are one value
-numbers-eq : (a b : ℕ) → numbers a b ≡ Order.Equal → a ≡ b
-unfolding numbers
-numbers-eq a b h = by-test (ltb a b) (λ e. absurd (no-less (rw e at h))) (λ e. by-test (ltb b a) (λ f. absurd (no-greater (rw (e, f) at h))) (λ f. omega (arith, ltb-false a b e, ltb-false b a f)))
-  where
-    no-less : Order.Less ≡ Order.Equal → ⊥
-    no-less e = let z : _≡_ {A = ℕ} 0 1 = cc in omega arith
-
-    no-greater : Order.Greater ≡ Order.Equal → ⊥
-    no-greater e = let z : _≡_ {A = ℕ} 0 1 = cc in omega arith
-
-equal-order : (o : Order) → isEqualOrder (some o) ≡ true → o ≡ Order.Equal
-equal-order Order.Less h = absurd (false≢true h)
-equal-order Order.Equal h = refl
-equal-order Order.Greater h = absurd (false≢true h)
-
-order-numbers-eq : (a b : ℤ) → orderNumbers a b ≡ Order.Equal → a ≡ b
-order-numbers-eq (pos a) (pos b) h = ap pos (numbers-eq a b h)
-order-numbers-eq (pos a) (negsuc b) h = absurd (let z : _≡_ {A = ℕ} 0 1 = cc in omega arith)
-order-numbers-eq (negsuc a) (pos b) h = absurd (let z : _≡_ {A = ℕ} 0 1 = cc in omega arith)
-order-numbers-eq (negsuc a) (negsuc b) h = ap negsuc (sym (numbers-eq b a h))
-
-order-booleans-eq : (a b : Bool) → orderBooleans a b ≡ Order.Equal → a ≡ b
-order-booleans-eq true true h = refl
-order-booleans-eq true false h = absurd (let z : _≡_ {A = ℕ} 0 1 = cc in omega arith)
-order-booleans-eq false true h = absurd (let z : _≡_ {A = ℕ} 0 1 = cc in omega arith)
-order-booleans-eq false false h = refl
-
-pub identifier-eq : (i j : Identifier) → sameIdentifier i j ≡ true → i ≡ j
-identifier-eq i j h =
-    let t = and-true (same (i .namespace) (j .namespace)) (same (i .article) (j .article)) h in
-    λ k. record { namespace = same-eq (i .namespace) (j .namespace) (t .0) k; article = same-eq (i .article) (j .article) (t .1) k }
-
-pub value-eq : (v w : Value) → sameValue v w ≡ true → v ≡ w
-value-eq (plain (number a)) (plain (number b)) h = ap (λ z. plain (number z)) (order-numbers-eq a b (equal-order (orderNumbers a b) h))
-value-eq (plain (number a)) (plain (boolean b)) h = absurd (false≢true h)
-value-eq (plain (number a)) (plain (string b)) h = absurd (false≢true h)
-value-eq (plain (number a)) (link j) h = absurd (false≢true h)
-value-eq (plain (boolean a)) (plain (number b)) h = absurd (false≢true h)
-value-eq (plain (boolean a)) (plain (boolean b)) h = ap (λ z. plain (boolean z)) (order-booleans-eq a b (equal-order (orderBooleans a b) h))
-value-eq (plain (boolean a)) (plain (string b)) h = absurd (false≢true h)
-value-eq (plain (boolean a)) (link j) h = absurd (false≢true h)
-value-eq (plain (string a)) (plain (number b)) h = absurd (false≢true h)
-value-eq (plain (string a)) (plain (boolean b)) h = absurd (false≢true h)
-value-eq (plain (string a)) (plain (string b)) h = ap (λ z. plain (string z)) (order-eq a b (equal-order (orderOf a b) h))
-value-eq (plain (string a)) (link j) h = absurd (false≢true h)
-value-eq (link i) (plain (number b)) h = absurd (false≢true h)
-value-eq (link i) (plain (boolean b)) h = absurd (false≢true h)
-value-eq (link i) (plain (string b)) h = absurd (false≢true h)
-value-eq (link i) (link j) h = ap link (identifier-eq i j h)
-
-held-eq : (a b : Held) → sameHeld a b ≡ true → a ≡ b
-held-eq a b h =
-    let t = and-true (same (a .property) (b .property)) (sameValue (a .value) (b .value)) h in
-    λ k. record { property = same-eq (a .property) (b .property) (t .0) k; value = value-eq (a .value) (b .value) (t .1) k }
 
 -- a repeat changes no test
 swapped : (a b c : Bool) → a || (b || c) ≡ b || (a || c)

@@ -30,7 +30,7 @@ unfolding isDigit
 digit-le b h = leb-true b 57 (and-eq-true-iff (leb 48 b) (leb b 57) .0 h .1)
 
 -- Each digit is one power of ten more.
-decimal-lt : (s : Bytes) (n k : ℕ) → all isDigit s ≡ true → n < 10 ^ k → decimal n s < 10 ^ (k + length s)
+pub decimal-lt : (s : Bytes) (n k : ℕ) → all isDigit s ≡ true → n < 10 ^ k → decimal n s < 10 ^ (k + length s)
 unfolding decimal all
 decimal-lt [] n k h l = rw (add-zero k) l
 decimal-lt (b ∷ s) n k h l =

@@ -1,0 +1,242 @@
+-- The shortest spelling: it is no longer than the text that was read, but for booleans, and a link keeps the rule for values at it.
+use Prim.Native.Nat.{ℕ, zero, suc, _+_, _-_, _*_, _/_, _^_, _≤_, _<_}
+use mathlib.Core.Path.{_≡_, refl, ap, sym, _∙_, subst}
+use mathlib.Core.List.{[], _∷_, _++_}
+use mathlib.Core.Bool.{Bool, true, false, cond, not, _&&_, _||_, true≢false, and-eq-true-iff}
+use mathlib.Core.Option.{Option, some, none}
+use native.Mathlib.Omega.{arith}
+use native.Mathlib.Nat.{pow-succ', zero-add, div-lt-iff-lt-mul}
+use lib.Dec.{leb, ltb, eqb}
+use lib.IntN.{ℤ, pos, negℤ}
+use lib.ListN.{length, getD, take, drop, length-append, length-take, length-drop, List·getD-append}
+use lib.Seq.{getD-append-add}
+use borrow.Author.Tests.{leb-true, ltb-true, lt-ltb, le-leb, not-true}
+use Rattle.text.specs.Bytes.{Bytes, bytes, same, any, all, isBlank, span, trim}
+use Rattle.text.specs.Class.{oneOf, isDigit, isNameByte, isValueByte, isOther}
+use Rattle.text.proofs.Laws.{any-append, all-append}
+use Rattle.text.proofs.Trim.{trim-le}
+use Rattle.values.specs.Names.{first, last, isName, isNamespace, isValue, Reference, bare, qualified, reference, isReference, Identifier, identifier}
+use Rattle.values.specs.Values.{number, boolean, string, Value, plain, link, mapOption, decimal, readDigits, readNumber, readBoolean, readLink, readConstant, readValue}
+use Rattle.values.specs.Spelling.{digitsWithin, digits, spellNumber, spellBoolean, spellIdentifier, spelling}
+use Rattle.values.specs.declared.Kind.{Kind}
+use Rattle.values.proofs.Numbers.{decimal-lt}
+
+-- What was read where a test had to pass, and what was read through a function.
+passed : {A : Type 0} (t : Bool) (a b : A) → cond t (some a) none ≡ some b → (t ≡ true) × (a ≡ b)
+passed true a b h = (refl, cc)
+passed false a b h = absurd (let l : _≡_ {A = ℕ} 0 1 = cc in omega arith)
+
+on-mapped : {A B : Type 0} (P : B → Type 0) (f : A → B) (o : Option A) (b : B) → ((a : A) → o ≡ some a → P (f a)) → mapOption f o ≡ some b → P b
+on-mapped P f none b h e = absurd (let l : _≡_ {A = ℕ} 0 1 = cc in omega arith)
+on-mapped P f (some a) b h e = let q : f a ≡ b = cc in subst P q (h a refl)
+
+-- What holds of what a text writes in each kind holds of the value that is read.
+module _
+    (P : Value → Type 0)
+    (s : Bytes)
+    (for-link : (i : Identifier) → readLink s ≡ some i → P (link i))
+    (for-number : (z : ℤ) → readNumber s ≡ some z → P (plain (number z)))
+    (for-boolean : (b : Bool) → readBoolean s ≡ some b → P (plain (boolean b)))
+    (for-string : P (plain (string s)))
+  where
+    pub of-read : (k : Kind) (v : Value) → readValue k s ≡ some v → P v
+    of-read Kind.Page v h = on-mapped P link (readLink s) v for-link h
+    of-read Kind.Number v h = on-mapped P plain (readConstant Kind.Number s) v (λ c. on-mapped (λ c. P (plain c)) number (readNumber s) c for-number) h
+    of-read Kind.Boolean v h = on-mapped P plain (readConstant Kind.Boolean s) v (λ c. on-mapped (λ c. P (plain c)) boolean (readBoolean s) c for-boolean) h
+    of-read Kind.String v h = let e : plain (string s) ≡ v = cc in subst P e for-string
+
+-- A number below 10^k has no more than k digits, but for 0, which has one.
+digits-within-le : (f n k : ℕ) → n < 10 ^ suc k → length (digitsWithin f n) ≤ suc k
+unfolding digitsWithin
+digits-within-le zero n k h = omega arith
+digits-within-le (suc f) n zero h = rw (lt-ltb n 10 h, digitsWithin) (omega arith)
+digits-within-le (suc f) n (suc k) h =
+    let d : n < 10 ^ suc k * 10 = omega (arith, pow-succ' 10 (suc k)) in
+    go (ltb n 10) refl (digits-within-le f (n / 10) k (div-lt-iff-lt-mul {k = 10} {x = n} {y = 10 ^ suc k} (omega arith) .1 d))
+  where
+    go : (t : Bool) → ltb n 10 ≡ t → length (digitsWithin f (n / 10)) ≤ suc k → length (digitsWithin (suc f) n) ≤ suc (suc k)
+    go true e l = rw (e, digitsWithin) (omega arith)
+    go false e l = rw (e, digitsWithin, length-append) (omega arith)
+
+-- Digits with and without zeros at the front.
+pub digits-le : (s : Bytes) (n : ℕ) → readDigits s ≡ some n → length (digits n) ≤ length s
+unfolding readDigits digits
+digits-le [] n h = absurd (let l : _≡_ {A = ℕ} 0 1 = cc in omega arith)
+digits-le (b ∷ s) n h =
+    let fit = leb 1 (length (b ∷ s)) && leb (length (b ∷ s)) 15 in
+    let t = passed (fit && all isDigit (b ∷ s)) (decimal 0 (b ∷ s)) n h in
+    let d = and-eq-true-iff fit (all isDigit (b ∷ s)) .0 (t .0) .1 in
+    digits-within-le (suc n) n (length s) (rw (zero-add, t .1) at (decimal-lt (b ∷ s) 0 0 d (omega arith)))
+
+pub spelled-number-le : (s : Bytes) (z : ℤ) → readNumber s ≡ some z → length (spellNumber z) ≤ length s
+unfolding readNumber spellNumber
+spelled-number-le [] z h = absurd (let l : _≡_ {A = ℕ} 0 1 = cc in omega arith)
+spelled-number-le (b ∷ s) z h = go (eqb b 45) h
+  where
+    minus : (n : ℕ) → length (digits n) ≤ length s → length (spellNumber (negℤ (pos n))) ≤ suc (length s)
+    minus zero l = omega arith
+    minus (suc n) l = omega arith
+
+    go : (t : Bool) → cond t (mapOption (λ n. negℤ (pos n)) (readDigits s)) (mapOption pos (readDigits (b ∷ s))) ≡ some z → length (spellNumber z) ≤ suc (length s)
+    go true e = on-mapped (λ z. length (spellNumber z) ≤ suc (length s)) (λ n. negℤ (pos n)) (readDigits s) z (λ n r. minus n (digits-le s n r)) e
+    go false e = on-mapped (λ z. length (spellNumber z) ≤ suc (length s)) pos (readDigits (b ∷ s)) z (digits-le (b ∷ s)) e
+
+-- `0` is four bytes shorter than `false`.
+pub spelled-boolean-le : (s : Bytes) (b : Bool) → readBoolean s ≡ some b → length (spellBoolean b) ≤ length s + 4
+unfolding readBoolean any same
+spelled-boolean-le [] b h = absurd (let l : _≡_ {A = ℕ} 0 1 = cc in omega arith)
+spelled-boolean-le (x ∷ s) true h = omega arith
+spelled-boolean-le (x ∷ s) false h = omega arith
+
+-- The reference that a link was read from.
+pub link-read : (s : Bytes) (i : Identifier) → readLink s ≡ some i → (isReference (reference s) ≡ true) × (identifier (reference s) ≡ i)
+unfolding readLink
+link-read s i h = passed _ (identifier (reference s)) i h
+
+-- A link has no more bytes than its namespace, a colon and its name.
+pub spelled-identifier-le : (i : Identifier) → length (spellIdentifier i) ≤ suc (length (i .namespace) + length (i .article))
+unfolding spellIdentifier
+spelled-identifier-le i = go (eqb (length (i .namespace)) 0)
+  where
+    go : (t : Bool) → length (cond t (i .article) (i .namespace ++ (58 ∷ i .article))) ≤ suc (length (i .namespace) + length (i .article))
+    go true = omega arith
+    go false = omega (arith, length-append (i .namespace) (58 ∷ i .article))
+
+-- Both sides trimmed.
+reference-le : (s : Bytes) → length (spellIdentifier (identifier (reference s))) ≤ length s
+unfolding reference spellIdentifier
+reference-le s = go (ltb (span (isOther 58) s) (length s)) refl
+  where
+    n : Bytes
+    n = trim (take (span (isOther 58) s) s)
+
+    x : Bytes
+    x = trim (drop (suc (span (isOther 58) s)) s)
+
+    go : (t : Bool) → ltb (span (isOther 58) s) (length s) ≡ t → length (spellIdentifier (identifier (cond t (qualified n x) (bare (trim s))))) ≤ length s
+    go true e =
+        omega (
+          arith,
+          ltb-true (span (isOther 58) s) (length s) e,
+          spelled-identifier-le (identifier (qualified n x)),
+          trim-le (take (span (isOther 58) s) s),
+          length-take (span (isOther 58) s) s,
+          trim-le (drop (suc (span (isOther 58) s)) s),
+          length-drop (suc (span (isOther 58) s)) s,
+        )
+    go false e = trim-le s
+
+pub spelled-link-le : (s : Bytes) (i : Identifier) → readLink s ≡ some i → length (spellIdentifier i) ≤ length s
+spelled-link-le s i h = subst (λ i. length (spellIdentifier i) ≤ length s) (link-read s i h .1) (reference-le s)
+
+pub spelled-le : (k : Kind) (s : Bytes) (v : Value) → readValue k s ≡ some v → length (spelling v) ≤ length s + 4
+unfolding spelling
+spelled-le k s =
+    of-read (λ v. length (spelling v) ≤ length s + 4) s (λ i e. omega (arith, spelled-link-le s i e)) (λ z e. omega (arith, spelled-number-le s z e))
+    (spelled-boolean-le s) (omega arith) k
+
+-- What the rule for names says.
+pub record Named (s : Bytes) : Type 0 where
+  pub filled : 1 ≤ length s
+  pub short : length s ≤ 64
+  pub among : all isNameByte s ≡ true
+  pub unmarked : oneOf "!~+" (first s) ≡ false
+  pub begun : isBlank (first s) ≡ false
+  pub ended : isBlank (last s) ≡ false
+
+pub name-keeps : (s : Bytes) → isName s ≡ true → Named s
+unfolding isName
+name-keeps s h =
+    let e = and-eq-true-iff _ (not (isBlank (last s))) .0 h in
+    let f = and-eq-true-iff _ (not (isBlank (first s))) .0 (e .0) in
+    let m = and-eq-true-iff _ (not (oneOf "!~+" (first s))) .0 (f .0) in
+    let b = and-eq-true-iff _ (all isNameByte s) .0 (m .0) in
+    let l = and-eq-true-iff (leb 1 (length s)) (leb (length s) 64) .0 (b .0) in
+    record {
+      filled = leb-true 1 (length s) (l .0);
+      short = leb-true (length s) 64 (l .1);
+      among = b .1;
+      unmarked = not-true _ (m .1);
+      begun = not-true _ (f .1);
+      ended = not-true _ (e .1);
+    }
+
+-- The rule for values, from its parts, and its length.
+module _ (s : Bytes) (filled : 1 ≤ length s) (short : length s ≤ 64) where
+  pub value-made : all isValueByte s ≡ true → eqb (first s) 126 ≡ false → isBlank (first s) ≡ false → isBlank (last s) ≡ false → isValue s ≡ true
+  unfolding isValue
+  value-made b t f e = rw (le-leb 1 (length s) filled, le-leb (length s) 64 short, b, t, f, e)
+
+pub value-short : (s : Bytes) → isValue s ≡ true → length s ≤ 64
+unfolding isValue
+value-short s h =
+    let e = and-eq-true-iff _ (not (isBlank (last s))) .0 h in
+    let f = and-eq-true-iff _ (not (isBlank (first s))) .0 (e .0) in
+    let t = and-eq-true-iff _ (not (eqb (first s) 126)) .0 (f .0) in
+    let b = and-eq-true-iff _ (all isValueByte s) .0 (t .0) in
+    leb-true (length s) 64 (and-eq-true-iff (leb 1 (length s)) (leb (length s) 64) .0 (b .0) .1)
+
+-- A name's bytes may stand in a value.
+neither : (a b : Bool) → a || b ≡ false → (a ≡ false) × (b ≡ false)
+neither true b h = absurd (true≢false h)
+neither false b h = (refl, h)
+
+name-byte : (b : ℕ) → isNameByte b ≡ true → isValueByte b ≡ true
+unfolding isNameByte isValueByte
+name-byte b h =
+    let t = and-eq-true-iff (leb 32 b && not (eqb b 127)) (not (oneOf "[]|<>:#{}_\"" b)) .0 h in
+    let u : any (eqb b) (bytes "[]|<>" ++ (bytes ":#{}_" ++ bytes "\"")) ≡ false = not-true _ (t .1) in
+    let v = neither (any (eqb b) (bytes "[]|<>")) _ (sym (any-append (eqb b) (bytes "[]|<>") (bytes ":#{}_" ++ bytes "\"")) ∙ u) in
+    let w = neither (any (eqb b) (bytes ":#{}_")) (any (eqb b) (bytes "\"")) (sym (any-append (eqb b) (bytes ":#{}_") (bytes "\"")) ∙ v .1) in
+    let n : oneOf "[]|<>\"" b ≡ false = any-append (eqb b) (bytes "[]|<>") (bytes "\"") ∙ rw (v .0, w .1) in
+    rw (t .0, n)
+
+all-name-bytes : (s : Bytes) → all isNameByte s ≡ true → all isValueByte s ≡ true
+unfolding all
+all-name-bytes [] h = refl
+all-name-bytes (b ∷ s) h =
+    let t = and-eq-true-iff (isNameByte b) (all isNameByte s) .0 h in rw (name-byte b (t .0), all-name-bytes s (t .1))
+
+no-tilde : (b : ℕ) → oneOf "!~+" b ≡ false → eqb b 126 ≡ false
+unfolding any
+no-tilde b h = neither (eqb b 126) _ (neither (eqb b 33) _ h .1) .0
+
+pub name-is-value : (s : Bytes) → isName s ≡ true → isValue s ≡ true
+name-is-value s h =
+    let n = name-keeps s h in
+    value-made s (n .filled) (n .short) (all-name-bytes s (n .among)) (no-tilde (first s) (n .unmarked)) (n .begun) (n .ended)
+
+-- A namespace, a colon and a name.
+qualified-is-value : (n x : Bytes) → isName n ≡ true → isName x ≡ true → length (n ++ (58 ∷ x)) ≤ 64 → isValue (n ++ (58 ∷ x)) ≡ true
+unfolding all any isValueByte
+qualified-is-value n x h k l =
+    let a = name-keeps n h in
+    let b = name-keeps x k in
+    let p = length-append n (58 ∷ x) in
+    let f : first (n ++ (58 ∷ x)) ≡ first n = List·getD-append n (58 ∷ x) 0 0 (a .filled) in
+    let q : length (n ++ (58 ∷ x)) - 1 ≡ length n + suc (length x - 1) = omega (arith, b .filled) in
+    let e : last (n ++ (58 ∷ x)) ≡ last x = ap (λ i. getD (n ++ (58 ∷ x)) i 0) q ∙ getD-append-add n (58 ∷ x) (suc (length x - 1)) 0 in
+    value-made (n ++ (58 ∷ x)) (omega arith) l
+    (all-append isValueByte n (58 ∷ x) ∙ rw (all-name-bytes n (a .among), all-name-bytes x (b .among)))
+    (ap (λ b. eqb b 126) f ∙ no-tilde (first n) (a .unmarked))
+    (ap isBlank f ∙ a .begun)
+    (ap isBlank e ∙ b .ended)
+
+pub spelled-is-value : (i : Identifier) → isNamespace (i .namespace) && isName (i .article) ≡ true → length (spellIdentifier i) ≤ 64 → isValue (spellIdentifier i) ≡ true
+unfolding spellIdentifier isNamespace
+spelled-is-value i h l =
+    let t = and-eq-true-iff (isNamespace (i .namespace)) (isName (i .article)) .0 h in
+    go (eqb (length (i .namespace)) 0) (t .0) (t .1) l
+  where
+    spelled : Bool → Bytes
+    spelled t = cond t (i .article) (i .namespace ++ (58 ∷ i .article))
+
+    go : (t : Bool) → t || isName (i .namespace) ≡ true → isName (i .article) ≡ true → length (spelled t) ≤ 64 → isValue (spelled t) ≡ true
+    go true n x l = name-is-value (i .article) x
+    go false n x l = qualified-is-value (i .namespace) (i .article) n x l
+
+-- The parts of a reference that is one keep their rules.
+pub reference-keeps : (r : Reference) → isReference r ≡ true → isNamespace (identifier r .namespace) && isName (identifier r .article) ≡ true
+unfolding isNamespace
+reference-keeps (bare x) h = h
+reference-keeps (qualified n x) h = h
