@@ -1,0 +1,6 @@
+pub mod Canonical
+pub mod Ranks
+pub mod Members
+pub mod Orders
+pub mod Listings
+pub mod Numbers
