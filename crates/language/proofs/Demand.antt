@@ -9,8 +9,7 @@ use lib.Dec.{ltb}
 use Rattle.text.specs.Bytes.{Bytes, any, all}
 use Rattle.values.specs.declared.Kind.{Kind}
 use Rattle.language.specs.Answer.{Answer, refused, accepted, andThen, found}
-use Rattle.language.specs.Register.{Register, Typing, kindsOf, Sound}
-use Rattle.language.specs.RegisterText.{readRegister}
+use Rattle.language.specs.Register.{Register, Typing, kindsOf, kindsHold}
 use Rattle.language.specs.Surface.{Query, propertiesOf}
 use Rattle.language.specs.QueryText.{readText}
 use Rattle.language.specs.Core.{Core, nodes}
@@ -20,7 +19,7 @@ use Rattle.language.specs.Direct.{means, meansAnswer, meaning, directMar
 use Rattle.language.specs.Agreement.{agree, kindsAgree, answerAgrees, textAgrees}
 use Rattle.language.specs.Calls.{coreOf}
 use Rattle.language.proofs.Members.{both-true}
-use Rattle.language.proofs.Registers.{accepted-sound, sameKind-refl}
+use Rattle.language.proofs.Registers.{sameKind-refl}
 use Rattle.language.proofs.Agreement.{agreement}
 use Rattle.language.proofs.Typed.{elaborated-typed}
 
@@ -54,12 +53,12 @@ own-kinds R q = each (propertiesOf q)
     each [] = refl
     each (x ∷ l) = both-true (same-kind (kindsOf R x)) (each l)
 
--- Any query text accepted against a register, run on a register that a text gives and whose kinds agree: the run is accepted,
--- and its marks are those of the direct meaning of the text.
-pub text-agreement : (s : Bytes) (R : Register) (c : Core) (t : Bytes) (W : Register) → coreOf R s ≡ accepted c → readRegister t ≡ accepted W → textAgrees (kindsOf R) W s ≡ true → run c W ≡ accepted (directMarks s W)
+-- Any query text accepted against a register, run on a register whose values have their properties' kinds, and whose kinds agree: the
+-- run is accepted, and its marks are those of the direct meaning of the text.
+pub text-agreement : (s : Bytes) (R : Register) (c : Core) (W : Register) → coreOf R s ≡ accepted c → kindsHold W ≡ true → textAgrees (kindsOf R) W s ≡ true → run c W ≡ accepted (directMarks s W)
 unfolding coreOf meaning textAgrees
-text-agreement s R c t W h e g = go (readText s) h g
+text-agreement s R c W h e g = go (readText s) h g
   where
     go : (a : Answer Query) → andThen a (fit (kindsOf R)) ≡ accepted c → answerAgrees (kindsOf R) W a ≡ true → run c W ≡ accepted (map (meansAnswer a W) (W .pages))
     go (refused n) h g = absurd (let y : _≡_ {A = ℕ} 0 1 = cc in omega arith)
-    go (accepted q) h g = agreement q (kindsOf R) c W (fitted-is (kindsOf R) q c h) (accepted-sound t W e .kinds) g
+    go (accepted q) h g = agreement q (kindsOf R) c W (fitted-is (kindsOf R) q c h) e g

@@ -24,6 +24,7 @@ use Rattle.language.specs.Direct.{meaning, directMarks}
 use Rattle.language.specs.Agreement.{answerAgrees, textAgrees}
 use Rattle.language.specs.Calls.{coreOf}
 use Rattle.language.proofs.Demand.{fitted-is, own-kinds, text-agreement}
+use Rattle.language.proofs.Registers.{accepted-sound}
 use Rattle.language.proofs.Mixing.{mixed-free}
 use Rattle.held.specs.Form.{registerSize, formOf}
 use Rattle.register.specs.Held.{heldRegister, registerCall, leftIn}
@@ -195,7 +196,7 @@ pub third : (t u s : Bytes) (R W : Register) → readRegister t ≡ accepted R �
     → AskCall q' k' b after r → ThirdDemand q' s W b after r
 third t u s R W e p h h' k k' q q' b after r one two fits agrees long asks =
     let c = query-stores h' s q q' R fits (register-stores t h h' R one e) in
-    let run : run (c .0) W ≡ accepted (directMarks s W) = text-agreement s R (c .0) u W (c .1) p agrees in
+    let run : run (c .0) W ≡ accepted (directMarks s W) = text-agreement s R (c .0) W (c .1) (accepted-sound u W p .kinds) agrees in
     let room : ltb (length b) (length (W .pages)) ≡ false = le-ltb (length b) (length (W .pages)) long in
     let is : askCall q' k' b ≡ accepted (directMarks s W) = asked-is q' k' b (c .0) W (c .2) (register-stores u k k' W two p) ∙ rw (run, room) in
     let left : after ≡ map bit (directMarks s W) ++ drop (length (directMarks s W)) b = asks .buffer ∙ ap (marksIn b) is in
