@@ -1,0 +1,26 @@
+use Rattle.register_form.proofs.Ways.{reading}
+use borrow.Author.Needs.{needs}
+use Rattle.register_form.proofs.form_at.Statement.{statement}
+use Rattle.register_form.proofs.form_at.Tie as tie
+use Rattle.register_form.proofs.form_at.Reads as reads
+use Rattle.register_form.proofs.form_at.Lts as lts
+use Rattle.register_form.proofs.two_at.Reads as two-at-reads
+use Rattle.register_form.proofs.widen.Reads as widen-reads
+
+widen-requires : tie.Need-widen-requires
+widen-requires c κs = search needs
+
+mul-two-at : tie.Need-mul-two-at
+mul-two-at c = search needs
+
+add-two-at : tie.Need-add-two-at
+add-two-at c = search needs
+
+two-at-requires : tie.Need-two-at-requires
+two-at-requires c κs = search needs
+
+returns : tie.Need-returns
+returns c = search (reading, needs)
+
+pub form-at-spec : {M : Type 1} → statement M
+form-at-spec = tie.close (tie.spec widen-requires mul-two-at add-two-at two-at-requires returns)

@@ -1,0 +1,27 @@
+use Rattle.register_form.proofs.Ways.{reading}
+use borrow.Author.Needs.{needs}
+use Rattle.register_form.proofs.group_at.Statement.{statement}
+use Rattle.register_form.proofs.group_at.Tie as tie
+use Rattle.register_form.proofs.group_at.Reads as reads
+use Rattle.register_form.proofs.group_at.Lts as lts
+use Rattle.register_form.proofs.widen.Reads as widen-reads
+use Rattle.text.proofs.byte_at.Reads as byte-at-reads
+
+widen-requires : tie.Need-widen-requires
+widen-requires c κs = search needs
+
+mul-byte-at : tie.Need-mul-byte-at
+mul-byte-at c = search needs
+
+add-byte-at : tie.Need-add-byte-at
+add-byte-at c = search needs
+
+byte-at-requires : tie.Need-byte-at-requires
+byte-at-requires c κs = search needs
+
+returns : tie.Need-returns
+returns c = search (reading, needs)
+
+pub group-at-spec : {M : Type 1} → statement M
+group-at-spec =
+    tie.close (tie.spec widen-requires mul-byte-at add-byte-at byte-at-requires returns)

@@ -1,0 +1,21 @@
+use borrow.Author.Needs.{needs}
+use Rattle.register_form.proofs.Digits.{lengths}
+use Rattle.register_form.proofs.spelled.few_digits.Statement.{statement}
+use Rattle.register_form.proofs.spelled.few_digits.Tie as tie
+use Rattle.register_form.proofs.spelled.few_digits.Reads as reads
+use Rattle.register_form.proofs.spelled.few_digits.Lts as lts
+
+returns : tie.Need-returns
+returns c = search (lengths, needs)
+
+returns-2 : tie.Need-returns-2
+returns-2 c = search (lengths, needs)
+
+returns-3 : tie.Need-returns-3
+returns-3 c = search (lengths, needs)
+
+returns-4 : tie.Need-returns-4
+returns-4 c = search (lengths, needs)
+
+pub few-digits-spec : {M : Type 1} → statement M
+few-digits-spec = tie.close (tie.spec returns returns-2 returns-3 returns-4)

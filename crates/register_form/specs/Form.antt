@@ -1,0 +1,111 @@
+-- The held register: a dictionary in 63,628 bytes. docs/LAYOUT.md has the table.
+use Prim.Native.Nat.{ℕ, suc, _+_, _*_, _-_}
+use mathlib.Core.Bool.{Bool, cond, _&&_}
+use lib.Dec.{eqb}
+use mathlib.Core.List.{List, [], _∷_, _++_, map, flatMap}
+use mathlib.Core.Option.{Option, some}
+use lib.ListN.{length, getD, take}
+use Rattle.text.specs.Bytes.{Bytes, part, same}
+use Rattle.text.specs.Table.{tabulate}
+use Rattle.values.specs.declared.Kind.{Kind}
+use Rattle.language.specs.Answer.{onlyIf}
+use Rattle.language.specs.Register.{Register}
+use Rattle.language.specs.Rules.{isRegister}
+use Rattle.register_form.specs.Numbers.{twoBytes, twoAt, padded, startsFrom}
+use Rattle.register_form.specs.Dictionary.{PropertyRow, PageRow, Dictionary, decode}
+use Rattle.register_form.specs.Encoding.{encode}
+
+abbrev pub registerSize : ℕ
+registerSize = 63628
+
+abbrev pub kindCode : Kind → ℕ
+kindCode Kind.Page = 0
+kindCode Kind.Number = 1
+kindCode Kind.Boolean = 2
+kindCode Kind.String = 3
+
+abbrev pub formsOf : PageRow → List ℕ
+formsOf p = p .forms
+
+-- Byte strings one behind the other.
+abbrev pub joined : List Bytes → Bytes
+joined l = flatMap (λ t. t) l
+
+-- What each region holds.
+unfoldable pub countBytes : Dictionary → Bytes
+countBytes d = twoBytes (length (d .properties)) ++ twoBytes (length (d .pages)) ++ twoBytes (length (d .terms)) ++ twoBytes (length (d .texts))
+
+unfoldable pub propertyBytes : PropertyRow → Bytes
+propertyBytes p = kindCode (p .kind) ∷ twoBytes (p .name)
+
+unfoldable pub numberBytes : List ℕ → Bytes
+numberBytes l = flatMap twoBytes l
+
+-- The bytes of a dictionary.
+unfoldable pub bytesOf : Dictionary → Bytes
+bytesOf d =
+    countBytes d
+    ++ (padded 192 (flatMap propertyBytes (d .properties))
+    ++ (padded 512 (numberBytes (map (λ p. p .identifier) (d .pages)))
+    ++ (padded 514 (numberBytes (startsFrom 0 (map formsOf (d .pages))))
+    ++ (padded 4096 (numberBytes (flatMap formsOf (d .pages)))
+    ++ (padded 18432 (joined (d .terms))
+    ++ (padded 4738 (numberBytes (startsFrom 0 (d .texts)))
+    ++ padded 35136 (joined (d .texts))))))))
+
+-- The form of a register.
+unfoldable pub formOf : Register → Bytes
+formOf R = bytesOf (encode R)
+
+-- What bytes hold, whatever they are. A kind's byte above 3 is read as 3.
+unfoldable pub kindFrom : ℕ → Kind
+kindFrom n = cond (eqb n 0) Kind.Page (cond (eqb n 1) Kind.Number (cond (eqb n 2) Kind.Boolean Kind.String))
+
+module _ (h : Bytes) where
+  unfoldable pub propertyAt : ℕ → PropertyRow
+  propertyAt i = record { kind = kindFrom (getD h (8 + 3 * i) 0); name = twoAt h (9 + 3 * i) }
+
+  -- Where the forms of page i begin, among all forms.
+  unfoldable pub formStart : ℕ → ℕ
+  formStart i = twoAt h (712 + 2 * i)
+
+  unfoldable pub formAt : ℕ → ℕ
+  formAt j = twoAt h (1226 + 2 * j)
+
+  unfoldable pub pageAt : ℕ → PageRow
+  pageAt i =
+      record {
+        identifier = twoAt h (200 + 2 * i);
+        forms = tabulate (formStart (suc i) - formStart i) (λ j. formAt (formStart i + j));
+      }
+
+  unfoldable pub termAt : ℕ → Bytes
+  termAt i = part h (5322 + 9 * i) 9
+
+  -- Where text i begins, among the bytes of all texts.
+  unfoldable pub textStart : ℕ → ℕ
+  textStart i = twoAt h (23754 + 2 * i)
+
+  unfoldable pub textAt : ℕ → Bytes
+  textAt i = part h (28492 + textStart i) (textStart (suc i) - textStart i)
+
+  unfoldable pub dictionaryIn : Dictionary
+  dictionaryIn =
+      record {
+        properties = tabulate (twoAt h 0) propertyAt;
+        pages = tabulate (twoAt h 2) pageAt;
+        terms = tabulate (twoAt h 4) termAt;
+        texts = tabulate (twoAt h 6) textAt;
+      }
+
+  -- The register that bytes describe, whatever they are.
+  unfoldable pub registerIn : Register
+  registerIn = decode dictionaryIn
+
+-- The bytes are the form of the register that they describe, and it is one.
+unfoldable pub isForm : Bytes → Bool
+isForm h = isRegister (registerIn h) && same h (formOf (registerIn h))
+
+-- "A held input is its first bytes of that size, and a shorter one is a form of nothing": the register whose form they are.
+unfoldable pub heldRegister : Bytes → Option Register
+heldRegister h = onlyIf (isForm (take registerSize h)) (some (registerIn (take registerSize h)))

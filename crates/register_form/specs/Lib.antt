@@ -1,0 +1,8 @@
+pub mod Numbers
+pub mod Dictionary
+pub mod Encoding
+pub mod Form
+pub mod Tests
+pub mod Opened
+pub mod Draft
+pub mod Tables

@@ -1,0 +1,214 @@
+// The held register: reading its rows. Every number is one of 16 bits, so that no place overflows; what lies behind the bytes is 0.
+ghost use mathlib.Core.Path.{_≡_};
+ghost use lib.ListN.{getD};
+ghost use Prim.Native.Nat.{suc, _+_, _*_, _-_};
+ghost use Rattle.register_form.specs.Numbers.{twoAt, eightAt};
+ghost use Rattle.register_form.specs.Dictionary.{spaceOf, nameOf, groupOf, codeOf};
+ghost use Rattle.register_form.specs.Form.{kindFrom, propertyAt, pageAt, formStart, formAt, termAt, textStart, textAt};
+
+pub mod spelled; // spelled.rt: how long a number is, spelled
+
+use text::byte_at;
+use text::part;
+use values::Kind;
+
+// How many bytes a held register has.
+pub const REGISTER_BYTES: usize = 63628;
+
+// Numbers as wider ones.
+pub fn widen(x: u16) -> usize
+    ensures { λ r. ⌜ r ≡ x ⌝ }
+{
+    x as usize
+}
+
+pub fn wide(b: u8) -> u16
+    ensures { λ r. ⌜ r ≡ b ⌝ }
+{
+    b as u16
+}
+
+pub fn long(x: u16) -> u64
+    ensures { λ r. ⌜ r ≡ x ⌝ }
+{
+    x as u64
+}
+
+// The number in two bytes, and in eight.
+pub fn two_at(h: &[u8], i: usize) -> u16
+    ensures { λ r. ⌜ r ≡ twoAt (now (h .entry)) i ⌝ }
+{
+    if h.len() <= i {
+        return 0;
+    }
+    let low = wide(byte_at(h, i));
+    let high = wide(byte_at(h, i + 1));
+    low + 256 * high
+}
+
+pub fn eight_at(h: &[u8], i: usize) -> u64
+    ensures { λ r. ⌜ r ≡ eightAt (now (h .entry)) i ⌝ }
+{
+    if h.len() <= i {
+        return 0;
+    }
+    let a = long(two_at(h, i));
+    let b = long(two_at(h, i + 2));
+    let c = long(two_at(h, i + 4));
+    let d = long(two_at(h, i + 6));
+    a + 65536 * (b + 65536 * (c + 65536 * d))
+}
+
+// How many properties, pages, terms and texts there are.
+pub fn property_count(h: &[u8]) -> u16
+    ensures { λ r. ⌜ r ≡ twoAt (now (h .entry)) 0 ⌝ }
+{
+    two_at(h, 0)
+}
+
+pub fn page_count(h: &[u8]) -> u16
+    ensures { λ r. ⌜ r ≡ twoAt (now (h .entry)) 2 ⌝ }
+{
+    two_at(h, 2)
+}
+
+pub fn term_count(h: &[u8]) -> u16
+    ensures { λ r. ⌜ r ≡ twoAt (now (h .entry)) 4 ⌝ }
+{
+    two_at(h, 4)
+}
+
+pub fn text_count(h: &[u8]) -> u16
+    ensures { λ r. ⌜ r ≡ twoAt (now (h .entry)) 6 ⌝ }
+{
+    two_at(h, 6)
+}
+
+// The byte of property p's kind, and the kind; the number of the text that is its name.
+pub fn kind_byte(h: &[u8], p: u16) -> u8
+    ensures { λ r. ⌜ r ≡ getD (now (h .entry)) (8 + 3 * p) 0 ⌝ }
+{
+    byte_at(h, 8 + 3 * widen(p))
+}
+
+// The kind that a byte tells.
+pub fn kind_from(b: u8) -> Kind
+    ensures { λ r. ⌜ r ≡ kindFrom b ⌝ }
+{
+    if b == 0 {
+        return Kind::Page;
+    }
+    if b == 1 {
+        return Kind::Number;
+    }
+    if b == 2 { Kind::Boolean } else { Kind::String }
+}
+
+pub fn kind_at(h: &[u8], p: u16) -> Kind
+    ensures { λ r. ⌜ r ≡ propertyAt (now (h .entry)) p .kind ⌝ }
+{
+    kind_from(kind_byte(h, p))
+}
+
+pub fn name_number(h: &[u8], p: u16) -> u16
+    ensures { λ r. ⌜ r ≡ propertyAt (now (h .entry)) p .name ⌝ }
+{
+    two_at(h, 9 + 3 * widen(p))
+}
+
+// The number of the text that is page i's identifier; where its forms begin, and where they end.
+pub fn identifier_number(h: &[u8], i: u16) -> u16
+    ensures { λ r. ⌜ r ≡ pageAt (now (h .entry)) i .identifier ⌝ }
+{
+    two_at(h, 200 + 2 * widen(i))
+}
+
+pub fn form_start(h: &[u8], i: u16) -> u16
+    ensures { λ r. ⌜ r ≡ formStart (now (h .entry)) i ⌝ }
+{
+    two_at(h, 712 + 2 * widen(i))
+}
+
+pub fn form_end(h: &[u8], i: u16) -> u16
+    ensures { λ r. ⌜ r ≡ formStart (now (h .entry)) (suc i) ⌝ }
+{
+    two_at(h, 714 + 2 * widen(i))
+}
+
+// The number of the term that form j is.
+pub fn form_at(h: &[u8], j: u16) -> u16
+    ensures { λ r. ⌜ r ≡ formAt (now (h .entry)) j ⌝ }
+{
+    two_at(h, 1226 + 2 * widen(j))
+}
+
+// The bytes of term f, its group and its code.
+pub fn term_at(h: &[u8], f: u16) -> &[u8]
+    ensures { λ r. ⌜ now r ≡ termAt (now (h .entry)) f ⌝ }
+{
+    part(h, 5322 + 9 * widen(f), 9)
+}
+
+pub fn group_at(h: &[u8], f: u16) -> u8
+    ensures { λ r. ⌜ r ≡ groupOf (termAt (now (h .entry)) f) ⌝ }
+{
+    byte_at(h, 5322 + 9 * widen(f))
+}
+
+pub fn code_at(h: &[u8], f: u16) -> u64
+    ensures { λ r. ⌜ r ≡ codeOf (termAt (now (h .entry)) f) ⌝ }
+{
+    eight_at(h, 5323 + 9 * widen(f))
+}
+
+// Where text x begins among the bytes of all texts, and where it ends.
+pub fn text_start(h: &[u8], x: u16) -> u16
+    ensures { λ r. ⌜ r ≡ textStart (now (h .entry)) x ⌝ }
+{
+    two_at(h, 23754 + 2 * widen(x))
+}
+
+pub fn text_end(h: &[u8], x: u16) -> u16
+    ensures { λ r. ⌜ r ≡ textStart (now (h .entry)) (suc x) ⌝ }
+{
+    two_at(h, 23756 + 2 * widen(x))
+}
+
+// How far b lies behind a, 0 where it does not.
+pub fn minus(b: u16, a: u16) -> u16
+    ensures { λ r. ⌜ r ≡ b - a ⌝ }
+{
+    if a <= b { b - a } else { 0 }
+}
+
+// Text x, its namespace and its name.
+pub fn text_at(h: &[u8], x: u16) -> &[u8]
+    ensures { λ r. ⌜ now r ≡ textAt (now (h .entry)) x ⌝ }
+{
+    let start = text_start(h, x);
+    part(h, 28492 + widen(start), widen(minus(text_end(h, x), start)))
+}
+
+fn space_of(t: &[u8]) -> &[u8]
+    ensures { λ r. ⌜ now r ≡ spaceOf (now (t .entry)) ⌝ }
+{
+    part(t, 1, widen(wide(byte_at(t, 0))))
+}
+
+fn name_of(t: &[u8]) -> &[u8]
+    ensures { λ r. ⌜ now r ≡ nameOf (now (t .entry)) ⌝ }
+{
+    part(t, 1 + widen(wide(byte_at(t, 0))), t.len())
+}
+
+pub fn space_at(h: &[u8], x: u16) -> &[u8]
+    ensures { λ r. ⌜ now r ≡ spaceOf (textAt (now (h .entry)) x) ⌝ }
+{
+    space_of(text_at(h, x))
+}
+
+pub fn name_at(h: &[u8], x: u16) -> &[u8]
+    ensures { λ r. ⌜ now r ≡ nameOf (textAt (now (h .entry)) x) ⌝ }
+{
+    name_of(text_at(h, x))
+}
