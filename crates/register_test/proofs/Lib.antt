@@ -1,0 +1,15 @@
+pub mod Loops
+pub mod Tabled
+pub mod Classes
+pub mod Known
+pub mod Judging
+pub mod TermsTold
+pub mod PagesTold
+pub mod Placed
+pub mod Counting
+pub mod Verdict
+pub mod Trying
+pub mod Ways
+pub mod TextWays
+pub mod TermWays
+pub mod PageWays

@@ -1,0 +1,86 @@
+-- What the functions on texts and properties answer, by what they called.
+use Prim.Native.Nat.{ℕ, zero, suc, _+_, _-_}
+use mathlib.Core.Path.{_≡_, refl, _∙_}
+use mathlib.Core.Bool.{Bool, true, false, _&&_}
+use mathlib.Core.List.{List}
+use native.Mathlib.Omega.{arith}
+use lib.Dec.{ltb, eqb}
+use lib.ListN.{length, getD}
+use Rattle.text.specs.Bytes.{Bytes, orderOf}
+use Rattle.text.specs.declared.Order.{Order}
+use Rattle.values.specs.Names.{isName, isNamespace, isPropertyName, isValue}
+use Rattle.language.specs.Rules.{isIdentifier}
+use Rattle.sorting.specs.Ascending.{isLess}
+use Rattle.register_form.specs.Numbers.{twoAt}
+use Rattle.register_form.specs.Dictionary.{spaceOf, nameOf}
+use Rattle.register_form.specs.Form.{textStart, textAt}
+use Rattle.register_form.specs.Tests.{allTo, isLabelled, isPlain}
+use Rattle.register_test.specs.Loops.{sumTo, climbs}
+use Rattle.register_test.specs.Stages.{classOf, textTest, textLength, nameNumber, propertyOk, namesTo, propertyTest, propertyLength}
+use Rattle.register_test.proofs.Loops.{all-more, sum-more}
+
+pub labelled-is : (t : Bytes) (a b : ℕ) → a ≡ getD t 0 0 → b ≡ a → ltb b (length t) ≡ isLabelled t
+unfolding isLabelled
+labelled-is t a b e f = rw (f, e)
+
+module _ (f : ℕ → Bytes) where
+  pub climbs-first : (i : ℕ) → i ≡ 0 → true ≡ climbs f i
+  unfolding climbs
+  climbs-first i e = rw (e, climbs)
+
+  climbs-at : (i : ℕ) → (i ≡ 0 → ⊥) → isLess (orderOf (f (i - 1)) (f i)) ≡ climbs f i
+  unfolding climbs
+  climbs-at zero n = absurd (n refl)
+  climbs-at (suc i) n = let m : suc i - 1 ≡ i = omega arith in rw m
+
+  pub climbs-on : (i : ℕ) (s t : Bytes) (o : Order) (r : Bool) → (i ≡ 0 → ⊥) → s ≡ f (i - 1) → t ≡ f i → o ≡ orderOf s t → r ≡ isLess o → r ≡ climbs f i
+  climbs-on i s t o r n e k m q = q ∙ rw (m, e, k) (climbs-at i n)
+
+module _ (h : Bytes) (x : ℕ) where
+  pub plain-is : (t : Bytes) (b : ℕ) → t ≡ textAt h x → b ≡ getD t 0 0 → eqb b 0 ≡ isPlain (textAt h x)
+  plain-is t b e f = rw (f, e)
+
+  pub text-tested : (t : Bytes) (a b : Bool) → t ≡ textAt h x → a ≡ isLabelled t → b ≡ climbs (textAt h) x → (a && b) ≡ textTest h x
+  unfolding textTest
+  text-tested t a b e f g = rw (f, g, e)
+
+  module _ (n : Bytes) (p a : Bool) (e : n ≡ nameOf (textAt h x)) (f : p ≡ isPlain (textAt h x)) (g : a ≡ isName n) where
+    pub class-name : p ≡ true → a ≡ true → 2 ≡ classOf (textAt h x)
+    unfolding classOf
+    class-name k l = rw (← f, k, ← e, ← g, l)
+
+    pub class-value : (v : Bool) → p ≡ true → a ≡ false → v ≡ isValue n → v ≡ true → 1 ≡ classOf (textAt h x)
+    unfolding classOf
+    class-value v k l m q = rw (← f, k, ← e, ← g, l, ← m, q)
+
+    pub class-none : (v : Bool) → p ≡ true → a ≡ false → v ≡ isValue n → v ≡ false → 0 ≡ classOf (textAt h x)
+    unfolding classOf
+    class-none v k l m q = rw (← f, k, ← e, ← g, l, ← m, q)
+
+    pub class-spaced : (s : Bytes) (b : Bool) → p ≡ false → s ≡ spaceOf (textAt h x) → b ≡ isNamespace s → (b && a) ≡ true → 3 ≡ classOf (textAt h x)
+    unfolding classOf isIdentifier
+    class-spaced s b k l m q = rw (← f, k, ← e, ← g, ← l, ← m, q)
+
+    pub class-other : (s : Bytes) (b : Bool) → p ≡ false → s ≡ spaceOf (textAt h x) → b ≡ isNamespace s → (b && a) ≡ false → 0 ≡ classOf (textAt h x)
+    unfolding classOf isIdentifier
+    class-other s b k l m q = rw (← f, k, ← e, ← g, ← l, ← m, q)
+
+  pub length-is : (a b r : ℕ) → a ≡ textStart h (suc x) → b ≡ textStart h x → r ≡ a - b → r ≡ textLength h x
+  unfolding textLength
+  length-is a b r e f g = g ∙ rw (e, f)
+
+  pub property-is : (used : List ℕ) (n w u : ℕ) (m : Bytes) (p q : Bool) → n ≡ twoAt h 6 → p ≡ isPlain (textAt h x) → m ≡ nameOf (textAt h x) → q ≡ isPropertyName m → w ≡ x → u ≡ getD used w 0 → (ltb x n && p && q && eqb u 0) ≡ propertyOk h used x
+  unfolding propertyOk
+  property-is used n w u m p q e f g j k l = rw (e, f, j, g, l, k)
+
+module _ (h : Bytes) (p x : ℕ) (e : x ≡ nameNumber h p) where
+  pub property-more : (used u : List ℕ) (ok t : Bool) → ok ≡ allTo p (propertyTest h used) → u ≡ namesTo h p used → t ≡ propertyOk h u x → (ok && t) ≡ allTo (p + 1) (propertyTest h used)
+  unfolding propertyTest
+  property-more used u ok t f g k = all-more (propertyTest h used) p ok t f (k ∙ rw (g, e))
+
+  pub property-sum : (n w s : ℕ) → s ≡ sumTo p (propertyLength h) → n ≡ textLength h x - 1 → w ≡ n → s + w ≡ sumTo (p + 1) (propertyLength h)
+  unfolding propertyLength
+  property-sum n w s f g k = sum-more (propertyLength h) p s w f (k ∙ g ∙ rw e)
+
+pub ruleset texts =
+    (labelled-is, climbs-first, climbs-on, plain-is, text-tested, class-name, class-value, class-none, class-spaced, class-other, length-is, property-is, property-more, property-sum)

@@ -1,0 +1,68 @@
+use Prim.Native.Nat.{_≤_, _-_}
+use mathlib.Core.Path.{_≡_}
+use Rattle.register_form.specs.Tests.{allTo}
+use Rattle.register_test.proofs.Loops.{all-more, written-more}
+use Rattle.register_test.specs.Stages.{textTest, classesTo}
+use native.Mathlib.Omega.{arith}
+use borrow.Author.Needs.{needs}
+use Rattle.register_test.proofs.Loops.{loops}
+use Rattle.register_test.proofs.TextWays.{texts}
+use Rattle.register_test.proofs.texts.texts_ok.Statement.{statement}
+use Rattle.register_test.proofs.texts.texts_ok.Tie as tie
+
+abbrev Inv-loop : tie.InvT-loop
+Inv-loop h classes₀ n ok₀ x₀ classes ok x = (x ≤ n) × (ok ≡ allTo x (textTest h)) × (classes ≡ classesTo h x classes₀)
+
+abbrev μ-loop : tie.MeasureT-loop
+μ-loop h classes₀ n ok₀ x₀ classes ok x = n - x
+
+text-count-requires : tie.Need-text-count-requires Inv-loop μ-loop
+text-count-requires c κs = search needs
+
+loop-holds : tie.Need-loop-holds Inv-loop μ-loop
+loop-holds c = search (texts, loops, needs)
+
+text-ok-requires : tie.Need-text-ok-requires Inv-loop μ-loop
+text-ok-requires c κs = search needs
+
+widen-requires : tie.Need-widen-requires Inv-loop μ-loop
+widen-requires c κs = search needs
+
+class-of-requires : tie.Need-class-of-requires Inv-loop μ-loop
+class-of-requires c κs = search needs
+
+put-requires : tie.Need-put-requires Inv-loop μ-loop
+put-requires c κs = search needs
+
+add-x : tie.Need-add-x Inv-loop μ-loop
+add-x c = omega arith
+
+loop-less : tie.Need-loop-less Inv-loop μ-loop
+loop-less c = omega arith
+
+loop-again : tie.Need-loop-again Inv-loop μ-loop
+loop-again c = (omega arith, search (all-more, needs), search (written-more, needs))
+
+same-length : tie.Need-same-length Inv-loop μ-loop
+same-length c = search (loops, needs)
+
+returns : tie.Need-returns Inv-loop μ-loop
+returns c = search (texts, loops, needs)
+
+pub texts-ok-spec : {M : Type 1} → statement M
+texts-ok-spec =
+    tie.close
+    (tie.spec
+    Inv-loop
+    μ-loop
+    text-count-requires
+    loop-holds
+    text-ok-requires
+    widen-requires
+    class-of-requires
+    put-requires
+    add-x
+    loop-less
+    loop-again
+    same-length
+    returns)
