@@ -1,0 +1,4 @@
+pub mod Tables
+pub mod Terms
+pub mod Keeping
+pub mod Counting
