@@ -109,7 +109,7 @@ pub ruleset fit = (fits-page, fits-number, unfit-number, fits-true, fits-false, 
 
 -- The kind of a property.
 module _ (x : Bytes) where
-  kind-by : (g : Tag) (k : Kind) (a b : Bytes) → declaredKind x (entryBy g k a b) ≡ cond (declaresTag Declared.Property g && same a x) (some k) none
+  pub kind-by : (g : Tag) (k : Kind) (a b : Bytes) → declaredKind x (entryBy g k a b) ≡ cond (declaresTag Declared.Property g && same a x) (some k) none
   kind-by Tag.Prop k a b = refl
   kind-by Tag.Page k a b = refl
   kind-by Tag.Cat k a b = refl

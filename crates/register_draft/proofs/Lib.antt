@@ -1,0 +1,13 @@
+pub mod Growing
+pub mod Entries
+pub mod Terms
+pub mod Pages
+pub mod Bounds
+pub mod Kept
+pub mod Ways
+pub mod Filling
+pub mod Rows
+pub mod Held
+pub mod Looking
+pub mod Steps
+pub mod Loop

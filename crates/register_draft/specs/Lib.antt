@@ -1,0 +1,4 @@
+pub mod Drafting
+pub mod Sizes
+pub mod Lookup
+pub mod Tables
