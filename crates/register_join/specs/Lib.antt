@@ -1,0 +1,3 @@
+pub mod Sheets
+pub mod Joined
+pub mod Drafting
