@@ -1,0 +1,4 @@
+pub mod Marks
+pub mod Passing
+pub mod Evaluating
+pub mod Mixing

@@ -1,0 +1,65 @@
+-- Working definitions: the nodes whose values may be of two kinds.
+use Prim.Native.Nat.{ℕ, zero, suc}
+use mathlib.Core.Path.{_≡_}
+use mathlib.Core.Bool.{Bool, false, _||_}
+use mathlib.Core.List.{List}
+use Rattle.text.specs.Bytes.{Bytes}
+use Rattle.values.specs.Values.{kindOfConstant}
+use Rattle.values.specs.declared.Kind.{Kind}
+use Rattle.language.specs.Answer.{found}
+use Rattle.language.specs.Core.{Core}
+use Rattle.language.specs.Register.{Register}
+use Rattle.language.specs.Semantics.{someOther, mismatch}
+use Rattle.nodes.specs.Held.{nodeIn}
+use Rattle.nodes.specs.Postfix.{Node}
+use Rattle.nodes.specs.Stack.{Holds}
+use Rattle.nodes.specs.declared.Constant.{Constant}
+use Rattle.nodes.specs.declared.Selector.{Selector}
+use Rattle.nodes.specs.declared.Connective.{Connective}
+use Rattle.register_form.specs.Opened.{Opened}
+use Rattle.ask_evaluation.specs.declared.Wanted.{Wanted}
+
+-- The test holds of some number below n.
+unfoldable pub anyTo : ℕ → (ℕ → Bool) → Bool
+anyTo zero g = false
+anyTo (suc n) g = anyTo n g || g n
+
+-- The kind that a node wants of the values under a property.
+abbrev pub wantedBy : Selector → Wanted
+wantedBy (Selector.Category p) = Wanted.Nothing
+wantedBy (Selector.Namespace p) = Wanted.Nothing
+wantedBy (Selector.Existence p) = Wanted.Nothing
+wantedBy (Selector.Subquery p) = Wanted.Kind p Kind.Page
+wantedBy (Selector.Article c p) = Wanted.Nothing
+wantedBy (Selector.Value p c (Constant.Number n)) = Wanted.Kind p Kind.Number
+wantedBy (Selector.Value p c (Constant.Boolean b)) = Wanted.Kind p Kind.Boolean
+wantedBy (Selector.Value p c (Constant.String t)) = Wanted.Kind p Kind.String
+
+abbrev pub wantedIn : Connective → Selector → Wanted
+wantedIn Connective.And y = Wanted.Nothing
+wantedIn Connective.Or y = Wanted.Nothing
+wantedIn Connective.Select y = wantedBy y
+
+-- Some page holds a value of another kind than the node wants.
+abbrev pub mixes : Register → Node → Bool
+mixes R Node.conjunction = false
+mixes R Node.disjunction = false
+mixes R (Node.category x) = false
+mixes R (Node.namespace x) = false
+mixes R (Node.existence x) = false
+mixes R (Node.subquery x) = someOther R x Kind.Page
+mixes R (Node.article c x) = false
+mixes R (Node.value x c v) = someOther R x (kindOfConstant v)
+
+unfoldable pub mixesIn : Register → Bytes → ℕ → Bool
+mixesIn R q i = found (nodeIn q i) (mixes R) false
+
+-- The same of the node in place i, of the first i, and of the query that the nodes hold; the bytes h are those of a register.
+unfoldable pub Mixes : Bytes → Bytes → ℕ → Bool → Type 0
+Mixes h q i r = (places : List ℕ) (R : Register) → Opened h places R → r ≡ mixesIn R q i
+
+unfoldable pub SomeMixes : Bytes → Bytes → ℕ → Bool → Type 0
+SomeMixes h q i r = (places : List ℕ) (R : Register) → Opened h places R → r ≡ anyTo i (mixesIn R q)
+
+unfoldable pub Mismatches : Bytes → Bytes → Bool → Type 0
+Mismatches h q r = (places : List ℕ) (R : Register) → Opened h places R → (c : Core) → Holds q c → r ≡ mismatch c R

@@ -1,0 +1,226 @@
+// The evaluation of core queries: page sets from the nodes of a held query.
+ghost use mathlib.Core.Path.{_≡_};
+ghost use Prim.Native.Nat.{suc};
+ghost use Rattle.nodes.specs.Held.{textIn};
+ghost use Rattle.nodes.specs.Stack.{stackAt};
+ghost use Rattle.ask_evaluation.specs.Meaning.{Capped, nameSpan, isSubquery, isSelection, RangeOf, Selects, pagesOf, Passes, Joined, Evaluates, stackWith};
+
+pub mod mismatch; // mismatch.rt: number 23's test
+
+pub use mismatch::has_mismatch;
+use nodes::Connective;
+use nodes::NodeRead;
+use nodes::Selector;
+use nodes::node_at;
+use nodes::two_at;
+use pageset::PageSet;
+use register_form::page_count;
+use register_form::widen;
+use register_view::TermRange;
+use register_view::Test;
+use register_view::article_at;
+use register_view::category_range;
+use register_view::holds_passing;
+use register_view::in_category;
+use register_view::namespace_at;
+use register_view::no_terms;
+use register_view::property_range;
+use register_view::stands_as;
+use text::Span;
+use text::compare;
+use text::part;
+use text::same_bytes;
+use values::Kind;
+
+// The pages that a query selects, and the place where its nodes begin.
+pub struct Evaluated {
+    pub set: PageSet,
+    pub next: usize,
+}
+
+// The kind that is wanted of the values under a property, or none.
+pub enum Wanted {
+    Kind(Span, Kind),
+    Nothing,
+}
+
+// The text of a held query.
+pub fn query_text(q: &[u8]) -> &[u8]
+    ensures { λ r. ⌜ now r ≡ textIn (now (q .entry)) ⌝ }
+{
+    part(q, 4, two_at(q, 0))
+}
+
+// A number of pages, as far as a page set has places.
+pub fn capped(n: u16) -> u16
+    ensures { λ r. ⌜ Capped n r ⌝ }
+{
+    if n < 256 { n } else { 256 }
+}
+
+// The name that a selector carries.
+pub fn name_of(selector: Selector) -> Span
+    ensures { λ r. ⌜ r ≡ nameSpan selector ⌝ }
+{
+    match selector {
+        Selector::Category(p) => p,
+        Selector::Namespace(p) => p,
+        Selector::Existence(p) => p,
+        Selector::Subquery(p) => p,
+        Selector::Article(_, p) => p,
+        Selector::Value(p, _, _) => p,
+    }
+}
+
+fn is_subquery(selector: Selector) -> bool
+    ensures { λ r. ⌜ r ≡ isSubquery selector ⌝ }
+{
+    match selector {
+        Selector::Category(_) => false,
+        Selector::Namespace(_) => false,
+        Selector::Existence(_) => false,
+        Selector::Subquery(_) => true,
+        Selector::Article(_, _) => false,
+        Selector::Value(_, _, _) => false,
+    }
+}
+
+fn is_selection(connective: Connective) -> bool
+    ensures { λ r. ⌜ r ≡ isSelection connective ⌝ }
+{
+    match connective {
+        Connective::And => false,
+        Connective::Or => false,
+        Connective::Select => true,
+    }
+}
+
+// The terms that a selector with the name x asks for.
+fn range_of(h: &[u8], selector: Selector, x: &[u8]) -> TermRange
+    ensures { λ r. ⌜ RangeOf (now (h .entry)) selector (now (x .entry)) r ⌝ }
+{
+    match selector {
+        Selector::Category(_) => category_range(h, x),
+        Selector::Namespace(_) => no_terms(),
+        Selector::Existence(_) => property_range(h, x),
+        Selector::Subquery(_) => property_range(h, x),
+        Selector::Article(_, _) => no_terms(),
+        Selector::Value(_, _, _) => property_range(h, x),
+    }
+}
+
+// Whether the page in a place matches a selector with the name x, whose terms the range has; the marks are what its subquery
+// selects.
+fn page_passes(
+    h: &[u8],
+    places: &[u16],
+    q: &[u8],
+    selector: Selector,
+    x: &[u8],
+    range: TermRange,
+    marks: &[bool],
+    i: u16,
+) -> bool
+    ensures { λ r. ⌜ Passes (now (h .entry)) (now (places .entry)) (now (q .entry)) selector (now (x .entry)) range (now (marks .entry)) i r ⌝ }
+{
+    match selector {
+        Selector::Category(_) => in_category(h, i, range),
+        Selector::Namespace(_) => same_bytes(namespace_at(h, i), x),
+        Selector::Existence(_) => holds_passing(h, places, i, range, Test::Any, q, marks),
+        Selector::Subquery(_) => holds_passing(h, places, i, range, Test::Leads, q, marks),
+        Selector::Article(o, _) => stands_as(o, compare(article_at(h, i), x)),
+        Selector::Value(_, o, v) => {
+            holds_passing(h, places, i, range, Test::Stands(o, v), q, marks)
+        }
+    }
+}
+
+// The pages that match a selector; inner are the marks of what its subquery selects.
+fn select(q: &[u8], selector: Selector, inner: &[bool], h: &[u8], places: &[u16]) -> PageSet
+    ensures { λ r. ⌜ Selects (now (h .entry)) (now (places .entry)) (textIn (now (q .entry))) selector (now (inner .entry)) pagesOf (r .marks) ⌝ }
+{
+    let text = query_text(q);
+    let p = name_of(selector);
+    let x = part(text, p.start, p.len);
+    let range = range_of(h, selector, x);
+    let n = capped(page_count(h));
+    let mut marks = [false; 256];
+    let mut i: u16 = 0;
+    while i < n {
+        let at = widen(i);
+        marks[at] = page_passes(h, places, text, selector, x, range, inner, i);
+        i += 1;
+    }
+    PageSet { marks: marks }
+}
+
+// Two sets joined by a connective.
+fn join(connective: Connective, a: PageSet, b: PageSet) -> PageSet
+    ensures { λ r. ⌜ Joined connective (a .marks) (b .marks) (r .marks) ⌝ }
+{
+    match connective {
+        Connective::And => a.intersection(b),
+        Connective::Or => a.union(b),
+        Connective::Select => a,
+    }
+}
+
+// No pages, where there is no query.
+fn nothing() -> Evaluated {
+    Evaluated {
+        set: PageSet::none(),
+        next: 0,
+    }
+}
+
+// The pages that the query whose last node is the one before `at` selects: first the right side, then the left one, which ends
+// where the right one begins.
+pub fn eval(q: &[u8], at: usize, h: &[u8], places: &[u16]) -> Evaluated
+    ensures { λ r. ⌜ Evaluates (now (h .entry)) (now (places .entry)) (now (q .entry)) at (stackAt (now (q .entry)) at) r ⌝ }
+{
+    if at == 0 {
+        return nothing();
+    }
+    let last = at - 1;
+    let read = node_at(q, last);
+    let NodeRead::Is(node) = read else {
+        return nothing();
+    };
+    let connective = node.connective;
+    let selector = node.selector;
+    if is_selection(connective) {
+        return eval_selector(q, last, selector, h, places);
+    }
+    let right = eval(q, last, h, places);
+    let middle = right.next;
+    if last <= middle {
+        return nothing();
+    }
+    let left = eval(q, middle, h, places);
+    let a = left.set;
+    let b = right.set;
+    Evaluated {
+        set: join(connective, a, b),
+        next: left.next,
+    }
+}
+
+// The pages that match a selector; its subquery, if it is one, ends before `at`.
+fn eval_selector(q: &[u8], at: usize, selector: Selector, h: &[u8], places: &[u16]) -> Evaluated
+    ensures { λ r. ⌜ Evaluates (now (h .entry)) (now (places .entry)) (now (q .entry)) (suc at) (stackWith (now (q .entry)) at selector) r ⌝ }
+{
+    if is_subquery(selector) {
+        let inner = eval(q, at, h, places);
+        let set = inner.set;
+        let marks = set.marks;
+        return Evaluated {
+            set: select(q, selector, &marks, h, places),
+            next: inner.next,
+        };
+    }
+    let none = [false; 1];
+    Evaluated {
+        set: select(q, selector, &none, h, places),
+        next: at,
+    }
+}

@@ -1,0 +1,189 @@
+-- The terms of a page: what is asked of one, and of one after the other.
+use Prim.Native.Nat.{ℕ, zero, suc, _+_, _-_, _≤_, _<_}
+use mathlib.Core.Path.{_≡_, refl, sym, ap, _∙_}
+use mathlib.Core.Bool.{Bool, true, false, cond, not, _||_, or-false}
+use mathlib.Core.List.{List, [], _∷_}
+use native.Mathlib.Omega.{arith}
+use borrow.Author.Tests.{ltb-true, ltb-false, not-true, not-false}
+use lib.Dec.{ltb, eqb}
+use lib.IntN.{pos, negsuc, subℕ}
+use lib.ListN.{getD}
+use Rattle.text.specs.Bytes.{Bytes, part, numbers, orderOf, any}
+use Rattle.text.specs.Table.{tabulate}
+use Rattle.text.specs.declared.Order.{Order}
+use Rattle.text.specs.declared.Span.{Span}
+use Rattle.text.proofs.Laws.{numbers-less, numbers-greater, numbers-like, any-append}
+use Rattle.values.specs.declared.Kind.{Kind}
+use Rattle.values.specs.Values.{orderNumbers, orderBooleans}
+use Rattle.values.specs.Answers.{base}
+use Rattle.language.specs.Semantics.{stands, Cv, noMixed}
+use Rattle.language.specs.declared.Comparator.{Comparator}
+use Rattle.nodes.specs.Reading.{constantBy}
+use Rattle.nodes.specs.declared.Constant.{Constant}
+use Rattle.register_form.specs.Numbers.{twoAt}
+use Rattle.register_form.specs.Dictionary.{nameOf, codeOf, numberFrom}
+use Rattle.register_form.specs.Form.{formStart, formAt, pageAt, termAt, textAt}
+use Rattle.register_view.specs.Ranges.{within}
+use Rattle.register_view.specs.View.{textNumber, valueAt, marked, leadsInto, passesAt, sought}
+use Rattle.register_view.specs.declared.Test.{Test}
+use Rattle.register_view.specs.declared.TermRange.{TermRange}
+
+-- text_number
+pub number-of-text : (h : Bytes) (f : ℕ) (t : Bytes) (r : ℕ) → t ≡ termAt h f → r ≡ twoAt t 1 → r ≡ textNumber h f
+unfolding textNumber
+number-of-text h f t r e g = g ∙ ap (λ (u : Bytes). twoAt u 1) e
+
+-- Numbers with 10^15 added stand as the numbers do.
+order-codes : (a b : ℕ) → numbers a b ≡ orderNumbers (numberFrom a) (subℕ b base)
+unfolding numberFrom
+order-codes a b = go (ltb a base) refl (ltb b base) refl
+  where
+    go : (s : Bool) → ltb a base ≡ s → (t : Bool) → ltb b base ≡ t → numbers a b ≡ orderNumbers (cond s (negsuc (base - suc a)) (pos (a - base))) (cond t (negsuc (base - suc b)) (pos (b - base)))
+    go true e true f = let k = ltb-true a base e in let l = ltb-true b base f in numbers-like a b (base - suc b) (base - suc a) (λ x. omega arith, λ x. omega arith) (λ x. omega arith, λ x. omega arith)
+    go true e false f = let k = ltb-true a base e in let l = ltb-false b base f in numbers-less a b (omega arith)
+    go false e true f = let k = ltb-false a base e in let l = ltb-true b base f in numbers-greater a b (omega arith)
+    go false e false f = let k = ltb-false a base e in let l = ltb-false b base f in numbers-like a b (a - base) (b - base) (λ x. omega arith, λ x. omega arith) (λ x. omega arith, λ x. omega arith)
+
+-- value_stands
+module _ (h : Bytes) (f : ℕ) (k : Kind) (c : Comparator) (w : Constant) (q : Bytes) where
+  abbrev Stands : Bool → Type 0
+  Stands r = r ≡ Cv noMixed c (constantBy q w) (valueAt h k f)
+
+  pub stands-page : k ≡ Kind.Page → Stands false
+  unfolding Cv
+  stands-page e = rw e
+
+  module _ (e : k ≡ Kind.Number) where
+    pub stands-number : (a b : ℕ) (o : Order) (r : Bool) → w ≡ Constant.Number b → a ≡ codeOf (termAt h f) → o ≡ numbers a b → r ≡ stands c o → Stands r
+    unfolding Cv
+    stands-number a b o r v is g u = rw (e, v) (u ∙ ap (stands c) (g ∙ order-codes a b ∙ ap (λ (n : ℕ). orderNumbers (numberFrom n) (subℕ b base)) is))
+
+    pub number-boolean : (b : Bool) → w ≡ Constant.Boolean b → Stands false
+    unfolding Cv
+    number-boolean b v = rw (e, v)
+
+    pub number-string : (p : Span) → w ≡ Constant.String p → Stands false
+    unfolding Cv
+    number-string p v = rw (e, v)
+
+  module _ (e : k ≡ Kind.Boolean) where
+    pub boolean-number : (b : ℕ) → w ≡ Constant.Number b → Stands false
+    unfolding Cv
+    boolean-number b v = rw (e, v)
+
+    pub stands-boolean : (a : ℕ) (b : Bool) (o : Order) (r : Bool) → w ≡ Constant.Boolean b → a ≡ codeOf (termAt h f) → o ≡ orderBooleans (eqb a 1) b → r ≡ stands c o → Stands r
+    unfolding Cv
+    stands-boolean a b o r v is g u = rw (e, v) (u ∙ ap (stands c) (g ∙ ap (λ (n : ℕ). orderBooleans (eqb n 1) b) is))
+
+    pub boolean-string : (p : Span) → w ≡ Constant.String p → Stands false
+    unfolding Cv
+    boolean-string p v = rw (e, v)
+
+  module _ (e : k ≡ Kind.String) where
+    pub string-number : (b : ℕ) → w ≡ Constant.Number b → Stands false
+    unfolding Cv
+    string-number b v = rw (e, v)
+
+    pub string-boolean : (b : Bool) → w ≡ Constant.Boolean b → Stands false
+    unfolding Cv
+    string-boolean b v = rw (e, v)
+
+    pub stands-string : (p : Span) (n : ℕ) (y x : Bytes) (o : Order) (r : Bool) → w ≡ Constant.String p → n ≡ textNumber h f → y ≡ nameOf (textAt h n) → x ≡ part q (p .start) (p .len) → o ≡ orderOf y x → r ≡ stands c o → Stands r
+    unfolding Cv
+    stands-string p n y x o r v is name lies g u = rw (e, v) (u ∙ ap (stands c) (g ∙ rw (name, lies, is)))
+
+pub ruleset standing = (number-of-text, stands-page, stands-number, number-boolean, number-string, boolean-number, stands-boolean, boolean-string, string-number, string-boolean, stands-string)
+
+-- marked_at
+pub marked-none : (marks : List Bool) (place : ℕ) → place ≡ 0 → false ≡ marked marks place
+marked-none marks place e = rw e
+
+pub marked-one : (marks : List Bool) (place : ℕ) (r : Bool) → (place ≡ 0 → ⊥) → r ≡ getD marks (place - 1) false → r ≡ marked marks place
+marked-one marks zero r n e = absurd (n refl)
+marked-one marks (suc k) r n e = e ∙ ap (λ (j : ℕ). getD marks j false) (let z : suc k - 1 ≡ k = omega arith in z)
+
+module _ (h : Bytes) (places : List ℕ) (marks : List Bool) (k : Kind) (f : ℕ) where
+  -- leads_into
+  pub leads-page : (n w g : ℕ) (r : Bool) → k ≡ Kind.Page → n ≡ textNumber h f → w ≡ n → g ≡ getD places w 0 → r ≡ marked marks g → r ≡ leadsInto h places marks k f
+  leads-page n w g r e is v at u = rw e (u ∙ ap (marked marks) (at ∙ ap (λ (j : ℕ). getD places j 0) (v ∙ is)))
+
+  -- term_passes
+  module _ (q : Bytes) (test : Test) where
+    pub passes-any : test ≡ Test.Any → true ≡ passesAt h places q marks k test f
+    passes-any e = rw e
+
+    pub passes-stands : (c : Comparator) (w : Constant) (r : Bool) → test ≡ Test.Stands c w → r ≡ Cv noMixed c (constantBy q w) (valueAt h k f) → r ≡ passesAt h places q marks k test f
+    passes-stands c w r e g = rw e g
+
+    pub passes-leads : (r : Bool) → test ≡ Test.Leads → r ≡ leadsInto h places marks k f → r ≡ passesAt h places q marks k test f
+    passes-leads r e g = rw e g
+
+-- is_sought
+module _ (h : Bytes) (places : List ℕ) (q : Bytes) (marks : List Bool) (range : TermRange) (test : Test) (f : ℕ) where
+  pub sought-outside : not (within range f) ≡ true → false ≡ sought h places q marks range test f
+  unfolding sought
+  sought-outside e = rw (not-true (within range f) e)
+
+  pub sought-inside : (r : Bool) → not (within range f) ≡ false → r ≡ passesAt h places q marks (range .kind) test f → r ≡ sought h places q marks range test f
+  unfolding sought
+  sought-inside r e g = rw (not-false (within range f) e) g
+
+pub ruleset passing = (marked-none, marked-one, leads-page, passes-any, passes-stands, passes-leads, sought-outside, sought-inside)
+
+-- A table in which nothing passes, and one more.
+module _ {A : Type 0} (p : A → Bool) (g : ℕ → A) where
+  pub any-more : (n : ℕ) → any p (tabulate (suc n) g) ≡ (any p (tabulate n g) || p (g n))
+  unfolding tabulate any
+  any-more n = any-append p (tabulate n g) (g n ∷ []) ∙ rw (or-false (p (g n)))
+
+  pub any-hit : (n k : ℕ) → k < n → p (g k) ≡ true → any p (tabulate n g) ≡ true
+  any-hit zero k l e = absurd (omega arith)
+  any-hit (suc n) k l e = any-more n ∙ go (ltb k n) refl (any-hit n k)
+    where
+      or-true : (b : Bool) → (b || true) ≡ true
+      or-true true = refl
+      or-true false = refl
+
+      go : (s : Bool) → ltb k n ≡ s → (k < n → p (g k) ≡ true → any p (tabulate n g) ≡ true) → (any p (tabulate n g) || p (g n)) ≡ true
+      go true s ih = rw (ih (ltb-true k n s) e)
+      go false s ih =
+          let z : k ≡ n = omega (arith, ltb-false k n s) in
+          ap (λ (b : Bool). any p (tabulate n g) || b) (ap (λ (j : ℕ). p (g j)) (sym z) ∙ e) ∙ or-true (any p (tabulate n g))
+
+-- some_form: the forms of page i before j do not pass.
+module _ (h : Bytes) (i : ℕ) (p : ℕ → Bool) where
+  abbrev pub formFrom : ℕ → ℕ
+  formFrom k = formAt h (formStart h i + k)
+
+  pub record Looked (j : ℕ) : Type 0 where
+    pub from : formStart h i ≤ j
+    pub most : j - formStart h i ≤ formStart h (suc i) - formStart h i
+    pub none : any p (tabulate (j - formStart h i) formFrom) ≡ false
+
+  pub looked-start : (j : ℕ) → j ≡ formStart h i → Looked j
+  unfolding tabulate any
+  looked-start j e =
+      let z : j - formStart h i ≡ 0 = omega arith in
+      record { from = omega arith; most = omega arith; none = rw z }
+
+  module _ (j end : ℕ) (a : Looked j) (e : end ≡ formStart h (suc i)) where
+    pub looked-end : end ≤ j → false ≡ any p (pageAt h i .forms)
+    unfolding pageAt
+    looked-end l =
+        let z : formStart h (suc i) - formStart h i ≡ j - formStart h i = omega (arith, a .from, a .most) in
+        sym (rw z (a .none))
+
+    module _ (l : j < end) (f : ℕ) (b : Bool) (at : f ≡ formAt h j) (is : b ≡ p f) where
+      here : p (formFrom (j - formStart h i)) ≡ b
+      here =
+          let z : formStart h i + (j - formStart h i) ≡ j = omega (arith, a .from) in
+          sym (is ∙ ap p (at ∙ ap (formAt h) (sym z)))
+
+      pub looked-hit : b ≡ true → true ≡ any p (pageAt h i .forms)
+      unfolding pageAt
+      looked-hit t = sym (any-hit p formFrom (formStart h (suc i) - formStart h i) (j - formStart h i) (omega (arith, a .from)) (here ∙ t))
+
+      pub looked-more : b ≡ false → Looked (j + 1)
+      looked-more t =
+          let z : (j + 1) - formStart h i ≡ suc (j - formStart h i) = omega (arith, a .from) in
+          record { from = omega (arith, a .from); most = omega (arith, a .from); none = rw (z, any-more p formFrom (j - formStart h i), a .none, here) t }

@@ -1,0 +1,70 @@
+-- Working definitions: what the functions over the terms of a page answer.
+use Prim.Native.Nat.{ℕ, zero, suc, _<_}
+use mathlib.Core.Path.{_≡_}
+use mathlib.Core.Bool.{Bool, true, false, _&&_}
+use mathlib.Core.List.{List}
+use mathlib.Core.Option.{Option, some, none}
+use lib.Dec.{eqb}
+use lib.ListN.{length, getD}
+use Rattle.text.specs.Bytes.{Bytes}
+use Rattle.values.specs.declared.Kind.{Kind}
+use Rattle.values.specs.declared.KindRead.{KindRead}
+use Rattle.values.specs.Values.{number, boolean, string, Value, plain, link}
+use Rattle.language.specs.Register.{Page, Register}
+use Rattle.language.specs.Semantics.{Cv, follows, noMixed}
+use Rattle.nodes.specs.Reading.{constantBy}
+use Rattle.register_form.specs.Numbers.{twoAt}
+use Rattle.register_form.specs.Dictionary.{nameOf, identifierOf, codeOf, numberFrom}
+use Rattle.register_form.specs.Form.{termAt, textAt}
+use Rattle.register_form.specs.Opened.{pageIn}
+use Rattle.register_view.specs.Ranges.{within}
+use Rattle.register_view.specs.declared.Test.{Test}
+use Rattle.register_view.specs.declared.TermRange.{TermRange}
+
+abbrev pub kindOf : KindRead → Option Kind
+kindOf (KindRead.Kind k) = some k
+kindOf KindRead.Nothing = none
+
+module _ (h : Bytes) where
+  -- The number of the text that term f names.
+  unfoldable pub textNumber : ℕ → ℕ
+  textNumber f = twoAt (termAt h f) 1
+
+  -- The value of a kind that term f is.
+  abbrev pub valueAt : Kind → ℕ → Value
+  valueAt Kind.Page f = link (identifierOf (textAt h (textNumber f)))
+  valueAt Kind.Number f = plain (number (numberFrom (codeOf (termAt h f))))
+  valueAt Kind.Boolean f = plain (boolean (eqb (codeOf (termAt h f)) 1))
+  valueAt Kind.String f = plain (string (nameOf (textAt h (textNumber f))))
+
+-- The mark of a place that is one more than a page's; 0 is that of no page.
+abbrev pub marked : List Bool → ℕ → Bool
+marked marks zero = false
+marked marks (suc k) = getD marks k false
+
+-- The value of term f leads to a page of the set, by the table of the pages' places.
+abbrev pub leadsInto : Bytes → List ℕ → List Bool → Kind → ℕ → Bool
+leadsInto h places marks Kind.Page f = marked marks (getD places (textNumber h f) 0)
+leadsInto h places marks Kind.Number f = false
+leadsInto h places marks Kind.Boolean f = false
+leadsInto h places marks Kind.String f = false
+
+-- The value of term f passes the test.
+abbrev pub passesAt : Bytes → List ℕ → Bytes → List Bool → Kind → Test → ℕ → Bool
+passesAt h places q marks k Test.Any f = true
+passesAt h places q marks k (Test.Stands c w) f = Cv noMixed c (constantBy q w) (valueAt h k f)
+passesAt h places q marks k Test.Leads f = leadsInto h places marks k f
+
+-- Term f is of the range, and passes the test.
+unfoldable pub sought : Bytes → List ℕ → Bytes → List Bool → TermRange → Test → ℕ → Bool
+sought h places q marks range test f = within range f && passesAt h places q marks (range .kind) test f
+
+-- What a test asks of a value: its string lies in q, and its set is that of the pages that inner asks for.
+abbrev pub passes : Bytes → Register → (Page → Bool) → Test → Value → Bool
+passes q R inner Test.Any v = true
+passes q R inner (Test.Stands c w) v = Cv noMixed c (constantBy q w) v
+passes q R inner Test.Leads v = follows noMixed R inner v
+
+-- The marks are what the test says of the pages in their places.
+unfoldable pub Agrees : Register → List Bool → (Page → Bool) → Type 0
+Agrees R marks test = (j : ℕ) → j < length (R .pages) → getD marks j false ≡ test (pageIn R j)
