@@ -1,0 +1,4 @@
+pub mod Tables
+pub mod First
+pub mod Demands
+pub mod Copies
