@@ -1,8 +1,8 @@
-"""The register call: a text to a Register, or a number from 1 to 7."""
+"""The register call: a text to a Register, or a number from 1 to 7. And what a register is, whether or not a text gives it."""
 import re
 from typing import NamedTuple
 
-from values import is_name, is_namespace, is_property_name, is_value, read_value
+from values import is_name, is_namespace, is_property_name, is_storable, is_value, read_value, spelling
 
 QUOTED = rb'"([^"\n]*)"'
 FORM = rb' \((?:cat ' + QUOTED + rb'|val ' + QUOTED + rb' ' + QUOTED + rb')\)'
@@ -19,12 +19,13 @@ class Lines(NamedTuple):
 class Page(NamedTuple):
     namespace: bytes
     name: bytes
-    categories: set
-    values: dict  # property to its list of (kind, value)
+    categories: list  # each once, in first-written order
+    held: list  # (property, (kind, value)), each once, in first-written order
+    values: dict  # the same by property: its list of (kind, value)
 
 
 class Register(NamedTuple):
-    kinds: dict  # property to kind
+    kinds: dict  # property to kind, in the register's order
     pages: list
     places: dict  # (namespace, name) to place
 
@@ -88,17 +89,55 @@ def is_over_a_limit(lines):
     return len(lines.props) > 64 or len(lines.pages) > 256 or forms > 2048
 
 
+def page_of(namespace, name, categories, held):
+    """A page; what is there twice counts once, where it stands first."""
+    held, values = list(dict.fromkeys(held)), {}
+    for prop, value in held:
+        values.setdefault(prop, []).append(value)
+    return Page(namespace, name, list(dict.fromkeys(categories)), held, values)
+
+
+def register_of(props, pages):
+    """A register of (name, kind) and pages, none of them twice."""
+    return Register(dict(props), pages, {(page.namespace, page.name): place for place, page in enumerate(pages)})
+
+
 def make_register(lines):
-    register = Register(dict(lines.props), [], {})
+    kinds, pages = dict(lines.props), []
     for namespace, name, categories, values in lines.pages:
-        held = {}
-        for prop, text in values:
-            value, under = read_value(register.kinds[prop], text), held.setdefault(prop, [])
-            if value not in under:
-                under.append(value)
-        register.places[namespace, name] = len(register.pages)
-        register.pages.append(Page(namespace, name, set(categories), held))
-    return register
+        held = [(prop, read_value(kinds[prop], text)) for prop, text in values]
+        pages.append(page_of(namespace, name, categories, held))
+    return register_of(lines.props, pages)
+
+
+def listed(register):
+    """All of a register in its order; two registers are the same where this is."""
+    return list(register.kinds.items()), [page[:4] for page in register.pages]
+
+
+def bytes_in(register):
+    """The bytes of all names and values: property names once, all else at each occurrence, values at their shortest."""
+    count = sum(map(len, register.kinds))
+    for page in register.pages:
+        count += len(page.namespace) + len(page.name) + sum(map(len, page.categories))
+        count += sum(len(spelling(value)) for _, value in page.held)
+    return count
+
+
+def is_too_large(register):
+    forms = sum(len(page.categories) + len(page.held) for page in register.pages)
+    return len(register.kinds) > 64 or len(register.pages) > 256 or forms > 2048 or bytes_in(register) > 32768
+
+
+def is_page(page, kinds):
+    kept = is_namespace(page.namespace) and is_name(page.name) and all(map(is_name, page.categories))
+    return kept and all(kinds.get(prop) == value[0] and is_storable(value) for prop, value in page.held)
+
+
+def is_register(register):
+    """The rules behind 3 to 6 and the limits."""
+    kept = all(map(is_property_name, register.kinds)) and len(register.places) == len(register.pages)
+    return kept and all(is_page(page, register.kinds) for page in register.pages) and not is_too_large(register)
 
 
 CONDITIONS = (

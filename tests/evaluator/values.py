@@ -53,3 +53,21 @@ def read_value(kind, text):
         namespace, name = read_reference(text)
         return kind, (namespace or b'', name)
     return None
+
+
+def spelling(value):
+    """The shortest text of a value."""
+    kind, what = value
+    if kind == b'number':
+        return b'%d' % what
+    if kind == b'boolean':
+        return b'true' if what else b'false'
+    if kind == b'page':
+        namespace, name = what
+        return namespace + b':' + name if namespace else name
+    return what
+
+
+def is_storable(value):
+    """Whether some text of the value keeps the rules: its shortest does."""
+    return is_value(spelling(value)) and read_value(value[0], spelling(value)) == value
