@@ -1,4 +1,4 @@
-/* The calls on guarded buffers. An input lies in a block of its own size, or before a page that cannot be read, so that
+/* The three calls on guarded buffers. An input lies in a block of its own size, or before a page that cannot be read, so that
  * reading past it is seen even in code that the sanitizer did not build. An output has guard bytes on both sides. */
 #include <sanitizer/asan_interface.h>
 #include <stdio.h>
@@ -8,24 +8,21 @@
 #include <unistd.h>
 
 #include "calls.h"
+#include "vetxarno.h"
 
 enum { GUARD = 64, FENCED_BYTES = 1 << 16 };
 
 int fenced;
-unsigned long faults, seen[CALLS][MOST_NUMBER + 1];
+unsigned long faults, seen[25];
 
 static uint8_t filling = 0xA5;
-
-/* Blocks of the size of a held register are many; what is freed is kept for a while only. */
-const char *__asan_default_options(void);
-const char *__asan_default_options(void) { return "quarantine_size_mb=4"; }
 
 void fault(const char *what, long number) {
     faults++;
     printf("fault: %s (%ld) ", what, number);
 }
 
-_Noreturn void stop(const char *what) {
+static void stop(const char *what) {
     fprintf(stderr, "calls: %s\n", what);
     exit(2);
 }
@@ -93,21 +90,10 @@ static void check_output(struct output out, size_t written, int32_t number) {
         fault(number < 0 ? "refused, and a byte was written" : "a byte behind what is promised was written", number);
 }
 
-static int is_between(int32_t number, int32_t first, int32_t last) { return first <= number && number <= last; }
-
-/* Whether a call may refuse with a number. */
-static int is_known(enum call call, int32_t number) {
-    switch (call) {
-    case REGISTER_CALL: return is_between(number, 1, 8);
-    case QUERY_CALL: return is_between(number, 11, 20);
-    case ASK_CALL: return is_between(number, 21, 24);
-    default: return number == 22 || number == 32 || number == 7 || number == 8;
-    }
-}
-
-static void check_number(enum call call, int32_t number) {
-    if (number >= 0) seen[call][0]++;
-    else if (is_known(call, -number)) seen[call][-number]++;
+/* Whether a refusal has one of the call's numbers. */
+static void check_number(int32_t number, int32_t first, int32_t last) {
+    if (number >= 0) seen[0]++;
+    else if (-number >= first && -number <= last) seen[-number]++;
     else fault("an unknown number", number);
 }
 
@@ -126,29 +112,19 @@ int32_t register_call(struct bytes text, size_t len, uint8_t *out) {
     struct input t = lend(text, 0);
     struct output held = lend_output(len);
     int32_t number = vetxarno_register(t.at, text.len, held.at, len);
-    check_number(REGISTER_CALL, number);
+    check_number(number, 1, 8);
     give_back(t);
-    return end_form(held, HELD, number, out);
+    return end_form(held, VETXARNO_REGISTER_BYTES, number, out);
 }
 
 int32_t query_call(struct bytes held, struct bytes text, size_t len, uint8_t *out) {
     struct input h = lend(held, 0), t = lend(text, 1);
     struct output query = lend_output(len);
     int32_t number = vetxarno_query(h.at, held.len, t.at, text.len, query.at, len);
-    check_number(QUERY_CALL, number);
+    check_number(number, 11, 20);
     give_back(h);
     give_back(t);
-    return end_form(query, QUERY, number, out);
-}
-
-int32_t join_call(struct bytes first, struct bytes second, size_t len, uint8_t *out) {
-    struct input a = lend(first, 0), b = lend(second, 1);
-    struct output held = lend_output(len);
-    int32_t number = vetxarno_join(a.at, first.len, b.at, second.len, held.at, len);
-    check_number(JOIN_CALL, number);
-    give_back(a);
-    give_back(b);
-    return end_form(held, HELD, number, out);
+    return end_form(query, VETXARNO_QUERY_BYTES, number, out);
 }
 
 /* Marks are 0 and 1, one for each page, and the number returned is that of the 1s. */
@@ -165,7 +141,7 @@ int32_t ask_call(struct bytes query, struct bytes held, size_t len, long pages, 
     struct input q = lend(query, 0), h = lend(held, 1);
     struct output marks = lend_output(len);
     int32_t number = vetxarno_ask(q.at, query.len, h.at, held.len, marks.at, len);
-    check_number(ASK_CALL, number);
+    check_number(number, 21, 24);
     give_back(q);
     give_back(h);
     size_t written = number < 0 ? 0 : check_marks(marks, pages, number);

@@ -1,2 +1,3 @@
+pub mod Mixing
 pub mod Writing
 pub mod Calls

@@ -1,4 +1,3 @@
 pub mod Appending
 pub mod Lines
-pub mod Whole
 pub mod Answering

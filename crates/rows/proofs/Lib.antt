@@ -3,5 +3,4 @@ pub mod Verdict
 pub mod Ways
 pub mod Loops
 pub mod Judging
-pub mod Naming
-pub mod Counted
+pub mod Hashing

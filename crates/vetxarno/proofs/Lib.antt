@@ -1,1 +1,4 @@
+pub mod Tables
+pub mod Demands
 pub mod Returned
+pub mod Nothing

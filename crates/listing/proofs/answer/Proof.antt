@@ -21,7 +21,7 @@ same-length : tie.Need-same-length
 same-length c = search needs
 
 returns : tie.Need-returns
-returns c = answer-refused _ _ _ _ _ (zeros-room 63628) (c .before .before .before .before .before .before .register .ensures) _ _ _ (c .before .before .before .before .if1 .taken) (c .before .before .put-refusal .ensures)
+returns c = answer-refused _ _ _ _ _ (zeros-room 32770) (c .before .before .before .before .before .before .register .ensures) _ _ _ (c .before .before .before .before .if1 .taken) (c .before .before .put-refusal .ensures)
 
 slice-aggregate-answer-text : tie.Need-slice-aggregate-answer-text
 slice-aggregate-answer-text c = search needs
@@ -33,7 +33,7 @@ same-length-2 : tie.Need-same-length-2
 same-length-2 c = search needs
 
 returns-2 : tie.Need-returns-2
-returns-2 c = answer-held _ _ _ _ _ (zeros-room 63628) (c .before .before .before .before .before .before .before .register .ensures) _ _ _ (c .before .before .before .before .before .if1 .left) (c .before .before .answer-text .ensures)
+returns-2 c = answer-held _ _ _ _ _ (zeros-room 32770) (c .before .before .before .before .before .before .before .register .ensures) _ _ _ (c .before .before .before .before .before .if1 .left) (c .before .before .answer-text .ensures)
 
 pub answer-spec : {M : Type 1} → statement M
 answer-spec =

@@ -9,20 +9,16 @@ use Rattle.listing.proofs.pagelist.put_lines.Tie as tie
 use Rattle.listing.proofs.pagelist.put_lines.Reads as reads
 use Rattle.listing.proofs.pagelist.put_lines.Lts as lts
 use Rattle.listing.proofs.pagelist.put_page.Reads as put-page-reads
-use Rattle.register_form.proofs.widen.Reads as widen-reads
 use Rattle.text.proofs.byte_at.Reads as byte-at-reads
 
 abbrev Inv-loop : tie.InvT-loop
-Inv-loop out₀ at h marks n to₀ i₀ out to i = (length out ≡ length out₀) × (i ≤ n) × AppendsLines h marks i out₀ at out to
+Inv-loop out₀ at s t pages marks n to₀ i₀ out to i = (length out ≡ length out₀) × (i ≤ n) × AppendsLines s t pages marks i out₀ at out to
 
 abbrev μ-loop : tie.MeasureT-loop
-μ-loop out₀ at h marks n to₀ i₀ out to i = n - i
+μ-loop out₀ at s t pages marks n to₀ i₀ out to i = n - i
 
 loop-holds : tie.Need-loop-holds Inv-loop μ-loop
 loop-holds c = search (line-ways, needs)
-
-widen-requires : tie.Need-widen-requires Inv-loop μ-loop
-widen-requires c κs = search (line-ways, needs)
 
 byte-at-requires : tie.Need-byte-at-requires Inv-loop μ-loop
 byte-at-requires c κs = search (line-ways, needs)
@@ -52,7 +48,6 @@ put-lines-spec =
     Inv-loop
     μ-loop
     loop-holds
-    widen-requires
     byte-at-requires
     put-page-requires
     add-i

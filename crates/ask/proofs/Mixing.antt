@@ -1,0 +1,192 @@
+-- Mismatches: what a node wants, and that the nodes of a query mix kinds where the query does.
+use Prim.Native.Nat.{ℕ, zero, suc, _+_, _≤_}
+use mathlib.Core.Path.{_≡_, refl, sym, ap₂, _∙_}
+use mathlib.Core.Bool.{Bool, true, false, not, _||_, or-true, or-false, or-comm, true≢false}
+use mathlib.Core.List.{List, [], _∷_}
+use mathlib.Core.Option.{Option, some, none}
+use native.Mathlib.Numerals.{add-one}
+use native.Mathlib.Omega.{arith}
+use borrow.Author.Tests.{not-true}
+use Rattle.text.specs.Bytes.{Bytes, any}
+use Rattle.text.specs.Parts.{partOf}
+use Rattle.text.specs.declared.Span.{Span}
+use Rattle.values.specs.Values.{kindOfConstant}
+use Rattle.values.specs.declared.Kind.{Kind}
+use Rattle.values.specs.declared.KindRead.{KindRead}
+use Rattle.language.specs.Answer.{_>>=_, found}
+use Rattle.language.specs.Core.{Core}
+use Rattle.language.specs.Core as Selectors
+use Rattle.language.specs.Register.{Register, kindsOf}
+use Rattle.language.specs.Semantics.{someOther, mismatch, mismatchIn}
+use Rattle.language.specs.declared.Comparator.{Comparator}
+use Rattle.rows.specs.Rows.{anyTo}
+use Rattle.rows.specs.declared.Judged.{Judged}
+use Rattle.nodes.specs.Held.{countIn, textIn, nodeIn}
+use Rattle.nodes.specs.Postfix.{Node, stepped}
+use Rattle.nodes.specs.Reading.{joinedBy, Reads, wantsKind, Tells}
+use Rattle.nodes.specs.Stack.{stackAt}
+use Rattle.nodes.specs.declared.Constant.{Constant}
+use Rattle.nodes.specs.declared.Selector.{Selector}
+use Rattle.nodes.specs.declared.Connective.{Connective}
+use Rattle.nodes.specs.declared.Node.{Node as DeclaredNode}
+use Rattle.nodes.specs.declared.NodeRead.{NodeRead}
+use Rattle.nodes.proofs.Stacks.{stack-zero, stack-suc}
+use Rattle.pages.specs.Tests.{kindOf}
+use Rattle.lookup.specs.View.{View}
+use Rattle.ask.specs.Running.{wantedIn, mixes, mixesIn, Mixes, SomeMixes, Mismatches}
+use Rattle.ask.specs.declared.Wanted.{Wanted}
+
+-- wanted_by
+module _ (k : Connective) (e : k ≡ Connective.Select) (y : Selector) (p : Span) where
+  pub wants-page : y ≡ Selector.Subquery p → Wanted.Kind p Kind.Page ≡ wantedIn k y
+  wants-page f = rw (e, f)
+
+  module _ (c : Comparator) (v : Constant) (f : y ≡ Selector.Value p c v) where
+    pub wants-number : (n : ℕ) → v ≡ Constant.Number n → Wanted.Kind p Kind.Number ≡ wantedIn k y
+    wants-number n g = rw (e, f, g)
+
+    pub wants-boolean : (b : Bool) → v ≡ Constant.Boolean b → Wanted.Kind p Kind.Boolean ≡ wantedIn k y
+    wants-boolean b g = rw (e, f, g)
+
+    pub wants-string : (s : Span) → v ≡ Constant.String s → Wanted.Kind p Kind.String ≡ wantedIn k y
+    wants-string s g = rw (e, f, g)
+
+pub ruleset wanting = (wants-page, wants-number, wants-boolean, wants-string)
+
+-- the kind that is wanted of a property is not that of some page's value
+abbrev otherThan : Register → Bytes → Wanted → Bool
+otherThan R q (Wanted.Kind p k) = someOther R (partOf q p) k
+otherThan R q Wanted.Nothing = false
+
+mixes-wanted : (R : Register) (q : Bytes) (k : Connective) (y : Selector) → mixes R (joinedBy q k y) ≡ otherThan R q (wantedIn k y)
+mixes-wanted R q Connective.And y = refl
+mixes-wanted R q Connective.Or y = refl
+mixes-wanted R q Connective.Select (Selector.Category p) = refl
+mixes-wanted R q Connective.Select (Selector.Namespace p) = refl
+mixes-wanted R q Connective.Select (Selector.Existence p) = refl
+mixes-wanted R q Connective.Select (Selector.Subquery p) = refl
+mixes-wanted R q Connective.Select (Selector.Article c p) = refl
+mixes-wanted R q Connective.Select (Selector.Value p c (Constant.Number n)) = refl
+mixes-wanted R q Connective.Select (Selector.Value p c (Constant.Boolean b)) = refl
+mixes-wanted R q Connective.Select (Selector.Value p c (Constant.String s)) = refl
+
+-- some node so far mixes kinds where some query on the stack has a mismatch
+module _ (R : Register) where
+  abbrev mixed : List Core → Bool
+  mixed st = any (λ q. mismatch q R) st
+
+  both-mix : (a b c : Bool) → (a || b || c) ≡ (b || (a || c) || false)
+  both-mix true true c = refl
+  both-mix true false c = refl
+  both-mix false true c = refl
+  both-mix false false c = sym (or-false c)
+
+  both-sides : (c a b : Bool) → (c || (a || b)) ≡ (b || c || a)
+  both-sides true a true = refl
+  both-sides true a false = refl
+  both-sides false true b = sym (or-true (b || false))
+  both-sides false false true = refl
+  both-sides false false false = refl
+
+  leaf-mixes : (k : Selectors.Selector) (st after : List Core) (x : Bool) → some (Core.select k ∷ st) ≡ some after → mismatchIn k R ≡ x → mixed after ≡ (mixed st || x)
+  unfolding any mismatch
+  leaf-mixes k st after x e f =
+      let w : Core.select k ∷ st ≡ after = cc in
+      rw (← w, f) (or-comm x (mixed st))
+
+  step-mixes : (m : Node) (st after : List Core) → stepped m st ≡ some after → mixed after ≡ (mixed st || mixes R m)
+  unfolding stepped any mismatch
+  step-mixes Node.conjunction [] after e = cc
+  step-mixes Node.conjunction (b ∷ []) after e = cc
+  step-mixes Node.conjunction (b ∷ a ∷ st) after e =
+      let w : Core.conjunction a b ∷ st ≡ after = cc in
+      rw (← w) (both-mix (mismatch a R) (mismatch b R) (mixed st))
+  step-mixes Node.disjunction [] after e = cc
+  step-mixes Node.disjunction (b ∷ []) after e = cc
+  step-mixes Node.disjunction (b ∷ a ∷ st) after e =
+      let w : Core.disjunction a b ∷ st ≡ after = cc in
+      rw (← w) (both-mix (mismatch a R) (mismatch b R) (mixed st))
+  step-mixes (Node.category x) st after e = leaf-mixes (Selectors.Selector.category x) st after false e refl
+  step-mixes (Node.namespace x) st after e = leaf-mixes (Selectors.Selector.namespace x) st after false e refl
+  step-mixes (Node.existence x) st after e = leaf-mixes (Selectors.Selector.existence x) st after false e refl
+  step-mixes (Node.subquery x) [] after e = cc
+  step-mixes (Node.subquery x) (a ∷ st) after e =
+      leaf-mixes (Selectors.Selector.subquery x a) st after (someOther R x Kind.Page || mismatch a R) e refl
+      ∙ both-sides (mixed st) (someOther R x Kind.Page) (mismatch a R)
+  step-mixes (Node.article c x) st after e = leaf-mixes (Selectors.Selector.article c x) st after false e refl
+  step-mixes (Node.value x c v) st after e = leaf-mixes (Selectors.Selector.value x c v) st after (someOther R x (kindOfConstant v)) e refl
+
+  stack-mixes : (h : Bytes) (i : ℕ) (st : List Core) → stackAt h i ≡ some st → anyTo i (mixesIn R h) ≡ mixed st
+  unfolding anyTo any mixesIn
+  stack-mixes h zero st e =
+      let w : [] ≡ st = cc (stack-zero h) in
+      rw (← w)
+  stack-mixes h (suc i) st e = go (stackAt h i) (nodeIn h i) (λ k f. stack-mixes h i k f) (sym (stack-suc h i) ∙ e)
+    where
+      go : (o : Option (List Core)) (n : Option Node) → ((k : List Core) → o ≡ some k → anyTo i (mixesIn R h) ≡ mixed k)
+          → (o >>= λ st. n >>= λ m. stepped m st) ≡ some st → (anyTo i (mixesIn R h) || found n (mixes R) false) ≡ mixed st
+      go none n f g = cc
+      go (some k) none f g = cc
+      go (some k) (some m) f g = rw (f k refl) (sym (step-mixes m k st g))
+
+-- a node that wants no kind mixes none
+mixes-quiet : (R : Register) (m : Node) → wantsKind m ≡ false → mixes R m ≡ false
+mixes-quiet R Node.conjunction e = refl
+mixes-quiet R Node.disjunction e = refl
+mixes-quiet R (Node.category x) e = refl
+mixes-quiet R (Node.namespace x) e = refl
+mixes-quiet R (Node.existence x) e = refl
+mixes-quiet R (Node.subquery x) e = absurd (true≢false e)
+mixes-quiet R (Node.article c x) e = refl
+mixes-quiet R (Node.value x c v) e = absurd (true≢false e)
+
+module _ (s : Bytes) (t props pages : List ℕ) (c : Judged) (h : Bytes) where
+  -- mixes_at
+  pub mixes-plain : (i : ℕ) (b : Bool) → Tells wantsKind (nodeIn h i) b → not b ≡ true → Mixes s t props pages c h i false
+  unfolding Mixes mixesIn Tells
+  mixes-plain i b f e R v = go (nodeIn h i) f
+    where
+      go : (o : Option Node) → ((m : Node) → o ≡ some m → b ≡ wantsKind m) → false ≡ found o (mixes R) false
+      go none f = refl
+      go (some m) f = sym (mixes-quiet R m (sym (f m refl) ∙ not-true b e))
+
+  module _ (i : ℕ) (read : NodeRead) (u : Reads (textIn h) (nodeIn h i) read) where
+    pub mixes-unread : read ≡ NodeRead.Nothing → Mixes s t props pages c h i false
+    unfolding Mixes mixesIn
+    mixes-unread e R v = rw (u .is, e)
+
+    module _ (node : DeclaredNode) (e : read ≡ NodeRead.Is node) (w : Wanted) (f : w ≡ wantedIn (node .connective) (node .selector)) where
+      mixes-is : (R : Register) → otherThan R (textIn h) w ≡ mixesIn R h i
+      unfolding mixesIn
+      mixes-is R = rw (u .is, e, f) (sym (mixes-wanted R (textIn h) (node .connective) (node .selector)))
+
+      pub mixes-none : w ≡ Wanted.Nothing → Mixes s t props pages c h i false
+      unfolding Mixes
+      mixes-none g R v = rw (← mixes-is R, g)
+
+      pub mixes-kind : (p : Span) (kind : Kind) (q x : Bytes) (d : KindRead) (r : Bool) → w ≡ Wanted.Kind p kind → q ≡ textIn h → x ≡ partOf q p
+          → ((R : Register) (pages : List ℕ) → View R s t props pages c → kindOf d ≡ kindsOf R x)
+          → ((R : Register) (props : List ℕ) → View R s t props pages c → kindOf d ≡ kindsOf R x → r ≡ someOther R x kind)
+          → Mixes s t props pages c h i r
+      unfolding Mixes
+      mixes-kind p kind q x d r g k l a b R v =
+          let z : r ≡ someOther R x kind = b R props v (a R pages v) in
+          rw (← mixes-is R, g, ← k, ← l) z
+
+  -- has_mismatch: no node yet, one more, all of them
+  pub some-none : SomeMixes s t props pages c h 0 false
+  unfolding SomeMixes anyTo
+  some-none R v = refl
+
+  module _ (i : ℕ) (b : Bool) (so-far : SomeMixes s t props pages c h i b) where
+    pub some-more : (r : Bool) → Mixes s t props pages c h i r → SomeMixes s t props pages c h (i + 1) (b || r)
+    unfolding SomeMixes Mixes anyTo
+    some-more r e R v = rw (add-one i) (ap₂ _||_ (so-far R v) (e R v))
+
+    pub some-all : (n : ℕ) → n ≡ countIn h → i ≤ n → n ≤ i → Mismatches s t props pages c h b
+    unfolding SomeMixes Mismatches any
+    some-all n e l m R v q k =
+        let w : i ≡ countIn h = omega arith in
+        so-far R v ∙ rw w (stack-mixes R h (countIn h) (q ∷ []) (k .stack)) ∙ or-false (mismatch q R)
+
+pub ruleset mixing = (mixes-plain, mixes-unread, mixes-none, mixes-kind)

@@ -1,0 +1,3 @@
+pub mod Marks
+pub mod Passing
+pub mod Evaluating

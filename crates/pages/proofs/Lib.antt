@@ -1,0 +1,5 @@
+pub mod Pages
+pub mod Standing
+pub mod Looking
+pub mod Abstract
+pub mod Others

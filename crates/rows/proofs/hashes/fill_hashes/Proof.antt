@@ -1,0 +1,69 @@
+use Prim.Native.Nat.{_-_}
+use mathlib.Core.Path.{_≡_, refl, ap, _∙_}
+use native.Mathlib.Omega.{arith}
+use borrow.Author.Needs.{needs}
+use lib.ListN.{length, length-set}
+use Rattle.rows.specs.Hashes.{Hashed}
+use Rattle.text.proofs.Tables.{tabled-none, tabled-less}
+use Rattle.rows.proofs.Hashing.{hashed-more}
+use Rattle.rows.proofs.hashes.fill_hashes.Statement.{statement}
+use Rattle.rows.proofs.hashes.fill_hashes.Tie as tie
+use Rattle.rows.proofs.hashes.fill_hashes.Reads as reads
+use Rattle.rows.proofs.hashes.fill_hashes.Lts as lts
+use Rattle.entries.proofs.table.item_at.Reads as item-at-reads
+use Rattle.entries.proofs.table.num_at.Reads as num-at-reads
+use Rattle.entries.proofs.table.put.Reads as put-reads
+use Rattle.rows.proofs.hashes.entry_hash.Reads as entry-hash-reads
+
+abbrev Inv-loop : tie.InvT-loop
+Inv-loop s t rows m hashes₀ k₀ hashes k = Hashed s t rows k hashes × (length hashes ≡ length hashes₀)
+
+abbrev μ-loop : tie.MeasureT-loop
+μ-loop s t rows m hashes₀ k₀ hashes k = m - k
+
+loop-holds : tie.Need-loop-holds Inv-loop μ-loop
+loop-holds c = (tabled-none _ _, refl)
+
+num-at-requires : tie.Need-num-at-requires Inv-loop μ-loop
+num-at-requires c κs = search needs
+
+item-at-requires : tie.Need-item-at-requires Inv-loop μ-loop
+item-at-requires c κs = search needs
+
+entry-hash-requires : tie.Need-entry-hash-requires Inv-loop μ-loop
+entry-hash-requires c κs = search needs
+
+put-requires : tie.Need-put-requires Inv-loop μ-loop
+put-requires c κs = search needs
+
+add-k : tie.Need-add-k Inv-loop μ-loop
+add-k c = omega arith
+
+loop-less : tie.Need-loop-less Inv-loop μ-loop
+loop-less c = omega arith
+
+loop-again : tie.Need-loop-again Inv-loop μ-loop
+loop-again c = (hashed-more _ _ (c .before .before .before .before .before .before .before .before .before .before .before .before .before .args .rows .now) (c .before .before .before .before .before .before .before .before .loop .k) (c .before .before .before .before .before .before .before .before .loop .hashes) _ _ _ (c .before .before .before .before .item-at .result) (c .before .before .before .before .before .before .before .before .loop .inv .0) (c .before .before .before .before .before .num-at .ensures) (c .before .before .before .before .item-at .ensures) (c .before .before .before .entry-hash .ensures) (c .before .before .put .ensures), ap length (c .before .before .put .ensures) ∙ simp length-set (c .before .before .before .before .before .before .before .before .loop .inv .1))
+
+same-length : tie.Need-same-length Inv-loop μ-loop
+same-length c = c .before .loop .inv .1
+
+returns : tie.Need-returns Inv-loop μ-loop
+returns c = tabled-less _ _ _ _ (c .before .loop .inv .0) (c .loop-test .left)
+
+pub fill-hashes-spec : {M : Type 1} → statement M
+fill-hashes-spec =
+    tie.close
+    (tie.spec
+    Inv-loop
+    μ-loop
+    loop-holds
+    num-at-requires
+    item-at-requires
+    entry-hash-requires
+    put-requires
+    add-k
+    loop-less
+    loop-again
+    same-length
+    returns)

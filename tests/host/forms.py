@@ -1,0 +1,126 @@
+"""Held forms by docs/LAYOUT.md: written from what the evaluator knows, and read back by its rules."""
+import os
+import sys
+
+sys.path.insert(0, os.path.join(os.path.dirname(os.path.abspath(__file__)), '..', 'evaluator'))
+
+from core import And, Article, Category, Existence, InNamespace, Or, Subquery, Value
+from register import register_call
+from values import is_name, is_namespace, is_property_name, is_value
+
+HELD, QUERY, TEXT, NODE = 32770, 6148, 1024, 20
+BIAS = 10 ** 15
+COMPARATORS = ['=', '!=', '>', '<']
+KINDS = [b'number', b'boolean', b'string']
+
+
+def two(number):
+    return number.to_bytes(2, 'little')
+
+
+def held_register(text):
+    return (two(len(text)) + text).ljust(HELD, b'\0')
+
+
+def read_register(held):
+    """The register that bytes hold, or None."""
+    length = int.from_bytes(held[:2], 'little')
+    if len(held) < HELD or held[:HELD] != held_register(held[2:2 + length])[:HELD]:
+        return None
+    return register_call(held[2:2 + length])[1]
+
+
+def postfix(core):
+    if isinstance(core, (And, Or)):
+        return postfix(core.left) + postfix(core.right) + [core]
+    return (postfix(core.query) if isinstance(core, Subquery) else []) + [core]
+
+
+def span(text, part):
+    return two(text.index(part)) + two(len(part))
+
+
+def node_bytes(node, text):
+    tag = [And, Or, Category, InNamespace, Existence, Subquery, Article, Value].index(type(node))
+    out = bytearray(NODE)
+    out[0] = tag
+    if tag in (2, 3):
+        out[4:8] = span(text, node.name)
+    if tag in (4, 5, 7):
+        out[4:8] = span(text, node.prop)
+    if tag >= 6:
+        out[1] = COMPARATORS.index(node.comparator)
+    if tag == 6:
+        out[8:12] = span(text, node.name)
+    if tag == 7:
+        kind, value = node.constant
+        out[2] = KINDS.index(kind)
+        if kind == b'number':
+            out[12:20] = (value + BIAS).to_bytes(8, 'little')
+        elif kind == b'boolean':
+            out[3] = value
+        else:
+            out[8:12] = span(text, value)
+    return bytes(out)
+
+
+def held_query(core, text):
+    """The form of a core query whose strings all stand in the text."""
+    nodes = [node_bytes(node, text) for node in postfix(core)]
+    return (two(len(text)) + two(len(nodes)) + text.ljust(TEXT, b'\0') + b''.join(nodes)).ljust(QUERY, b'\0')
+
+
+def kept(rule, text):
+    if not rule(text):
+        raise ValueError
+    return text
+
+
+def read_constant(slot, string):
+    kind, number = KINDS[slot[2]], int.from_bytes(slot[12:20], 'little')
+    if kind == b'string':
+        return kind, kept(is_value, string)
+    if kind == b'boolean':
+        return kind, [False, True][slot[3]]
+    if not 0 < number < 2 * BIAS:
+        raise ValueError
+    return kind, number - BIAS
+
+
+def put_node(stack, slot, first, second):
+    """Runs one node; what it lacks or breaks is an error."""
+    tag = slot[0]
+    if tag in (0, 1):
+        right, left = stack.pop(), stack.pop()
+        stack.append((And, Or)[tag](left, right))
+    elif tag == 2:
+        stack.append(Category(kept(is_name, first)))
+    elif tag == 3:
+        stack.append(InNamespace(kept(is_namespace, first)))
+    elif tag == 4:
+        stack.append(Existence(kept(is_property_name, first)))
+    elif tag == 5:
+        stack.append(Subquery(kept(is_property_name, first), stack.pop()))
+    elif tag == 6:
+        stack.append(Article(COMPARATORS[slot[1]], kept(is_name, second)))
+    elif tag == 7:
+        constant = read_constant(slot, second)
+        stack.append(Value(kept(is_property_name, first), COMPARATORS[slot[1]], constant))
+    else:
+        raise ValueError
+
+
+def read_query(held):
+    """The core query that bytes hold, or None."""
+    length, count = (int.from_bytes(held[at:at + 2], 'little') for at in (0, 2))
+    if len(held) < QUERY or length > TEXT or not 1 <= count <= 256:
+        return None
+    text, stack = held[4:4 + length], []
+    for at in range(4 + TEXT, 4 + TEXT + NODE * count, NODE):
+        slot = held[at:at + NODE]
+        starts = [int.from_bytes(slot[k:k + 2], 'little') for k in (4, 6, 8, 10)]
+        try:
+            put_node(stack, slot, text[starts[0]:starts[0] + starts[1]], text[starts[2]:starts[2] + starts[3]])
+        except (ValueError, IndexError):
+            return None
+    return stack[0] if len(stack) == 1 else None
