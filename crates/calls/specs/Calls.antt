@@ -28,8 +28,8 @@ stored R b = cond (ltb (length b) registerSize) (refused 8) (accepted (formOf R 
 unfoldable pub registerCall : Bytes → Bytes → Answer Bytes
 registerCall t b = andThen (readRegister t) (λ R. stored R b)
 
--- The join call: h and k are the held registers, b the buffer. "22 for either input; then 32, a property has two kinds; then 7 ..
--- over the joined sets with repeats dropped; then 8".
+-- The join call: h and k are the held registers, b the buffer. "22 for either input; then 32, a property has two kinds; then 7,
+-- now with the new limit, over the joined sets with repeats dropped; then 8."
 unfoldable pub joined : Register → Register → Bytes → Answer Bytes
 joined R S b = cond (kindsClash R S) (refused 32) (cond (not (isWithinLimits (join R S))) (refused 7) (stored (join R S) b))
 
@@ -72,7 +72,8 @@ abbrev pub marksIn : Bytes → Answer (List Bool) → Bytes
 marksIn b (refused n) = b
 marksIn b (accepted m) = map bit m ++ drop (length m) b
 
--- "A refusal returns only its number (to C made negative, since 0 or the ask call's count means accepted)."
+-- "A refusal returns only its number (to C made negative, since 0 or the ask call's count means accepted), and every lent byte is as
+-- before."
 abbrev pub returned : {A : Type 0} → (A → ℕ) → Answer A → ℤ
 returned f (refused n) = negℤ (pos n)
 returned f (accepted a) = pos (f a)
