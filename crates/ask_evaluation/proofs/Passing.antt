@@ -14,8 +14,7 @@ use Rattle.language.specs.Semantics.{stands, Ca}
 use Rattle.language.specs.declared.Comparator.{Comparator}
 use Rattle.nodes.specs.declared.Selector.{Selector}
 use Rattle.nodes.specs.declared.Constant.{Constant}
-use Rattle.register_form.specs.Numbers.{twoAt}
-use Rattle.register_form.specs.Form.{registerIn}
+use Rattle.register_form.specs.Form.{pageCount, registerIn}
 use Rattle.register_form.specs.Opened.{pageIn, Opened}
 use Rattle.register_view.specs.Ranges.{CategoryRange, PropertyRange}
 use Rattle.register_view.specs.View.{passes, Agrees}
@@ -94,7 +93,7 @@ module _ (h : Bytes) (places : List ℕ) (q : Bytes) (selector : Selector) (inne
   unfolding Selects
   selects-none marks e R o test a = marks-none 256 _ marks e
 
-  module _ (i m n : ℕ) (c : m ≡ twoAt h 2) (few : Capped m n) (marks : List Bool) (so-far : Selects h places q selector inner (λ R. i) marks) where
+  module _ (i m n : ℕ) (c : m ≡ pageCount h) (few : Capped m n) (marks : List Bool) (so-far : Selects h places q selector inner (λ R. i) marks) where
     pub selects-more : (y x : Bytes) (p : Span) (range : TermRange) (at : ℕ) (b : Bool) → i < n → y ≡ q → p ≡ nameSpan selector → x ≡ partOf y p → RangeOf h selector x range → at ≡ i
         → Passes h places y selector x range inner i b → Selects h places q selector inner (λ R. i + 1) (set marks at b)
     unfolding Selects Passes RangeOf

@@ -12,7 +12,7 @@ use lib.ListN.{length, getD, drop, length-map, length-append, length-drop, List�
 use lib.Seq.{drop-at}
 use Rattle.text.specs.Bytes.{Bytes}
 use Rattle.text.specs.Table.{bit}
-use Rattle.language.specs.Answer.{Answer, refused, accepted, acceptedOf, orRefuse, Check, andThen}
+use Rattle.language.specs.Answer.{Answer, refused, accepted, acceptedOf, orRefuse, leftIn, Check, andThen}
 use Rattle.language.specs.Register.{Page, Register, kindsOf}
 use Rattle.language.specs.RegisterText.{emptyPage, readRegister}
 use Rattle.language.specs.Surface.{Query}
@@ -30,10 +30,10 @@ use Rattle.language.specs.Joining.{join, kindsClash}
 use Rattle.language.proofs.Accepted.{accepted-register}
 use Rattle.language.proofs.Rules.{register-rules}
 use Rattle.language.proofs.Joined.{join-register}
-use Rattle.register_form.specs.Form.{registerSize, formOf, heldRegister}
+use Rattle.register_form.specs.Form.{registerSize, formOf, placed, stored, heldRegister}
 use Rattle.register_form.proofs.Forms.{reads-back, held-is}
 use Rattle.nodes.specs.Held.{querySize, heldQuery}
-use Rattle.calls.specs.Calls.{stored, registerCall, joined, joinCall, leftIn, queryCall, Stores, askCall, marked, marksIn, returned, RegisterCall, JoinCall, QueryCall, AskCall}
+use Rattle.calls.specs.Calls.{registerCall, joined, joinCall, queryCall, Stores, askCall, marked, marksIn, returned, RegisterCall, JoinCall, QueryCall, AskCall}
 use Rattle.calls.specs.Demands.{lowest, rises, registerTable, joinTable, queryTable, askTable, Judged, FirstDemand, LeftForm, LeftRegister, LeftJoin, LeftQuery, LeftMarks, SecondDemand, ThirdDemand}
 use Rattle.calls.proofs.Tables.{refusalOf, register-refuses, join-refuses, query-refuses, ask-refuses, register-rises, query-rises, ask-rises, lowest-between, join-few}
 
@@ -67,7 +67,7 @@ marks-same b after a e n p = e ∙ ap (marksIn b) p
 
 -- a register that is stored
 stored-is : (R : Register) (b x : Bytes) → stored R b ≡ accepted x → x ≡ formOf R ++ drop registerSize b
-unfolding stored
+unfolding stored placed
 stored-is R b x e = go (ltb (length b) registerSize) e
   where
     go : (t : Bool) → cond t (refused 8) (accepted (formOf R ++ drop registerSize b)) ≡ accepted x → x ≡ formOf R ++ drop registerSize b

@@ -25,9 +25,9 @@ use Rattle.language.specs.Calls.{coreOf}
 use Rattle.language.proofs.Members.{and-true}
 use Rattle.language.specs.Rules.{isWithinLimits}
 use Rattle.language.specs.Joining.{join, kindsClash}
-use Rattle.register_form.specs.Form.{registerSize, heldRegister}
+use Rattle.register_form.specs.Form.{registerSize, placed, stored, heldRegister}
 use Rattle.nodes.specs.Held.{querySize, heldQuery}
-use Rattle.calls.specs.Calls.{stored, registerCall, joined, joinCall, queryCall, askCall}
+use Rattle.calls.specs.Calls.{registerCall, joined, joinCall, queryCall, askCall}
 use Rattle.calls.specs.Demands.{lacks, lowest, rises, registerTable, joinTable, fitTable, queryTable, askTable}
 
 abbrev pub refusalOf : {A : Type 0} → Answer A → Option ℕ
@@ -63,13 +63,13 @@ nothing none k = refl
 nothing (some a) k = refl
 
 pub register-refuses : (t h : Bytes) → refusalOf (registerCall t h) ≡ lowest (registerTable t h)
-unfolding registerCall stored readRegister registerTable
+unfolding registerCall stored placed readRegister registerTable
 register-refuses t h =
     read-then 1 2 (ltb 32768 (length t)) (entries t) RegisterText.checks registerOf (λ R. []) (8 if ltb (length h) registerSize ∷ []) _ (λ R. last 8 (ltb (length h) registerSize) _)
     ∙ ap (λ l. lowest (1 if ltb 32768 (length t) ∷ 2 if lacks (entries t) ∷ (found (entries t) RegisterText.checks [] ++ l))) (nothing (acceptedOf (readRegister t)) (8 if ltb (length h) registerSize ∷ []))
 
 pub join-refuses : (h k b : Bytes) → refusalOf (joinCall h k b) ≡ lowest (joinTable h k b)
-unfolding joinCall joined stored joinTable lowest
+unfolding joinCall joined stored placed joinTable lowest
 join-refuses h k b = go (heldRegister h) (heldRegister k)
   where
     both : (c l : Bool) (R S : Register) → refusalOf (cond c (refused 32) (cond l (refused 7) (stored (join R S) b))) ≡ cond c (some 32) (cond l (some 7) (cond (ltb (length b) registerSize) (some 8) none))
@@ -183,7 +183,7 @@ lowest-between low high n (m if false ∷ l) h e =
 
 -- A refusal by the join has one of its numbers.
 pub join-few : (h k b : Bytes) (n : ℕ) → joinCall h k b ≡ refused n → (0 < n) × (n ≤ 32)
-unfolding joinCall joined stored
+unfolding joinCall joined stored placed
 join-few h k b n e = go (heldRegister h) (heldRegister k) e
   where
     is : (m : ℕ) → 0 < m → m ≤ 32 → _≡_ {A = Answer Bytes} (refused m) (refused n) → (0 < n) × (n ≤ 32)

@@ -9,7 +9,7 @@ use lib.IntN.{ℤ, pos, negℤ}
 use lib.ListN.{length, drop}
 use Rattle.text.specs.Bytes.{Bytes}
 use Rattle.text.specs.Table.{bit}
-use Rattle.language.specs.Answer.{Answer, refused, accepted, orRefuse, andThen}
+use Rattle.language.specs.Answer.{Answer, refused, accepted, orRefuse, leftIn, andThen}
 use Rattle.language.specs.Register.{Register}
 use Rattle.language.specs.RegisterText.{readRegister}
 use Rattle.language.specs.Rules.{isWithinLimits}
@@ -17,12 +17,8 @@ use Rattle.language.specs.Joining.{join, kindsClash}
 use Rattle.language.specs.Core.{Core}
 use Rattle.language.specs.Semantics.{run}
 use Rattle.language.specs.Calls.{coreOf}
-use Rattle.register_form.specs.Form.{registerSize, formOf, heldRegister}
+use Rattle.register_form.specs.Form.{stored, heldRegister}
 use Rattle.nodes.specs.Held.{querySize, heldQuery}
-
--- The buffer b with the form of a register at its front, or 8: "buffer shorter than a held register".
-unfoldable pub stored : Register → Bytes → Answer Bytes
-stored R b = cond (ltb (length b) registerSize) (refused 8) (accepted (formOf R ++ drop registerSize b))
 
 -- The register call: the bytes that it leaves in the buffer b, or the lowest of 1 to 8.
 unfoldable pub registerCall : Bytes → Bytes → Answer Bytes
@@ -35,11 +31,6 @@ joined R S b = cond (kindsClash R S) (refused 32) (cond (not (isWithinLimits (jo
 
 unfoldable pub joinCall : Bytes → Bytes → Bytes → Answer Bytes
 joinCall h k b = andThen (orRefuse 22 (heldRegister h)) (λ R. andThen (orRefuse 22 (heldRegister k)) (λ S. joined R S b))
-
--- The buffer behind a call: as it was where it was refused.
-abbrev pub leftIn : Bytes → Answer Bytes → Bytes
-leftIn b (refused n) = b
-leftIn b (accepted a) = a
 
 -- The query call: the core query that is stored, or the lowest of 11 to 20. h is the held register, s the query text, b the
 -- buffer.

@@ -8,23 +8,16 @@ ghost use Rattle.entries.specs.Items.{entryIn};
 ghost use Rattle.entries.specs.Table.{codeOf, tagFrom, kindFrom, entryFrom, entryAt, withRow};
 use super::Item;
 use super::Tag;
+use tables::narrow;
+use tables::num_at;
 use text::Span;
 use values::Kind;
-
-// The number at a place of a table, 0 past its end.
-pub fn num_at(t: &[u16], i: usize) -> usize
-    ensures { λ r. ⌜ r ≡ getD (now (t .entry)) i 0 ⌝ }
-{
-    if i < t.len() { t[i] as usize } else { 0 }
-}
 
 // Writes a number at a place of a table, where there is room.
 pub fn put(t: &mut [u16], at: usize, v: usize)
     ensures { λ _. ⌜ now (t .exit) ≡ set (now (t .entry)) at (v % 65536) ⌝ }
 {
-    if at < t.len() {
-        t[at] = (v % 65536) as u16;
-    }
+    tables::put(t, at, narrow(v));
 }
 
 // The code of an entry.

@@ -1,5 +1,6 @@
 -- What a call answers, and how a refusal's number is chosen. Document 01, "What each call turns away".
 use Prim.Native.Nat.{ℕ}
+use mathlib.Core.Path.{_≡_}
 use mathlib.Core.Bool.{Bool, true, false, cond}
 use mathlib.Core.List.{List, [], _∷_}
 use mathlib.Core.Option.{Option, some, none}
@@ -22,6 +23,16 @@ acceptedOf (accepted a) = some a
 abbrev pub orRefuse : {A : Type 0} → ℕ → Option A → Answer A
 orRefuse n none = refused n
 orRefuse n (some a) = accepted a
+
+-- The buffer b behind a call whose answer is what it leaves there: as it was where the call is refused.
+abbrev pub leftIn : {A : Type 0} → A → Answer A → A
+leftIn b (refused n) = b
+leftIn b (accepted a) = a
+
+-- What such a call answers inside, where no number is negative: its number r, and the buffer behind it.
+pub record Answered {A : Type 0} (a : Answer A) (b : A) (r : ℕ) (after : A) : Type 0 where
+  pub number : r ≡ numberOf a
+  pub bytes : after ≡ leftIn b a
 
 -- A number of the table, and whether its condition holds.
 infix 75 _if_

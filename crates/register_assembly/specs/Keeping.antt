@@ -9,7 +9,7 @@ use Rattle.text.specs.Bytes.{any}
 use Rattle.text.specs.Table.{tabulate}
 use Rattle.register_form.specs.Form.{joined}
 use Rattle.register_form.specs.Draft.{onceBehind, once, filtered}
-use Rattle.register_assembly.specs.Tables.{range, formsAt}
+use Rattle.register_form.specs.Tables.{range, formsAt}
 
 -- The forms that a pass keeps: of categories the first, of values the second.
 abbrev pub wants : Bool → ℕ → Bool

@@ -1,4 +1,3 @@
-pub mod Tables
 pub mod Terms
 pub mod Keeping
 pub mod Counting

@@ -3,9 +3,9 @@ ghost use mathlib.Core.Path.{_≡_};
 ghost use Prim.Native.Nat.{_+_, min};
 ghost use lib.ListN.{length};
 ghost use Rattle.register_assembly.specs.Keeping.{wants, Kept, PassKept, PagesKept, Fresh, Within};
-use sorting::get;
-use sorting::put;
-use sorting::widen;
+use tables::get;
+use tables::put;
+use tables::widen;
 use text::byte_at;
 
 // One more, up to 2,049.

@@ -9,17 +9,12 @@ ghost use Rattle.register_assembly.specs.Terms.{codeFor, codeBy, termsBy
 use register_bytes::put_byte;
 use register_bytes::put_eight;
 use register_form::kind_from;
-use sorting::get;
-use sorting::widen;
+use tables::code_at;
+use tables::get;
+use tables::put_start;
+use tables::widen;
 use text::byte_at;
 use values::Kind;
-
-// The code of a form, 0 past the end of the table.
-pub fn code_at(codes: &[u64], i: usize) -> u64
-    ensures { λ r. ⌜ r ≡ getD (now (codes .entry)) i 0 ⌝ }
-{
-    if i < codes.len() { codes[i] } else { 0 }
-}
 
 // The new number of the text that a code names.
 fn number_at(numbers: &[u16], c: u64) -> u64
@@ -82,15 +77,6 @@ pub fn put_terms(
             code_by(kinds, numbers, group, code_at(codes, k)),
         );
         f += 1;
-    }
-}
-
-// Writes a start at a place of a table, where there is room.
-fn put_start(t: &mut [u32], at: usize, v: u32)
-    ensures { λ _. ⌜ now (t .exit) ≡ set (now (t .entry)) at v ⌝ }
-{
-    if at < t.len() {
-        t[at] = v;
     }
 }
 

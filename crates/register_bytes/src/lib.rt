@@ -6,7 +6,7 @@ ghost use Prim.Native.Nat.{_≤_};
 ghost use Rattle.register_form.specs.Numbers.{twoBytes, eightBytes, zeros};
 ghost use Rattle.register_form.specs.Form.{kindCode, kindFrom, propertyBytes};
 ghost use Rattle.register_bytes.specs.Writing.{written, rowOf, fourBytes};
-use sorting::widen;
+use tables::widen;
 
 pub mod regions; // regions.rt: the rows of the regions
 

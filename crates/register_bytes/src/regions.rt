@@ -11,9 +11,9 @@ use crate::put_bytes;
 use crate::put_property;
 use crate::put_two;
 use dictionary::text_at;
-use sorting::get;
-use sorting::num_at;
-use sorting::widen;
+use tables::get;
+use tables::num_at;
+use tables::widen;
 use text::byte_at;
 
 // The first n properties.

@@ -28,7 +28,7 @@ use Rattle.rows.proofs.Verdict.{too-long, verdict}
 use Rattle.register_form.specs.Dictionary.{Dictionary}
 use Rattle.register_form.specs.Form.{joined}
 use Rattle.register_form.specs.Draft.{drafted, Draft}
-use Rattle.register_form.specs.Tables.{draftIn}
+use Rattle.register_form.specs.Tables.{tablesOf, range, draftIn}
 use Rattle.register_form.proofs.Lists.{mem-at}
 use Rattle.register_form.proofs.Parts.{part-before}
 use Rattle.register_draft.specs.declared.Counts.{Counts}
@@ -142,8 +142,8 @@ module _ (heap starts lens kinds names identifiers firsts groups codes : List �
       sym (ap (λ (z : List ℕ). part z (getD starts i 0) (getD lens i 0)) whole ∙ part-before (joined l) (drop at heap) (getD starts i 0) (getD lens i 0) (t .lies i k .within) ∙ t .lies i k .is)))
 
   holding-is : (c : Counts) (d : Dictionary) → Holding heap starts lens kinds names identifiers firsts groups codes c d
-      → draftIn heap starts lens (c .texts) kinds names (c .properties) identifiers firsts (c .pages) groups codes (c .forms) ≡ d
-  unfolding draftIn
+      → draftIn (tablesOf heap starts lens (c .texts) kinds names (c .properties) identifiers firsts (c .pages) groups codes (c .forms)) ≡ d
+  unfolding draftIn range
   holding-is c d h =
       let texts = texts-are (c .texts) (c .bytes) (d .texts) (h .texts) in
       λ i. record { properties = h .properties .rows i; pages = h .pages .rows i; terms = h .terms .rows i; texts = texts i }
@@ -167,7 +167,7 @@ module _ (s : Bytes) (t props : List ℕ) (n np : ℕ) (heap₀ starts₀ lens�
   pub draft-done : (heap starts lens kinds names identifiers firsts groups codes : List ℕ) (c : Counts) (i : ℕ) → i ≤ n → n ≤ i
       → (Accepted s t props n np → Roomy heap₀ starts₀ lens₀ kinds₀ names₀ identifiers₀ firsts₀ groups₀ codes₀ → Holding heap starts lens kinds names identifiers firsts groups codes c (draftOf (properties (entriesIn s t n)) (entriesIn s t i)))
       → Accepted s t props n np → Roomy heap₀ starts₀ lens₀ kinds₀ names₀ identifiers₀ v groups₀ codes₀
-      → draftIn heap starts lens (c .texts) kinds names (c .properties) identifiers firsts (c .pages) groups codes (c .forms) ≡ draftOf (properties (entriesIn s t n)) (entriesIn s t n)
+      → draftIn (tablesOf heap starts lens (c .texts) kinds names (c .properties) identifiers firsts (c .pages) groups codes (c .forms)) ≡ draftOf (properties (entriesIn s t n)) (entriesIn s t n)
   draft-done heap starts lens kinds names identifiers firsts groups codes c i l m h a r =
       let e : i ≡ n = omega arith in
       holding-is heap starts lens kinds names identifiers firsts groups codes c (draftOf (properties (entriesIn s t n)) (entriesIn s t i)) (h a (roomy r))

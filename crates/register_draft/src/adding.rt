@@ -16,16 +16,16 @@ ghost use Rattle.register_draft.specs.Tables.{Properties, Pages, Terms, 
 use super::Counts;
 use super::PropertyFound;
 use super::lookup::property_place;
-use super::tables::byte;
-use super::tables::narrow;
-use super::tables::next;
-use super::tables::push_text;
-use super::tables::push_value;
-use super::tables::put_byte;
-use super::tables::put_code;
-use super::tables::value_code;
-use sorting::put;
-use sorting::widen;
+use super::texts::byte;
+use super::texts::push_text;
+use super::texts::push_value;
+use super::texts::value_code;
+use tables::narrow;
+use tables::next;
+use tables::put;
+use tables::put_byte;
+use tables::put_code;
+use tables::widen;
 use text::part;
 use values::Kind;
 

@@ -5,7 +5,7 @@ ghost use Rattle.language.specs.Register.{Property};
 ghost use Rattle.language.specs.RegisterText.{properties};
 ghost use Rattle.entries.specs.Items.{entryIn};
 ghost use Rattle.entries.specs.Table.{entriesIn};
-ghost use Rattle.register_form.specs.Tables.{draftIn};
+ghost use Rattle.register_form.specs.Tables.{tablesOf, draftIn};
 ghost use Rattle.register_draft.specs.Drafting.{added, draftOf};
 ghost use Rattle.register_draft.specs.Sizes.{Good};
 ghost use Rattle.register_draft.specs.Lookup.{Lists};
@@ -13,7 +13,7 @@ ghost use Rattle.register_draft.specs.Tables.{Holding, Adds, Roomy, Acce
 
 pub mod adding; // adding.rt: what each entry adds
 pub mod lookup; // lookup.rt: a property by its name
-pub mod tables; // tables.rt: writing texts, properties, pages and forms
+pub mod texts; // texts.rt: writing texts, and the codes of values
 
 use adding::draft_page;
 use adding::draft_prop;
@@ -22,7 +22,7 @@ use adding::draft_value;
 use entries::Item;
 use entries::Tag;
 use entries::table::item_at;
-use sorting::put;
+use tables::put;
 use text::part;
 use values::Kind;
 
@@ -125,7 +125,7 @@ pub fn draft_text(
     groups: &mut [u8],
     codes: &mut [u64],
 ) -> Counts
-    ensures { λ r. ⌜ (Accepted (now (s .entry)) (now (t .entry)) (now (props .entry)) n np → Roomy (now (heap .entry)) (now (starts .entry)) (now (lens .entry)) (now (kinds .entry)) (now (names .entry)) (now (identifiers .entry)) (now (firsts .entry)) (now (groups .entry)) (now (codes .entry)) → draftIn (now (heap .exit)) (now (starts .exit)) (now (lens .exit)) (r .texts) (now (kinds .exit)) (now (names .exit)) (r .properties) (now (identifiers .exit)) (now (firsts .exit)) (r .pages) (now (groups .exit)) (now (codes .exit)) (r .forms) ≡ draftOf (properties (entriesIn (now (s .entry)) (now (t .entry)) n)) (entriesIn (now (s .entry)) (now (t .entry)) n)) ⌝ }
+    ensures { λ r. ⌜ (Accepted (now (s .entry)) (now (t .entry)) (now (props .entry)) n np → Roomy (now (heap .entry)) (now (starts .entry)) (now (lens .entry)) (now (kinds .entry)) (now (names .entry)) (now (identifiers .entry)) (now (firsts .entry)) (now (groups .entry)) (now (codes .entry)) → draftIn (tablesOf (now (heap .exit)) (now (starts .exit)) (now (lens .exit)) (r .texts) (now (kinds .exit)) (now (names .exit)) (r .properties) (now (identifiers .exit)) (now (firsts .exit)) (r .pages) (now (groups .exit)) (now (codes .exit)) (r .forms)) ≡ draftOf (properties (entriesIn (now (s .entry)) (now (t .entry)) n)) (entriesIn (now (s .entry)) (now (t .entry)) n)) ⌝ }
 {
     put(firsts, 0, 0);
     let mut c = Counts {

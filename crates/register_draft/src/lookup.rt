@@ -2,11 +2,11 @@
 ghost use mathlib.Core.Path.{_≡_};
 ghost use Rattle.register_draft.specs.Lookup.{foundIn, propertyFound};
 use super::PropertyFound;
-use super::tables::narrow;
 use entries::table::item_at;
-use entries::table::num_at;
 use rows::Declared;
 use rows::checks::is_declared;
+use tables::narrow;
+use tables::num_at;
 use text::part;
 use text::same_bytes;
 

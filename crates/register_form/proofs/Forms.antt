@@ -23,6 +23,7 @@ use Rattle.register_form.specs.Dictionary.{Dictionary, decode}
 use Rattle.register_form.specs.Encoding.{encode}
 use Rattle.register_form.specs.Form.{registerSize, bytesOf, formOf, propertyAt, termAt, dictionaryIn, registerIn, isForm, heldRegister}
 use Rattle.register_form.specs.Tests.{isLaid, isCanonical, keepsRules, tested}
+use Rattle.register_form.specs.Formed.{Formed}
 use Rattle.register_form.proofs.Truths.{each}
 use Rattle.register_form.proofs.Parts.{getD-part}
 use Rattle.register_form.proofs.Numbers.{term-back}
@@ -125,14 +126,14 @@ all-255 n =
     let byte : (i : ℕ) → i < 2 → getD (formOf R) i 0 ≡ 255 = λ i b. ap (λ (k : Bytes). getD k i 0) (sym (q .1)) ∙ getD-take registerSize l i 0 (omega arith) ∙ getD-replicate n i 255 0 (omega arith) in
     omega (arith, count-few R (q .0), byte 0 (omega arith), byte 1 (omega arith)))
 
--- The terms that stand in bytes are made of their groups and codes.
-part-bytes : (h : Bytes) → ((i : ℕ) → getD h i 0 < 256) → (at n i : ℕ) → getD (part h at n) i 0 < 256
+-- A part of bytes is bytes; the terms that stand there are made of their groups and codes.
+pub part-bytes : (h : Bytes) → ((i : ℕ) → getD h i 0 < 256) → (at n i : ℕ) → getD (part h at n) i 0 < 256
 part-bytes h s at n i =
     by-test (ltb i n)
     (λ e. rw (getD-part h at n i (ltb-true i n e)) (s (at + i)))
     (λ e. rw (List·getD-eq-default (part h at n) 0 {n = i} (omega (arith, ltb-false i n e, length-take n (drop at h)))) (omega arith))
 
-shaped-in : (h : Bytes) → isLaid h ≡ true → ((i : ℕ) → getD h i 0 < 256) → Shaped (dictionaryIn h)
+pub shaped-in : (h : Bytes) → isLaid h ≡ true → ((i : ℕ) → getD h i 0 < 256) → Shaped (dictionaryIn h)
 unfolding dictionaryIn termAt
 shaped-in h l s t m =
     let q = mem-place [] m in
@@ -170,3 +171,10 @@ module _ (h : Bytes) (s : (i : ℕ) → getD h i 0 < 256) where
   tested-is =
       same-truth (tested h) (isForm h) tested-form
       (λ t. let u = and-true (isRegister (registerIn h)) (same h (formOf (registerIn h))) t in form-tested (registerIn h) (u .0) (same-eq h (formOf (registerIn h)) (u .1)))
+
+  -- What is known of a form.
+  pub form-formed : isForm h ≡ true → Formed h
+  unfolding isForm tested
+  form-formed f =
+      let k = each (isLaid h) (isCanonical (dictionaryIn h) ∷ keepsRules (dictionaryIn h) ∷ []) (tested-is ∙ f) in
+      record { laid = k 0; canonical = k 1; small = s; register = and-true (isRegister (registerIn h)) (same h (formOf (registerIn h))) f .0 }

@@ -10,8 +10,9 @@ use lib.Dec.{ltb, leb, eqb}
 use lib.ListN.{length, getD}
 use borrow.Author.Tests.{eqb-true, leb-true, ltb-true, eq-eqb, le-leb, lt-ltb}
 use Rattle.text.specs.Bytes.{Bytes}
+use Rattle.text.proofs.Laws.{part-length}
 use Rattle.register_form.specs.Numbers.{twoAt}
-use Rattle.register_form.specs.Form.{registerSize, formStart, textStart}
+use Rattle.register_form.specs.Form.{registerSize, textCount, formStart, textStart, textAt}
 use Rattle.register_form.specs.Tests.{allTo, zerosAt, rises, isCounted, isPadded, isLaid}
 use Rattle.register_form.proofs.Truths.{each}
 use Rattle.register_form.proofs.Regions.{all-to, to-all}
@@ -132,3 +133,11 @@ facts-laid h l =
       facts-rise (textStart h) (twoAt h 6) 35136 (l .texts),
       facts-padded h (l .zeros),
     )
+
+-- A text ends within the bytes.
+pub text-length : (h : Bytes) → Laid h → (x : ℕ) → x < textCount h → length (textAt h x) ≡ textStart h (suc x) - textStart h x
+unfolding textAt
+text-length h laid x b =
+    let up = laid .texts .up in
+    part-length h (28492 + textStart h x) (textStart h (suc x) - textStart h x)
+    (omega (arith, laid .size, laid .texts .last, up x b, rises-to (textStart h) (textCount h) up (suc x) (omega arith)))

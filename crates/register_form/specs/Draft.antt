@@ -5,16 +5,16 @@ use mathlib.Core.Path.{_≡_}
 use mathlib.Core.Bool.{Bool, true, false, cond, not, _&&_}
 use mathlib.Core.List.{List, [], _∷_, _++_, map}
 use lib.Dec.{ltb, eqb}
-use lib.ListN.{length, getD, drop}
+use lib.ListN.{length, getD}
 use Rattle.text.specs.Bytes.{Bytes, orderOf, same, any, all}
 use Rattle.values.specs.declared.Kind.{Kind}
-use Rattle.language.specs.Answer.{Answer, refused, accepted}
+use Rattle.language.specs.Answer.{Answer, refused}
 use Rattle.language.specs.Register.{Page, Register, distinct, sameProperty}
 use Rattle.language.specs.RegisterText.{sameHeld}
 use Rattle.language.specs.Rules.{isWithinLimits}
 use Rattle.sorting.specs.Ascending.{sorted, rank}
 use Rattle.register_form.specs.Dictionary.{PropertyRow, PageRow, Dictionary, termOf, groupOf, codeOf, isCategory, textIn, termIn, propertyIn, decode}
-use Rattle.register_form.specs.Form.{registerSize, formOf}
+use Rattle.register_form.specs.Form.{stored}
 use Rattle.register_form.specs.Tests.{isLabelled, isPlainNumber, isTerm, textUses, termUses, everyUsed}
 
 -- The elements of a list behind those seen, each once: of those alike, the first stays.
@@ -99,7 +99,6 @@ module _ (d : Dictionary) where
         texts = sortedTexts;
       }
 
--- What writing a register into a buffer answers: 7 where it is over a limit, 8 where the buffer is shorter than a held register,
--- else the bytes of the buffer with its form at the front.
+-- What writing a register into a buffer answers: 7 where it is over a limit, else what storing it does.
 unfoldable pub writeInto : Register → Bytes → Answer Bytes
-writeInto R h = cond (isWithinLimits R) (cond (ltb (length h) registerSize) (refused 8) (accepted (formOf R ++ drop registerSize h))) (refused 7)
+writeInto R b = cond (isWithinLimits R) (stored R b) (refused 7)

@@ -1,14 +1,14 @@
 -- The held register: a dictionary in 63,628 bytes. docs/LAYOUT.md has the table.
 use Prim.Native.Nat.{ℕ, suc, _+_, _*_, _-_}
 use mathlib.Core.Bool.{Bool, cond, _&&_}
-use lib.Dec.{eqb}
+use lib.Dec.{ltb, eqb}
 use mathlib.Core.List.{List, [], _∷_, _++_, map, flatMap}
 use mathlib.Core.Option.{Option, some}
-use lib.ListN.{length, getD, take}
+use lib.ListN.{length, getD, take, drop}
 use Rattle.text.specs.Bytes.{Bytes, part, same}
 use Rattle.text.specs.Table.{tabulate}
 use Rattle.values.specs.declared.Kind.{Kind}
-use Rattle.language.specs.Answer.{onlyIf}
+use Rattle.language.specs.Answer.{Answer, refused, accepted, onlyIf}
 use Rattle.language.specs.Register.{Register}
 use Rattle.language.specs.Rules.{isRegister}
 use Rattle.register_form.specs.Numbers.{twoBytes, twoAt, padded, startsFrom}
@@ -57,13 +57,37 @@ bytesOf d =
 unfoldable pub formOf : Register → Bytes
 formOf R = bytesOf (encode R)
 
+-- The buffer b with the bytes of a held register at its front, or 8: "buffer shorter than a held register".
+unfoldable pub placed : Bytes → Bytes → Answer Bytes
+placed bytes b = cond (ltb (length b) registerSize) (refused 8) (accepted (bytes ++ drop registerSize b))
+
+unfoldable pub stored : Register → Bytes → Answer Bytes
+stored R b = placed (formOf R) b
+
 -- What bytes hold, whatever they are. A kind's byte above 3 is read as 3.
 unfoldable pub kindFrom : ℕ → Kind
 kindFrom n = cond (eqb n 0) Kind.Page (cond (eqb n 1) Kind.Number (cond (eqb n 2) Kind.Boolean Kind.String))
 
 module _ (h : Bytes) where
+  -- How many properties, pages, terms and texts there are.
+  abbrev pub propertyCount : ℕ
+  propertyCount = twoAt h 0
+
+  abbrev pub pageCount : ℕ
+  pageCount = twoAt h 2
+
+  abbrev pub termCount : ℕ
+  termCount = twoAt h 4
+
+  abbrev pub textCount : ℕ
+  textCount = twoAt h 6
+
+  -- The byte of property i's kind.
+  abbrev pub kindByte : ℕ → ℕ
+  kindByte i = getD h (8 + 3 * i) 0
+
   unfoldable pub propertyAt : ℕ → PropertyRow
-  propertyAt i = record { kind = kindFrom (getD h (8 + 3 * i) 0); name = twoAt h (9 + 3 * i) }
+  propertyAt i = record { kind = kindFrom (kindByte i); name = twoAt h (9 + 3 * i) }
 
   -- Where the forms of page i begin, among all forms.
   unfoldable pub formStart : ℕ → ℕ
@@ -92,10 +116,10 @@ module _ (h : Bytes) where
   unfoldable pub dictionaryIn : Dictionary
   dictionaryIn =
       record {
-        properties = tabulate (twoAt h 0) propertyAt;
-        pages = tabulate (twoAt h 2) pageAt;
-        terms = tabulate (twoAt h 4) termAt;
-        texts = tabulate (twoAt h 6) textAt;
+        properties = tabulate propertyCount propertyAt;
+        pages = tabulate pageCount pageAt;
+        terms = tabulate termCount termAt;
+        texts = tabulate textCount textAt;
       }
 
   -- The register that bytes describe, whatever they are.

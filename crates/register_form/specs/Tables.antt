@@ -9,16 +9,42 @@ use Rattle.register_form.specs.Dictionary.{PropertyRow, PageRow, Diction
 use Rattle.register_form.specs.Form.{kindFrom}
 
 -- Text i is the part of s that starts and lens tell; property p has the kind of a byte and a text for its name; page i has a text for its
--- identifier, and the forms from firsts i up to the next; form f is a term with a group and a code.
-unfoldable pub draftIn : Bytes → List ℕ → List ℕ → ℕ → List ℕ → List ℕ → ℕ → List ℕ → List ℕ → ℕ → List ℕ → List ℕ → ℕ → Dictionary
-draftIn s starts lens m kinds names np identifiers firsts ng groups codes nf =
+-- identifier, and the forms from firsts i up to the next; form f is a term with a group and a code. There are m texts, np properties, ng
+-- pages and nf forms.
+pub record Tables : Type 0 where
+  pub s : Bytes
+  pub starts : List ℕ
+  pub lens : List ℕ
+  pub m : ℕ
+  pub kinds : List ℕ
+  pub names : List ℕ
+  pub np : ℕ
+  pub identifiers : List ℕ
+  pub firsts : List ℕ
+  pub ng : ℕ
+  pub groups : List ℕ
+  pub codes : List ℕ
+  pub nf : ℕ
+
+-- The tables, one by one, as functions have them.
+abbrev pub tablesOf : Bytes → List ℕ → List ℕ → ℕ → List ℕ → List ℕ → ℕ → List ℕ → List ℕ → ℕ → List ℕ → List ℕ → ℕ → Tables
+tablesOf s starts lens m kinds names np identifiers firsts ng groups codes nf =
+    record { s = s; starts = starts; lens = lens; m = m; kinds = kinds; names = names; np = np; identifiers = identifiers; firsts = firsts; ng = ng; groups = groups; codes = codes; nf = nf }
+
+-- The numbers from one up to another.
+unfoldable pub range : ℕ → ℕ → List ℕ
+range from to = tabulate (to - from) (λ j. from + j)
+
+-- The forms of page i.
+abbrev pub formsAt : List ℕ → ℕ → List ℕ
+formsAt firsts i = range (getD firsts i 0) (getD firsts (suc i) 0)
+
+-- The draft that tables tell.
+unfoldable pub draftIn : Tables → Dictionary
+draftIn t =
     record {
-      properties = tabulate np (λ p. record { kind = kindFrom (getD kinds p 0); name = getD names p 0 });
-      pages =
-          tabulate ng (λ i. record {
-            identifier = getD identifiers i 0;
-            forms = tabulate (getD firsts (suc i) 0 - getD firsts i 0) (λ j. getD firsts i 0 + j);
-          });
-      terms = tabulate nf (λ f. termOf (getD groups f 0) (getD codes f 0));
-      texts = tabulate m (textAt s starts lens);
+      properties = tabulate (t .np) (λ p. record { kind = kindFrom (getD (t .kinds) p 0); name = getD (t .names) p 0 });
+      pages = tabulate (t .ng) (λ i. record { identifier = getD (t .identifiers) i 0; forms = formsAt (t .firsts) i });
+      terms = tabulate (t .nf) (λ f. termOf (getD (t .groups) f 0) (getD (t .codes) f 0));
+      texts = tabulate (t .m) (textAt (t .s) (t .starts) (t .lens));
     }

@@ -12,9 +12,8 @@ use Rattle.values.specs.Spelling.{spelling}
 use Rattle.language.specs.Register.{distinct}
 use Rattle.language.specs.Rules.{isIdentifier, isStorable, total}
 use Rattle.sorting.specs.Ascending.{ascends}
-use Rattle.register_form.specs.Numbers.{twoAt}
 use Rattle.register_form.specs.Dictionary.{PropertyRow, PageRow, Dictionary, spaceOf, nameOf, identifierOf, groupOf, codeOf, isCategory, textIn, termIn, propertyIn, categoryOf, heldOf}
-use Rattle.register_form.specs.Form.{registerSize, formsOf, joined, formStart, textStart, dictionaryIn}
+use Rattle.register_form.specs.Form.{pageCount, propertyCount, termCount, textCount, registerSize, formsOf, joined, formStart, textStart, dictionaryIn}
 
 -- The test holds for each number below n.
 unfoldable pub allTo : ℕ → (ℕ → Bool) → Bool
@@ -30,26 +29,26 @@ unfoldable pub rises : (ℕ → ℕ) → ℕ → ℕ → Bool
 rises f n most = eqb (f 0) 0 && allTo n (λ i. leb (f i) (f (suc i))) && leb (f n) most
 
 unfoldable pub isCounted : Bytes → Bool
-isCounted h = leb (twoAt h 0) 64 && leb (twoAt h 2) 256 && leb (twoAt h 4) 2048 && leb (twoAt h 6) 2368
+isCounted h = leb (propertyCount h) 64 && leb (pageCount h) 256 && leb (termCount h) 2048 && leb (textCount h) 2368
 
 unfoldable pub isPadded : Bytes → Bool
 isPadded h =
-    zerosAt h (8 + 3 * twoAt h 0) (192 - 3 * twoAt h 0)
-    && zerosAt h (200 + 2 * twoAt h 2) (512 - 2 * twoAt h 2)
-    && zerosAt h (714 + 2 * twoAt h 2) (512 - 2 * twoAt h 2)
-    && zerosAt h (1226 + 2 * formStart h (twoAt h 2)) (4096 - 2 * formStart h (twoAt h 2))
-    && zerosAt h (5322 + 9 * twoAt h 4) (18432 - 9 * twoAt h 4)
-    && zerosAt h (23756 + 2 * twoAt h 6) (4736 - 2 * twoAt h 6)
-    && zerosAt h (28492 + textStart h (twoAt h 6)) (35136 - textStart h (twoAt h 6))
+    zerosAt h (8 + 3 * propertyCount h) (192 - 3 * propertyCount h)
+    && zerosAt h (200 + 2 * pageCount h) (512 - 2 * pageCount h)
+    && zerosAt h (714 + 2 * pageCount h) (512 - 2 * pageCount h)
+    && zerosAt h (1226 + 2 * formStart h (pageCount h)) (4096 - 2 * formStart h (pageCount h))
+    && zerosAt h (5322 + 9 * termCount h) (18432 - 9 * termCount h)
+    && zerosAt h (23756 + 2 * textCount h) (4736 - 2 * textCount h)
+    && zerosAt h (28492 + textStart h (textCount h)) (35136 - textStart h (textCount h))
 
 -- The bytes are laid out as those of a dictionary.
 unfoldable pub isLaid : Bytes → Bool
 isLaid h =
     eqb (length h) registerSize
     && isCounted h
-    && allTo (twoAt h 0) (λ i. ltb (getD h (8 + 3 * i) 0) 4)
-    && rises (formStart h) (twoAt h 2) 2048
-    && rises (textStart h) (twoAt h 6) 35136
+    && allTo (propertyCount h) (λ i. ltb (getD h (8 + 3 * i) 0) 4)
+    && rises (formStart h) (pageCount h) 2048
+    && rises (textStart h) (textCount h) 35136
     && isPadded h
 
 -- Of the dictionary. A text's namespace ends within it; is empty.

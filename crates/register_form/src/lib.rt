@@ -1,38 +1,21 @@
 // The held register: reading its rows. Every number is one of 16 bits, so that no place overflows; what lies behind the bytes is 0.
 ghost use mathlib.Core.Path.{_≡_};
-ghost use lib.ListN.{getD};
 ghost use Prim.Native.Nat.{suc, _+_, _*_, _-_};
 ghost use Rattle.register_form.specs.Numbers.{twoAt, eightAt};
 ghost use Rattle.register_form.specs.Dictionary.{spaceOf, nameOf, groupOf, codeOf};
-ghost use Rattle.register_form.specs.Form.{kindFrom, propertyAt, pageAt, formStart, formAt, termAt, textStart, textAt};
+ghost use Rattle.register_form.specs.Form.{kindByte, pageCount, propertyCount, termCount, textCount, kindFrom, propertyAt, pageAt, formStart, formAt, termAt, textStart, textAt};
 
 pub mod spelled; // spelled.rt: how long a number is, spelled
 
+use tables::long;
+use tables::wide;
+use tables::widen;
 use text::byte_at;
 use text::part;
 use values::Kind;
 
 // How many bytes a held register has.
 pub const REGISTER_BYTES: usize = 63628;
-
-// Numbers as wider ones.
-pub fn widen(x: u16) -> usize
-    ensures { λ r. ⌜ r ≡ x ⌝ }
-{
-    x as usize
-}
-
-pub fn wide(b: u8) -> u16
-    ensures { λ r. ⌜ r ≡ b ⌝ }
-{
-    b as u16
-}
-
-pub fn long(x: u16) -> u64
-    ensures { λ r. ⌜ r ≡ x ⌝ }
-{
-    x as u64
-}
 
 // The number in two bytes, and in eight.
 pub fn two_at(h: &[u8], i: usize) -> u16
@@ -61,32 +44,32 @@ pub fn eight_at(h: &[u8], i: usize) -> u64
 
 // How many properties, pages, terms and texts there are.
 pub fn property_count(h: &[u8]) -> u16
-    ensures { λ r. ⌜ r ≡ twoAt (now (h .entry)) 0 ⌝ }
+    ensures { λ r. ⌜ r ≡ propertyCount (now (h .entry)) ⌝ }
 {
     two_at(h, 0)
 }
 
 pub fn page_count(h: &[u8]) -> u16
-    ensures { λ r. ⌜ r ≡ twoAt (now (h .entry)) 2 ⌝ }
+    ensures { λ r. ⌜ r ≡ pageCount (now (h .entry)) ⌝ }
 {
     two_at(h, 2)
 }
 
 pub fn term_count(h: &[u8]) -> u16
-    ensures { λ r. ⌜ r ≡ twoAt (now (h .entry)) 4 ⌝ }
+    ensures { λ r. ⌜ r ≡ termCount (now (h .entry)) ⌝ }
 {
     two_at(h, 4)
 }
 
 pub fn text_count(h: &[u8]) -> u16
-    ensures { λ r. ⌜ r ≡ twoAt (now (h .entry)) 6 ⌝ }
+    ensures { λ r. ⌜ r ≡ textCount (now (h .entry)) ⌝ }
 {
     two_at(h, 6)
 }
 
 // The byte of property p's kind, and the kind; the number of the text that is its name.
 pub fn kind_byte(h: &[u8], p: u16) -> u8
-    ensures { λ r. ⌜ r ≡ getD (now (h .entry)) (8 + 3 * p) 0 ⌝ }
+    ensures { λ r. ⌜ r ≡ kindByte (now (h .entry)) p ⌝ }
 {
     byte_at(h, 8 + 3 * widen(p))
 }

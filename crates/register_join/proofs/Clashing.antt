@@ -18,10 +18,9 @@ use Rattle.language.specs.Register.{Property, kindAmong, sameKind, distinct}
 use Rattle.language.specs.Joining.{isOtherKind, kindsClash}
 use Rattle.language.proofs.Members.{any-same, both-false, all-at}
 use Rattle.language.proofs.Agreement.{sameKind-eq}
-use Rattle.register_form.specs.Numbers.{twoAt}
 use Rattle.register_form.specs.Dictionary.{PropertyRow, Dictionary, nameOf, textIn, propertyIn, noProperty, decodeProperty, decode}
 use Rattle.register_form.specs.Opened.{next}
-use Rattle.register_form.specs.Form.{kindCode, kindFrom, propertyAt, dictionaryIn, registerIn}
+use Rattle.register_form.specs.Form.{kindByte, propertyCount, kindCode, kindFrom, propertyAt, dictionaryIn, registerIn}
 use Rattle.register_form.specs.Tests.{isPlainNumber}
 use Rattle.register_form.specs.Draft.{onceBehind}
 use Rattle.register_form.proofs.Lists.{any-mem, mem-at, mem-place}
@@ -29,7 +28,7 @@ use Rattle.register_form.proofs.Parts.{map-tabulate}
 use Rattle.register_form.proofs.Laying.{Laid, laid-facts}
 use Rattle.register_form.proofs.Rewritten.{kind-again}
 use Rattle.register_form.proofs.Described.{plain-below}
-use Rattle.register_merge.specs.Formed.{Formed}
+use Rattle.register_form.specs.Formed.{Formed}
 use Rattle.register_merge.specs.Merged.{Merged}
 use Rattle.register_join.specs.Joined.{sameRow, nameIn, placeIn, rowOf, rowsOf}
 use Rattle.register_join.specs.Drafting.{itemsIn, Listed, noRow, Rowed, PropertiesPut, clashesAt, someClash, Clashed}
@@ -50,7 +49,7 @@ module _ (h g : Bytes) (items table : List ℕ) (p : ℕ) where
       let place : getD table (itemsIn items (propertyAt h p .name)) 0 ≡ 0 = ap (λ (y : ℕ). getD table (itemsIn items y) 0) (sym (f ∙ e)) ∙ ap (λ (y : ℕ). getD table y 0) (sym k) ∙ sym l ∙ z in
       rw place
 
-  pub clash-is : (n w x v a b : ℕ) (r : Bool) → n ≡ propertyAt h p .name → w ≡ n → x ≡ getD items w 0 → v ≡ getD table x 0 → (v ≡ 0 → ⊥) → a ≡ getD g (8 + 3 * (v - 1)) 0 → b ≡ getD h (8 + 3 * p) 0 → r ≡ not (eqb a b) → r ≡ clashesAt h g items table p
+  pub clash-is : (n w x v a b : ℕ) (r : Bool) → n ≡ propertyAt h p .name → w ≡ n → x ≡ getD items w 0 → v ≡ getD table x 0 → (v ≡ 0 → ⊥) → a ≡ kindByte g (v - 1) → b ≡ kindByte h p → r ≡ not (eqb a b) → r ≡ clashesAt h g items table p
   unfolding clashesAt
   clash-is n w x v a b r e f k l z ae be re =
       let place : v ≡ getD table (itemsIn items (propertyAt h p .name)) 0 = l ∙ ap (λ (y : ℕ). getD table y 0) k ∙ ap (λ (y : ℕ). getD table (itemsIn items y) 0) (f ∙ e) in
@@ -65,15 +64,15 @@ module _ (h g : Bytes) (items table : List ℕ) where
   unfolding someClash tabulate any
   clash-more p b o e f = rw (add-one p) (any-append (clashesAt h g items table) (tabulate p (λ p. p)) (p ∷ []) ∙ both-false o (both-false (sym e ∙ f) refl))
 
-  pub clash-found : (p n : ℕ) (b : Bool) → n ≡ twoAt h 0 → p < n → b ≡ clashesAt h g items table p → b ≡ true → true ≡ someClash h g items table (twoAt h 0)
+  pub clash-found : (p n : ℕ) (b : Bool) → n ≡ propertyCount h → p < n → b ≡ clashesAt h g items table p → b ≡ true → true ≡ someClash h g items table (propertyCount h)
   unfolding someClash
   clash-found p n b k l e f =
       sym (any-mem (clashesAt h g items table)
-      (subst (λ (q : ℕ). List·Memᴰ q (tabulate (twoAt h 0) (λ p. p))) (getD-tabulate (twoAt h 0) (λ p. p) 0 p (omega arith)) (mem-at (tabulate (twoAt h 0) (λ p. p)) p 0 (rw length-tabulate (omega arith))))
+      (subst (λ (q : ℕ). List·Memᴰ q (tabulate (propertyCount h) (λ p. p))) (getD-tabulate (propertyCount h) (λ p. p) 0 p (omega arith)) (mem-at (tabulate (propertyCount h) (λ p. p)) p 0 (rw length-tabulate (omega arith))))
       (sym e ∙ f))
 
-  pub clash-all : (p n : ℕ) → someClash h g items table p ≡ false → n ≡ twoAt h 0 → p ≤ n → n ≤ p → false ≡ someClash h g items table (twoAt h 0)
-  clash-all p n o e a b = sym (ap (someClash h g items table) (let z : twoAt h 0 ≡ p = omega arith in z) ∙ o)
+  pub clash-all : (p n : ℕ) → someClash h g items table p ≡ false → n ≡ propertyCount h → p ≤ n → n ≤ p → false ≡ someClash h g items table (propertyCount h)
+  clash-all p n o e a b = sym (ap (someClash h g items table) (let z : propertyCount h ≡ p = omega arith in z) ∙ o)
 
 -- The kind that properties give a name, by the place of its item.
 abbrev kindPlaced : List PropertyRow → ℕ → Option Kind
@@ -106,19 +105,19 @@ kinds-by-byte a b s t =
     (λ e. sym (kind-again a s) ∙ ap kindCode (sym (sameKind-eq (kindFrom b) (kindFrom a) e)) ∙ kind-again b t)
     (λ e. ap (λ (n : ℕ). sameKind (kindFrom b) (kindFrom n)) e ∙ kind-same (kindFrom b))
 
-kind-byte : (h : Bytes) (p : ℕ) → propertyAt h p .kind ≡ kindFrom (getD h (8 + 3 * p) 0)
+kind-byte : (h : Bytes) (p : ℕ) → propertyAt h p .kind ≡ kindFrom (kindByte h p)
 unfolding propertyAt
 kind-byte h p = refl
 
-first-listed : (h : Bytes) (f : Property → Bool) → any f (decode (dictionaryIn h) .properties) ≡ any (λ p. f (decodeProperty (dictionaryIn h) (propertyAt h p))) (tabulate (twoAt h 0) (λ p. p))
+first-listed : (h : Bytes) (f : Property → Bool) → any f (decode (dictionaryIn h) .properties) ≡ any (λ p. f (decodeProperty (dictionaryIn h) (propertyAt h p))) (tabulate (propertyCount h) (λ p. p))
 unfolding decode dictionaryIn
 first-listed h f =
-    any-map (decodeProperty (dictionaryIn h)) f (tabulate (twoAt h 0) (propertyAt h))
-    ∙ ap (any (λ q. f (decodeProperty (dictionaryIn h) q))) (sym (map-tabulate (propertyAt h) (twoAt h 0) (λ p. p)))
-    ∙ any-map (propertyAt h) (λ q. f (decodeProperty (dictionaryIn h) q)) (tabulate (twoAt h 0) (λ p. p))
+    any-map (decodeProperty (dictionaryIn h)) f (tabulate (propertyCount h) (propertyAt h))
+    ∙ ap (any (λ q. f (decodeProperty (dictionaryIn h) q))) (sym (map-tabulate (propertyAt h) (propertyCount h) (λ p. p)))
+    ∙ any-map (propertyAt h) (λ q. f (decodeProperty (dictionaryIn h) q)) (tabulate (propertyCount h) (λ p. p))
 
 module _ (h g : Bytes) (items1 items2 : List ℕ) (fh : Formed h) (fg : Formed g) (texts : List Bytes) (mg : Merged (dictionaryIn h) (dictionaryIn g) texts (itemsIn items1) (itemsIn items2))
-    (kinds names ks ns t : List ℕ) (r : ℕ) (rk : 64 ≤ length kinds) (rn : 64 ≤ length names) (put : PropertiesPut g items2 kinds names (zeros 4736) 0 (twoAt g 0) ks ns t r) where
+    (kinds names ks ns t : List ℕ) (r : ℕ) (rk : 64 ≤ length kinds) (rn : 64 ≤ length names) (put : PropertiesPut g items2 kinds names (zeros 4736) 0 (propertyCount g) ks ns t r) where
   abbrev d : Dictionary
   d = dictionaryIn h
 
@@ -145,7 +144,7 @@ module _ (h g : Bytes) (items1 items2 : List ℕ) (fh : Formed h) (fg : Formed g
   size = put .table-size ∙ length-zeros 4736
 
   -- The place of a property of the first among those of the second.
-  module _ (p : ℕ) (b : p < twoAt h 0) where
+  module _ (p : ℕ) (b : p < propertyCount h) where
     x : ℕ
     x = item1 (propertyAt h p .name)
 
@@ -173,38 +172,38 @@ module _ (h g : Bytes) (items1 items2 : List ℕ) (fh : Formed h) (fg : Formed g
     unfolding decode
     other = ap (isOtherKind (propertyAt h p .kind)) (kind-placed e item2 x (decodeProperty d (propertyAt h p) .name) (e .properties) same-at ∙ ap (kindPlaced (e .properties)) (sym place))
 
-    place-below : (i : ℕ) → getD t x 0 ≡ suc i → i < twoAt g 0
+    place-below : (i : ℕ) → getD t x 0 ≡ suc i → i < propertyCount g
     place-below i z = omega (arith, place, place-most (map (λ r. item2 (r .name)) (e .properties)) x, length-map (e .properties) (λ r. item2 (r .name)), count-properties g fg)
 
-    by-place : (n : ℕ) → getD t x 0 ≡ n → isOtherKind (propertyAt h p .kind) (kindPlaced (e .properties) n) ≡ cond (eqb n 0) false (not (eqb (getD g (8 + 3 * (n - 1)) 0) (getD h (8 + 3 * p) 0)))
+    by-place : (n : ℕ) → getD t x 0 ≡ n → isOtherKind (propertyAt h p .kind) (kindPlaced (e .properties) n) ≡ cond (eqb n 0) false (not (eqb (kindByte g (n - 1)) (kindByte h p)))
     by-place zero z = refl
     by-place (suc i) z =
-        let k : i < twoAt g 0 = place-below i z in
-        let at : getD (e .properties) i noRow .kind ≡ kindFrom (getD g (8 + 3 * i) 0) = ap (λ (q : PropertyRow). q .kind) (property-is g fg i k) ∙ kind-byte g i in
+        let k : i < propertyCount g = place-below i z in
+        let at : getD (e .properties) i noRow .kind ≡ kindFrom (kindByte g i) = ap (λ (q : PropertyRow). q .kind) (property-is g fg i k) ∙ kind-byte g i in
         let one : suc i - 1 ≡ i = omega arith in
         rw (ne-eqb (suc i) 0 (λ u. omega arith), one)
-        (ap not (ap₂ sameKind (kind-byte h p) at ∙ kinds-by-byte (getD g (8 + 3 * i) 0) (getD h (8 + 3 * p) 0) (laid-facts g (fg .laid) .kinds i k) (laid-facts h (fh .laid) .kinds p b)))
+        (ap not (ap₂ sameKind (kind-byte h p) at ∙ kinds-by-byte (kindByte g i) (kindByte h p) (laid-facts g (fg .laid) .kinds i k) (laid-facts h (fh .laid) .kinds p b)))
 
     pub clash-at : clashesAt h g items1 t p ≡ isOtherKind (decodeProperty d (propertyAt h p) .kind) (kindAmong (decode e .properties) (decodeProperty d (propertyAt h p) .name))
     unfolding clashesAt x decodeProperty
     clash-at = sym (other ∙ by-place (getD t x 0) refl)
 
-  pub clash-told : someClash h g items1 t (twoAt h 0) ≡ kindsClash (registerIn h) (registerIn g)
+  pub clash-told : someClash h g items1 t (propertyCount h) ≡ kindsClash (registerIn h) (registerIn g)
   unfolding someClash kindsClash registerIn
   clash-told =
-      any-same (clashesAt h g items1 t) (λ p. isOtherKind (decodeProperty d (propertyAt h p) .kind) (kindAmong (decode e .properties) (decodeProperty d (propertyAt h p) .name))) (tabulate (twoAt h 0) (λ p. p)) each
+      any-same (clashesAt h g items1 t) (λ p. isOtherKind (decodeProperty d (propertyAt h p) .kind) (kindAmong (decode e .properties) (decodeProperty d (propertyAt h p) .name))) (tabulate (propertyCount h) (λ p. p)) each
       ∙ sym listed
     where
-      each : (p : ℕ) → List·Memᴰ p (tabulate (twoAt h 0) (λ p. p)) → clashesAt h g items1 t p ≡ isOtherKind (decodeProperty d (propertyAt h p) .kind) (kindAmong (decode e .properties) (decodeProperty d (propertyAt h p) .name))
+      each : (p : ℕ) → List·Memᴰ p (tabulate (propertyCount h) (λ p. p)) → clashesAt h g items1 t p ≡ isOtherKind (decodeProperty d (propertyAt h p) .kind) (kindAmong (decode e .properties) (decodeProperty d (propertyAt h p) .name))
       each p m =
           let q = mem-place 0 m in
-          let k : q .0 < twoAt h 0 = rw length-tabulate at (q .1) in
-          clash-at p (subst (λ (n : ℕ). n < twoAt h 0) (sym (getD-tabulate (twoAt h 0) (λ p. p) 0 (q .0) k) ∙ q .2) k)
+          let k : q .0 < propertyCount h = rw length-tabulate at (q .1) in
+          clash-at p (subst (λ (n : ℕ). n < propertyCount h) (sym (getD-tabulate (propertyCount h) (λ p. p) 0 (q .0) k) ∙ q .2) k)
 
-      listed : any (λ q. isOtherKind (q .kind) (kindAmong (decode e .properties) (q .name))) (decode d .properties) ≡ any (λ p. isOtherKind (decodeProperty d (propertyAt h p) .kind) (kindAmong (decode e .properties) (decodeProperty d (propertyAt h p) .name))) (tabulate (twoAt h 0) (λ p. p))
+      listed : any (λ q. isOtherKind (q .kind) (kindAmong (decode e .properties) (q .name))) (decode d .properties) ≡ any (λ p. isOtherKind (decodeProperty d (propertyAt h p) .kind) (kindAmong (decode e .properties) (decodeProperty d (propertyAt h p) .name))) (tabulate (propertyCount h) (λ p. p))
       listed = first-listed h (λ q. isOtherKind (q .kind) (kindAmong (decode e .properties) (q .name)))
 
-pub clash-put : (h g : Bytes) (items1 items2 ks ns t : List ℕ) (n : ℕ) (r : Bool) → PropertiesPut g items2 (zeros 64) (zeros 64) (zeros 4736) 0 (twoAt g 0) ks ns t n → r ≡ someClash h g items1 t (twoAt h 0) → Clashed h g items1 items2 r
+pub clash-put : (h g : Bytes) (items1 items2 ks ns t : List ℕ) (n : ℕ) (r : Bool) → PropertiesPut g items2 (zeros 64) (zeros 64) (zeros 4736) 0 (propertyCount g) ks ns t n → r ≡ someClash h g items1 t (propertyCount h) → Clashed h g items1 items2 r
 clash-put h g items1 items2 ks ns t n r put e =
     record { is = λ fh fg texts mg. e ∙ clash-told h g items1 items2 fh fg texts mg (zeros 64) (zeros 64) ks ns t n (omega (arith, length-zeros 64)) (omega (arith, length-zeros 64)) put }
 

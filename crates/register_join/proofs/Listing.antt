@@ -1,9 +1,10 @@
 -- Lists without repeats, with a table of places: what one more entry gives.
-use Prim.Native.Nat.{ℕ, zero, suc, _+_, _≤_, _<_}
+use Prim.Native.Nat.{ℕ, zero, suc, _+_, _%_, _≤_, _<_}
 use mathlib.Core.Path.{_≡_, refl, sym, ap, ap₂, _∙_, subst}
 use mathlib.Core.Bool.{Bool, true, false, cond, not, _||_, true≢false, false≢true}
 use mathlib.Core.List.{List, [], _∷_, _++_, map, map-append}
 use mathlib.Core.Logic.{_⊎_, inl, inr, ⊎-elim}
+use native.Mathlib.Nat.{mod-eq-of-lt}
 use native.Mathlib.Omega.{arith}
 use native.Mathlib.Numerals.{add-one}
 use native.Mathlib.Decide.{ℕ-discrete}
@@ -95,14 +96,14 @@ enter-there table list n x k v e f g = record { table-size = refl; list-size = r
         let some : any (eqb x) keys ≡ true = place-any keys x ∙ ap not (ne-eqb (placeIn keys x) 0 (λ z. g (f ∙ ap (λ (y : ℕ). getD table y 0) e ∙ l .table-is x b ∙ z))) in
         rw some l
 
-pub enter-new : (table list t l : List ℕ) (n x k v m w : ℕ) → k ≡ x → v ≡ getD table k 0 → v ≡ 0 → (n < 65535 → m ≡ n + 1) → t ≡ set table k m → w ≡ n → l ≡ set list w x → Entering table list n x t l m
+pub enter-new : (table list t l : List ℕ) (n x k v m w : ℕ) → k ≡ x → v ≡ getD table k 0 → v ≡ 0 → m ≡ (n + 1) % 65536 → t ≡ set table k m → w ≡ n → l ≡ set list w x → Entering table list n x t l m
 enter-new table list t l n x k v m w e f z step p q r = record { table-size = ap length p ∙ length-set table k m; list-size = ap length r ∙ length-set list w x; listed = new }
   where
     new : (keys : List ℕ) → Listed table list n keys → x < length table → n < length list → n < 65535 → Listed t l m (entered keys x)
     new keys o b c s = rw none (record { count = mm ∙ omega (arith, o .count, length-append keys (x ∷ [])); list-is = λ i a. at i a; table-is = λ y a. places y a (ℕ-discrete y x) })
       where
         mm : m ≡ n + 1
-        mm = step s
+        mm = step ∙ mod-eq-of-lt (omega arith)
 
         none : any (eqb x) keys ≡ false
         none = place-any keys x ∙ ap not (eq-eqb (placeIn keys x) 0 (sym (o .table-is x b) ∙ ap (λ (y : ℕ). getD table y 0) (sym e) ∙ sym f ∙ z))

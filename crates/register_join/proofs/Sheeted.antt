@@ -15,14 +15,13 @@ use Rattle.language.specs.Joining.{onlyIn}
 use Rattle.language.proofs.Members.{by-test, getD-mapped}
 use Rattle.language.proofs.Unions.{only-member}
 use Rattle.dictionary.specs.Items.{textAt as itemAt}
-use Rattle.register_form.specs.Numbers.{twoAt}
 use Rattle.register_form.specs.Dictionary.{PageRow, Dictionary}
-use Rattle.register_form.specs.Form.{dictionaryIn}
+use Rattle.register_form.specs.Form.{pageCount, propertyCount, dictionaryIn}
 use Rattle.register_form.specs.Tests.{termUses}
-use Rattle.register_form.specs.Tables.{draftIn}
+use Rattle.register_form.specs.Tables.{tablesOf, range, draftIn}
 use Rattle.register_form.proofs.Lists.{mem-at}
 use Rattle.register_form.proofs.Described.{form-below}
-use Rattle.register_merge.specs.Formed.{Formed}
+use Rattle.register_form.specs.Formed.{Formed}
 use Rattle.register_merge.specs.Merged.{Merged}
 use Rattle.register_join.specs.Sheets.{Sheet, termsOn, numberedFrom, draftOf}
 use Rattle.register_join.specs.Joined.{nameIn, placeIn, noPage, formsIn, keyOf, keysOf, movedTerms, joinRows, joinNames, secondTerms, sheetBoth, sheetSecond, joinSheets, joinDraft}
@@ -194,8 +193,8 @@ module _ (h g : Bytes) (items1 items2 : List ℕ) (fh : Formed h) (fg : Formed g
 
   -- The tables are those of the draft.
   pub draft-is : (firsts groups codes : List ℕ) (nf : ℕ) → Ended sheets ng firsts groups codes nf → (s : Bytes) (starts lens : List ℕ) (m : ℕ)
-      → draftIn s starts lens m kinds names np identifiers firsts ng groups codes nf ≡ joinDraft d e item1 item2 (tabulate m (itemAt s starts lens))
-  unfolding draftIn joinDraft draftOf
+      → draftIn (tablesOf s starts lens m kinds names np identifiers firsts ng groups codes nf) ≡ joinDraft d e item1 item2 (tabulate m (itemAt s starts lens))
+  unfolding draftIn range joinDraft draftOf
   draft-is firsts groups codes nf o s starts lens m =
       λ k.
       record {
@@ -207,9 +206,9 @@ module _ (h g : Bytes) (items1 items2 : List ℕ) (fh : Formed h) (fg : Formed g
 
 -- What the calls gave: the rows of both, the keys of both, those of the second, and the pages.
 pub join-put : (h g : Bytes) (items1 items2 kinds names identifiers firsts groups codes k1 n1 p1 ks ns p2 i1 t1 is t2 l3 t3 fs gs cs : List ℕ) (r1 np r2 ng r3 nf : ℕ)
-    → PropertiesPut h items1 kinds names (zeros 4736) 0 (twoAt h 0) k1 n1 p1 r1 → PropertiesPut g items2 k1 n1 p1 r1 (twoAt g 0) ks ns p2 np
-    → IdentifiersPut h items1 identifiers (zeros 4736) 0 (twoAt h 2) i1 t1 r2 → IdentifiersPut g items2 i1 t1 r2 (twoAt g 2) is t2 ng
-    → IdentifiersPut g items2 (zeros 256) (zeros 4736) 0 (twoAt g 2) l3 t3 r3
+    → PropertiesPut h items1 kinds names (zeros 4736) 0 (propertyCount h) k1 n1 p1 r1 → PropertiesPut g items2 k1 n1 p1 r1 (propertyCount g) ks ns p2 np
+    → IdentifiersPut h items1 identifiers (zeros 4736) 0 (pageCount h) i1 t1 r2 → IdentifiersPut g items2 i1 t1 r2 (pageCount g) is t2 ng
+    → IdentifiersPut g items2 (zeros 256) (zeros 4736) 0 (pageCount g) l3 t3 r3
     → PagesPut (newSheet h g items1 items2 p2 t3 is) ng firsts groups codes fs gs cs nf
     → JoinPut h g items1 items2 kinds names identifiers firsts groups codes ks ns is fs gs cs np ng nf
 join-put h g items1 items2 kinds names identifiers firsts groups codes k1 n1 p1 ks ns p2 i1 t1 is t2 l3 t3 fs gs cs r1 np r2 ng r3 nf a1 a2 b1 b2 b3 q =

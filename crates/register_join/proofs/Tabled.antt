@@ -18,16 +18,15 @@ use Rattle.language.specs.Joining.{onlyIn, union}
 use Rattle.language.proofs.Members.{by-test, getD-mapped}
 use Rattle.language.proofs.Unions.{only-member}
 use Rattle.dictionary.specs.Items.{textAt as itemAt}
-use Rattle.register_form.specs.Numbers.{twoAt}
 use Rattle.register_form.specs.Dictionary.{PropertyRow, PageRow, Dictionary, termOf}
-use Rattle.register_form.specs.Form.{kindFrom, propertyAt, pageAt, dictionaryIn}
+use Rattle.register_form.specs.Form.{pageCount, propertyCount, kindFrom, propertyAt, pageAt, dictionaryIn}
 use Rattle.register_form.specs.Tests.{termUses}
 use Rattle.register_form.specs.Draft.{onceBehind, once}
 use Rattle.register_form.specs.Tables.{draftIn}
 use Rattle.register_form.proofs.Lists.{mem-at}
 use Rattle.register_form.proofs.Parts.{map-tabulate, flat-append, flat-more}
 use Rattle.register_form.proofs.Described.{Canon, form-below}
-use Rattle.register_merge.specs.Formed.{Formed}
+use Rattle.register_form.specs.Formed.{Formed}
 use Rattle.register_merge.specs.Merged.{Itemed, Merged}
 use Rattle.register_join.specs.Sheets.{Sheet, termsOn, numberedFrom, draftOf}
 use Rattle.register_join.specs.Joined.{sameRow, nameIn, placeIn, noPage, formsIn, rowOf, rowsOf, keyOf, keysOf, movedTerms, joinRows, joinNames, secondTerms, sheetBoth, sheetSecond, joinSheets, joinDraft}
@@ -83,13 +82,13 @@ rows-table kinds names table n rows o =
 
 -- One dictionary's rows and keys, by its bytes.
 module _ (h : Bytes) (item : ℕ → ℕ) where
-  pub rows-in : rowsOf (dictionaryIn h) item ≡ tabulate (twoAt h 0) (λ q. record { kind = propertyAt h q .kind; name = item (propertyAt h q .name) })
+  pub rows-in : rowsOf (dictionaryIn h) item ≡ tabulate (propertyCount h) (λ q. record { kind = propertyAt h q .kind; name = item (propertyAt h q .name) })
   unfolding rowsOf dictionaryIn
-  rows-in = map-tabulate (rowOf (dictionaryIn h) item) (twoAt h 0) (propertyAt h)
+  rows-in = map-tabulate (rowOf (dictionaryIn h) item) (propertyCount h) (propertyAt h)
 
-  keys-in : keysOf (dictionaryIn h) item ≡ tabulate (twoAt h 2) (λ q. item (pageAt h q .identifier))
+  keys-in : keysOf (dictionaryIn h) item ≡ tabulate (pageCount h) (λ q. item (pageAt h q .identifier))
   unfolding keysOf dictionaryIn
-  keys-in = map-tabulate (keyOf (dictionaryIn h) item) (twoAt h 2) (pageAt h)
+  keys-in = map-tabulate (keyOf (dictionaryIn h) item) (pageCount h) (pageAt h)
 
 pub noSheet : Sheet
 noSheet = record { identifier = 0; terms = [] }
@@ -130,7 +129,7 @@ module _ (h g : Bytes) (items1 items2 : List ℕ) (fh : Formed h) (fg : Formed g
 
   -- The rows of both.
   module _ (kinds names table k1 n1 p1 ks ns p2 : List ℕ) (r1 np : ℕ) (zero-there : (x : ℕ) → x < length table → getD table x 0 ≡ 0) (size : length table ≡ 4736)
-      (a1 : PropertiesPut h items1 kinds names table 0 (twoAt h 0) k1 n1 p1 r1) (a2 : PropertiesPut g items2 k1 n1 p1 r1 (twoAt g 0) ks ns p2 np)
+      (a1 : PropertiesPut h items1 kinds names table 0 (propertyCount h) k1 n1 p1 r1) (a2 : PropertiesPut g items2 k1 n1 p1 r1 (propertyCount g) ks ns p2 np)
       (rk : 128 ≤ length kinds) (rn : 128 ≤ length names) where
     rowed1 : Rowed k1 n1 p1 r1 (onceBehind sameRow [] (rowsOf d item1))
     rowed1 =
@@ -145,7 +144,7 @@ module _ (h g : Bytes) (items1 items2 : List ℕ) (fh : Formed h) (fg : Formed g
           rowed1 .listed .count,
           length-map (onceBehind sameRow [] (rowsOf d item1)) nameIn,
           ap (λ (l : List PropertyRow). length (onceBehind sameRow [] l)) (rows-in h item1),
-          behind-most sameRow [] (twoAt h 0) (λ q. record { kind = propertyAt h q .kind; name = item1 (propertyAt h q .name) }),
+          behind-most sameRow [] (propertyCount h) (λ q. record { kind = propertyAt h q .kind; name = item1 (propertyAt h q .name) }),
         )
 
     rowed2 : Rowed ks ns p2 np (onceBehind sameRow (onceBehind sameRow [] (rowsOf d item1)) (rowsOf e item2))
@@ -171,28 +170,28 @@ module _ (h g : Bytes) (items1 items2 : List ℕ) (fh : Formed h) (fg : Formed g
           first-few,
           properties-few g fg,
           ap (λ (l : List PropertyRow). length (onceBehind sameRow (onceBehind sameRow [] (rowsOf d item1)) l)) (rows-in g item2),
-          behind-most sameRow (onceBehind sameRow [] (rowsOf d item1)) (twoAt g 0) (λ q. record { kind = propertyAt g q .kind; name = item2 (propertyAt g q .name) }),
+          behind-most sameRow (onceBehind sameRow [] (rowsOf d item1)) (propertyCount g) (λ q. record { kind = propertyAt g q .kind; name = item2 (propertyAt g q .name) }),
         )
 
   -- The keys of one register, and of both.
   module _ (list table l1 t1 : List ℕ) (r1 : ℕ) (zero-there : (x : ℕ) → x < length table → getD table x 0 ≡ 0) (size : length table ≡ 4736) where
-    pub second-listed : 256 ≤ length list → IdentifiersPut g items2 list table 0 (twoAt g 2) l1 t1 r1 → Listed t1 l1 r1 (keysOf e item2)
+    pub second-listed : 256 ≤ length list → IdentifiersPut g items2 list table 0 (pageCount g) l1 t1 r1 → Listed t1 l1 r1 (keysOf e item2)
     second-listed room b =
         let few = pages-few g fg in
         subst (Listed t1 l1 r1) (ap (onceBehind eqb []) (sym (keys-in g item2)) ∙ once-distinct eqb-likeness (keysOf e item2) once2)
         (b .listed [] (listed-none table list zero-there) (omega arith) (omega arith) (λ q k. rw size (below2 (pageAt g q .identifier) (identifier-below g fg q k))))
 
-    first-listed : 512 ≤ length list → IdentifiersPut h items1 list table 0 (twoAt h 2) l1 t1 r1 → Listed t1 l1 r1 (keysOf d item1)
+    first-listed : 512 ≤ length list → IdentifiersPut h items1 list table 0 (pageCount h) l1 t1 r1 → Listed t1 l1 r1 (keysOf d item1)
     first-listed room b =
         let few = pages-few h fh in
         subst (Listed t1 l1 r1) (ap (onceBehind eqb []) (sym (keys-in h item1)) ∙ once-distinct eqb-likeness (keysOf d item1) once1)
         (b .listed [] (listed-none table list zero-there) (omega arith) (omega arith) (λ q k. rw size (below1 (pageAt h q .identifier) (identifier-below h fh q k))))
 
-    pub both-listed : (is t2 : List ℕ) (ng : ℕ) → 512 ≤ length list → IdentifiersPut h items1 list table 0 (twoAt h 2) l1 t1 r1 → IdentifiersPut g items2 l1 t1 r1 (twoAt g 2) is t2 ng → Listed t2 is ng (keysOf d item1 ++ only)
+    pub both-listed : (is t2 : List ℕ) (ng : ℕ) → 512 ≤ length list → IdentifiersPut h items1 list table 0 (pageCount h) l1 t1 r1 → IdentifiersPut g items2 l1 t1 r1 (pageCount g) is t2 ng → Listed t2 is ng (keysOf d item1 ++ only)
     both-listed is t2 ng room b c =
         let own = first-listed room b in
         let low = pages-few h fh in
         let few = pages-few g fg in
-        let count : length (keysOf d item1) ≡ twoAt h 2 = ap length (keys-in h item1) ∙ length-tabulate (twoAt h 2) (λ q. item1 (pageAt h q .identifier)) in
+        let count : length (keysOf d item1) ≡ pageCount h = ap length (keys-in h item1) ∙ length-tabulate (pageCount h) (λ q. item1 (pageAt h q .identifier)) in
         subst (Listed t2 is ng) (ap (onceBehind eqb (keysOf d item1)) (sym (keys-in g item2)) ∙ ap (λ (l : List ℕ). onceBehind eqb l (keysOf e item2)) (sym (once-distinct eqb-likeness (keysOf d item1) once1)) ∙ sym (behind-append eqb [] (keysOf d item1) (keysOf e item2)) ∙ once-append eqb-likeness (keysOf d item1) (keysOf e item2) once1 once2)
         (c .listed (keysOf d item1) own (omega (arith, own .count, b .list-size)) (omega (arith, own .count)) (λ q k. rw (b .table-size, size) (below2 (pageAt g q .identifier) (identifier-below g fg q k))))

@@ -11,13 +11,12 @@ use borrow.Author.Tests.{eqb-false}
 use Rattle.text.specs.Bytes.{Bytes}
 use Rattle.values.specs.declared.Kind.{Kind}
 use Rattle.language.proofs.Members.{map-same, by-test}
-use Rattle.register_form.specs.Numbers.{twoAt}
 use Rattle.register_form.specs.Dictionary.{PropertyRow, PageRow, Dictionary, termOf, groupOf, codeOf, isCategory, termIn, propertyIn}
 use Rattle.register_form.specs.Opened.{next}
-use Rattle.register_form.specs.Form.{propertyAt, termAt, dictionaryIn}
+use Rattle.register_form.specs.Form.{propertyCount, propertyAt, termAt, dictionaryIn}
 use Rattle.register_form.proofs.Lists.{mem-at}
 use Rattle.register_form.proofs.Described.{value-group-fits}
-use Rattle.register_merge.specs.Formed.{Formed}
+use Rattle.register_form.specs.Formed.{Formed}
 use Rattle.register_join.specs.Joined.{placeIn, codeBy, movedTerm, movedTerms}
 use Rattle.register_join.specs.Drafting.{itemsIn, newGroup, newCode, newTerm, newTerms}
 use Rattle.register_join.proofs.Held.{held-canon, count-properties, property-is, term-is, name-below}
@@ -41,7 +40,7 @@ module _ (h : Bytes) (f : Formed h) (items table names : List ℕ)
   -- A group, where it is that of a property.
   group-is : (g : ℕ) → (g ≡ 0 → ⊥) → g ≤ length (d .properties) → getD table (itemsIn items (propertyAt h (g - 1) .name)) 0 % 256 ≡ placeIn names (itemsIn items (propertyIn d (g - 1) .name))
   group-is g some most =
-      let b : g - 1 < twoAt h 0 = omega (arith, some, count-properties h f) in
+      let b : g - 1 < propertyCount h = omega (arith, some, count-properties h f) in
       let x = itemsIn items (propertyAt h (g - 1) .name) in
       let at : getD table x 0 ≡ placeIn names x = there x (below (propertyAt h (g - 1) .name) (name-below h f (g - 1) b)) in
       ap (λ (y : ℕ). y % 256) at

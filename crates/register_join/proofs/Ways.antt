@@ -10,9 +10,8 @@ use borrow.Author.Tests.{eq-eqb, ne-eqb}
 use Rattle.text.specs.Bytes.{Bytes, any}
 use Rattle.text.specs.Table.{tabulate}
 use Rattle.values.specs.declared.Kind.{Kind}
-use Rattle.register_form.specs.Numbers.{twoAt}
 use Rattle.register_form.specs.Dictionary.{PropertyRow}
-use Rattle.register_form.specs.Form.{kindFrom, propertyAt, pageAt}
+use Rattle.register_form.specs.Form.{kindByte, pageCount, propertyCount, kindFrom, propertyAt, pageAt}
 use Rattle.register_form.specs.Draft.{onceBehind}
 use Rattle.register_join.specs.Joined.{sameRow, nameIn, codeBy}
 use Rattle.register_join.specs.Drafting.{itemsIn, Listed, Entering, Rowed, PropertiesPut, IdentifiersPut, newGroup, newCode}
@@ -61,7 +60,7 @@ module _ (h : Bytes) (items : List ℕ) where
     unfolding onceBehind tabulate
     identifiers-none = record { list-size = refl; table-size = refl; listed = λ keys o a b c. o }
 
-    pub identifiers-next : (i n v w x : ℕ) (l t m u : List ℕ) (r : ℕ) → IdentifiersPut h items list table from i l t n → i < twoAt h 2 → v ≡ pageAt h i .identifier → w ≡ v → x ≡ getD items w 0 → Entering t l n x u m r → IdentifiersPut h items list table from (i + 1) m u r
+    pub identifiers-next : (i n v w x : ℕ) (l t m u : List ℕ) (r : ℕ) → IdentifiersPut h items list table from i l t n → i < pageCount h → v ≡ pageAt h i .identifier → w ≡ v → x ≡ getD items w 0 → Entering t l n x u m r → IdentifiersPut h items list table from (i + 1) m u r
     identifiers-next i n v w x l t m u r p b e f g q =
         record {
           list-size = q .list-size ∙ p .list-size;
@@ -74,11 +73,11 @@ module _ (h : Bytes) (items : List ℕ) where
               (rw at at (q .listed (onceBehind eqb keys (tabulate i (λ q. itemsIn items (pageAt h q .identifier)))) done (omega (arith, d i b, at, p .table-size)) (omega (arith, p .list-size)) (omega arith)));
         }
 
-  pub identifiers-all : (list table : List ℕ) (from i m : ℕ) (l t : List ℕ) (n : ℕ) → IdentifiersPut h items list table from i l t n → m ≡ twoAt h 2 → i ≤ m → m ≤ i → IdentifiersPut h items list table from (twoAt h 2) l t n
-  identifiers-all list table from i m l t n p e a b = subst (λ (k : ℕ). IdentifiersPut h items list table from k l t n) (let z : i ≡ twoAt h 2 = omega arith in z) p
+  pub identifiers-all : (list table : List ℕ) (from i m : ℕ) (l t : List ℕ) (n : ℕ) → IdentifiersPut h items list table from i l t n → m ≡ pageCount h → i ≤ m → m ≤ i → IdentifiersPut h items list table from (pageCount h) l t n
+  identifiers-all list table from i m l t n p e a b = subst (λ (k : ℕ). IdentifiersPut h items list table from k l t n) (let z : i ≡ pageCount h = omega arith in z) p
 
   -- Properties: none, one more, all.
-  kind-is : (i k : ℕ) → k ≡ getD h (8 + 3 * i) 0 → kindFrom k ≡ propertyAt h i .kind
+  kind-is : (i k : ℕ) → k ≡ kindByte h i → kindFrom k ≡ propertyAt h i .kind
   unfolding propertyAt
   kind-is i k e = ap kindFrom e
 
@@ -90,7 +89,7 @@ module _ (h : Bytes) (items : List ℕ) where
     unfolding onceBehind tabulate
     properties-none = record { kinds-size = refl; names-size = refl; table-size = refl; rowed = λ rows o a b c d. o }
 
-    pub properties-next : (i n k v w x y : ℕ) (ks ns t ls ms u : List ℕ) (r : ℕ) → PropertiesPut h items kinds names table from i ks ns t n → i < twoAt h 0 → w ≡ n → k ≡ getD h (8 + 3 * i) 0 → ls ≡ set ks w k → v ≡ propertyAt h i .name → y ≡ v → x ≡ getD items y 0 → Entering t ns n x u ms r → PropertiesPut h items kinds names table from (i + 1) ls ms u r
+    pub properties-next : (i n k v w x y : ℕ) (ks ns t ls ms u : List ℕ) (r : ℕ) → PropertiesPut h items kinds names table from i ks ns t n → i < propertyCount h → w ≡ n → k ≡ kindByte h i → ls ≡ set ks w k → v ≡ propertyAt h i .name → y ≡ v → x ≡ getD items y 0 → Entering t ns n x u ms r → PropertiesPut h items kinds names table from (i + 1) ls ms u r
     properties-next i n k v w x y ks ns t ls ms u r p b we ke lse ve ye xe q =
         record {
           kinds-size = ap length lse ∙ length-set ks w k ∙ p .kinds-size;
@@ -104,8 +103,8 @@ module _ (h : Bytes) (items : List ℕ) where
               (rowed-more ks ns t ls ms u n r w k (onceBehind sameRow rows (tabulate i row)) (row i) done we lse (kind-is i k ke) (rw at at q) (omega (arith, g i b, p .table-size)) (omega (arith, p .kinds-size)) (omega (arith, p .names-size)) (omega arith));
         }
 
-  pub properties-all : (kinds names table : List ℕ) (from i m : ℕ) (ks ns t : List ℕ) (n : ℕ) → PropertiesPut h items kinds names table from i ks ns t n → m ≡ twoAt h 0 → i ≤ m → m ≤ i → PropertiesPut h items kinds names table from (twoAt h 0) ks ns t n
-  properties-all kinds names table from i m ks ns t n p e a b = subst (λ (k : ℕ). PropertiesPut h items kinds names table from k ks ns t n) (let z : i ≡ twoAt h 0 = omega arith in z) p
+  pub properties-all : (kinds names table : List ℕ) (from i m : ℕ) (ks ns t : List ℕ) (n : ℕ) → PropertiesPut h items kinds names table from i ks ns t n → m ≡ propertyCount h → i ≤ m → m ≤ i → PropertiesPut h items kinds names table from (propertyCount h) ks ns t n
+  properties-all kinds names table from i m ks ns t n p e a b = subst (λ (k : ℕ). PropertiesPut h items kinds names table from k ks ns t n) (let z : i ≡ propertyCount h = omega arith in z) p
 
 pub ruleset drafting =
     (group-none, group-is, code-category, code-page, code-number, code-boolean, code-string, enter-there, enter-new, put-term, page-none, page-past, page-put)

@@ -1,12 +1,14 @@
 -- Two registers whose kinds do not clash: the draft of their join describes it. For registers, and for held registers by the calls.
 use Rattle.language.proofs.Rules.{Ruled, register-rules}
-use Prim.Native.Nat.{ℕ}
+use Prim.Native.Nat.{ℕ, _≤_}
 use mathlib.Core.Path.{_≡_, refl, sym, ap, ap₂, _∙_, subst}
 use mathlib.Core.Bool.{true, false}
 use mathlib.Core.List.{List, [], _∷_, flatMap, List·Memᴰ}
-use lib.ListN.{length, getD}
+use native.Mathlib.Omega.{arith}
+use lib.ListN.{length}
 use Rattle.text.specs.Bytes.{Bytes, orderOf}
 use Rattle.text.specs.Table.{tabulate}
+use Rattle.text.proofs.Tables.{length-tabulate}
 use Rattle.language.specs.Register.{Held, Page, Register}
 use Rattle.language.specs.Rules.{isRegister}
 use Rattle.language.specs.Joining.{join, kindsClash}
@@ -16,20 +18,22 @@ use Rattle.register_form.specs.Dictionary.{Dictionary, termOf, groupOf, codeOf,
 use Rattle.register_form.specs.Encoding.{categoryTerm, valueTerm, pageTerms, termsOf, encode}
 use Rattle.register_form.specs.Form.{dictionaryIn, registerIn}
 use Rattle.register_form.specs.Draft.{Draft, drafted}
-use Rattle.register_form.specs.Tables.{draftIn}
+use Rattle.register_form.specs.Tables.{tablesOf, draftIn}
 use Rattle.register_form.proofs.Lists.{of-flat, of-sorted}
 use Rattle.register_form.proofs.Rules.{Limits, within}
 use Rattle.register_form.proofs.Decoded.{category-code, value-code, decoded}
 use Rattle.register_form.proofs.Canonical.{TermFrom, term-from, canonical}
 use Rattle.register_form.proofs.Described.{Shaped, canon}
-use Rattle.register_merge.specs.Formed.{Formed}
+use Rattle.register_form.specs.Formed.{Formed}
 use Rattle.register_merge.specs.Merged.{Merged}
-use Rattle.register_merge.specs.Merging.{Room, Merger}
+use Rattle.register_join.specs.Sheets.{draftOf}
 use Rattle.register_join.specs.Joined.{joinDraft}
 use Rattle.register_join.specs.Drafting.{itemsIn, TableRoom, JoinPut}
 use Rattle.register_join.proofs.Rows.{Proper, Joint}
 use Rattle.register_join.proofs.Drafted.{join-draft, join-drafted}
-use Rattle.register_join.proofs.Held.{proper}
+use Rattle.register_join.proofs.Totals.{sheets-few}
+use Rattle.register_join.proofs.Held.{proper, forms-few}
+use Rattle.register_join.proofs.Tabled.{once1, once2}
 
 -- The dictionary of a register.
 module _ (R : Register) (h : isRegister R ≡ true) where
@@ -76,28 +80,49 @@ module _ (R S : Register) (r : isRegister R ≡ true) (s : isRegister S ≡ true
   pub registers-drafted : drafted (joinDraft (encode R) (encode S) item1 item2 texts) ≡ join R S
   registers-drafted = join-drafted (encode R) (encode S) item1 item2 texts joint ∙ ap₂ join back1 back2
 
--- Of held registers: what `merge` and `draft_join` leave in the tables, where `kinds_clash` answered false.
-module _ (h g heap : Bytes) (starts lens i1 i2 : List ℕ) (u : Bytes) (ss ls items1 items2 : List ℕ) (n : ℕ) (merger : Merger h g heap starts lens i1 i2 u ss ls items1 items2 n)
+-- Of held registers: what `draft_join` leaves in the tables, where the texts are merged and the kinds do not clash.
+module _ (h g u : Bytes) (ss ls items1 items2 : List ℕ) (n : ℕ) (fh : Formed h) (fg : Formed g)
+    (merged : Merged (dictionaryIn h) (dictionaryIn g) (tabulate n (itemAt u ss ls)) (itemsIn items1) (itemsIn items2)) (clear : kindsClash (registerIn h) (registerIn g) ≡ false)
     (kinds names identifiers firsts groups codes ks ns is fs gs cs : List ℕ) (np ng nf : ℕ) (put : JoinPut h g items1 items2 kinds names identifiers firsts groups codes ks ns is fs gs cs np ng nf)
-    (fh : Formed h) (fg : Formed g) (room : Room heap starts lens i1 i2) (space : TableRoom kinds names identifiers firsts groups codes) (clear : kindsClash (registerIn h) (registerIn g) ≡ false) where
-  texts : List Bytes
-  texts = tabulate n (itemAt u ss ls)
+    (space : TableRoom kinds names identifiers firsts groups codes)
+  where
+    abbrev texts : List Bytes
+    texts = tabulate n (itemAt u ss ls)
 
-  merged : Merged (dictionaryIn h) (dictionaryIn g) texts (itemsIn items1) (itemsIn items2)
-  unfolding texts
-  merged = merger .merged fh fg room
+    abbrev made : Dictionary
+    made = joinDraft (dictionaryIn h) (dictionaryIn g) (itemsIn items1) (itemsIn items2) texts
 
-  is-join : draftIn u ss ls n ks ns np is fs ng gs cs nf ≡ joinDraft (dictionaryIn h) (dictionaryIn g) (itemsIn items1) (itemsIn items2) texts
-  unfolding texts
-  is-join = put .draft fh fg texts merged space u ss ls n
+    pub held-is-join : draftIn (tablesOf u ss ls n ks ns np is fs ng gs cs nf) ≡ made
+    held-is-join = put .draft fh fg texts merged space u ss ls n
 
-  held-joint : Joint (dictionaryIn h) (dictionaryIn g) (itemsIn items1) (itemsIn items2) texts
-  unfolding registerIn
-  held-joint = record { first = proper h fh; second = proper g fg; merged = merged; clear = clear }
+    held-joint : Joint (dictionaryIn h) (dictionaryIn g) (itemsIn items1) (itemsIn items2) texts
+    unfolding registerIn
+    held-joint = record { first = proper h fh; second = proper g fg; merged = merged; clear = clear }
 
-  pub held-draft : Draft (draftIn u ss ls n ks ns np is fs ng gs cs nf)
-  held-draft = rw is-join (join-draft (dictionaryIn h) (dictionaryIn g) (itemsIn items1) (itemsIn items2) texts held-joint)
+    pub held-draft : Draft (draftIn (tablesOf u ss ls n ks ns np is fs ng gs cs nf))
+    held-draft = rw held-is-join (join-draft (dictionaryIn h) (dictionaryIn g) (itemsIn items1) (itemsIn items2) texts held-joint)
 
-  pub held-drafted : drafted (draftIn u ss ls n ks ns np is fs ng gs cs nf) ≡ join (registerIn h) (registerIn g)
-  unfolding registerIn
-  held-drafted = ap drafted is-join ∙ join-drafted (dictionaryIn h) (dictionaryIn g) (itemsIn items1) (itemsIn items2) texts held-joint
+    pub held-drafted : drafted (draftIn (tablesOf u ss ls n ks ns np is fs ng gs cs nf)) ≡ join (registerIn h) (registerIn g)
+    unfolding registerIn
+    held-drafted = ap drafted held-is-join ∙ join-drafted (dictionaryIn h) (dictionaryIn g) (itemsIn items1) (itemsIn items2) texts held-joint
+
+    -- How many texts and forms there are.
+    pub held-texts : n ≤ 4736
+    held-texts = omega (arith, merged .few, length-tabulate n (itemAt u ss ls))
+
+    made-terms : length (made .terms) ≤ 4096
+    unfolding joinDraft draftOf
+    made-terms =
+        omega (
+          arith,
+          sheets-few (dictionaryIn h) (dictionaryIn g) (itemsIn items1) (itemsIn items2) (once1 h g items1 items2 fh fg texts merged) (once2 h g items1 items2 fh fg texts merged),
+          forms-few h fh,
+          forms-few g fg,
+        )
+
+    draft-terms : length (draftIn (tablesOf u ss ls n ks ns np is fs ng gs cs nf) .terms) ≡ nf
+    unfolding draftIn
+    draft-terms = length-tabulate nf _
+
+    pub held-forms : nf ≤ 4096
+    held-forms = omega (arith, draft-terms, ap (λ (d : Dictionary). length (d .terms)) held-is-join, made-terms)

@@ -3,7 +3,7 @@ use Prim.Native.Nat.{ℕ, zero, suc, _+_, _-_, _%_, _≤_, _<_}
 use mathlib.Core.Path.{_≡_, refl, sym, ap, ap₂, _∙_, subst}
 use mathlib.Core.List.{List, [], _∷_, _++_, map, flatMap, map-append, append-nil, append-assoc}
 use mathlib.Core.Logic.{_⊎_, inl, inr, ⊎-elim}
-use native.Mathlib.Nat.{add-zero}
+use native.Mathlib.Nat.{add-zero, mod-eq-of-lt}
 use native.Mathlib.Omega.{arith}
 use native.Mathlib.Numerals.{add-one}
 use native.Mathlib.Decide.{ℕ-discrete}
@@ -12,9 +12,8 @@ use lib.Seq.{getD-set-same, getD-set-other}
 use Rattle.text.specs.Bytes.{Bytes}
 use Rattle.text.specs.Table.{tabulate}
 use Rattle.text.proofs.Tables.{length-tabulate, getD-tabulate}
-use Rattle.register_form.specs.Numbers.{twoAt}
 use Rattle.register_form.specs.Dictionary.{PageRow, termOf, groupOf, codeOf}
-use Rattle.register_form.specs.Form.{pageAt, formStart, formAt, termAt, dictionaryIn}
+use Rattle.register_form.specs.Form.{pageCount, pageAt, formStart, formAt, termAt, dictionaryIn}
 use Rattle.register_form.proofs.Parts.{flat-more}
 use Rattle.register_join.specs.Sheets.{Sheet, termsOn}
 use Rattle.register_join.specs.Joined.{noPage, formsIn}
@@ -26,11 +25,11 @@ module _ (groups codes : List ℕ) (n : ℕ) where
   put-none = record { groups-size = refl; codes-size = refl; written = λ l w a b s. rw append-nil w }
 
   -- One term.
-  pub put-one : (gs cs : List ℕ) (r w v g c : ℕ) → w ≡ n → gs ≡ set groups w g → v ≡ n → cs ≡ set codes v c → (n < 65535 → r ≡ n + 1) → TermsPut groups codes n (termOf g c ∷ []) gs cs r
+  pub put-one : (gs cs : List ℕ) (r w v g c : ℕ) → w ≡ n → gs ≡ set groups w g → v ≡ n → cs ≡ set codes v c → r ≡ (n + 1) % 65536 → TermsPut groups codes n (termOf g c ∷ []) gs cs r
   put-one gs cs r w v g c e p f q step = record { groups-size = ap length p ∙ length-set groups w g; codes-size = ap length q ∙ length-set codes v c; written = more }
     where
       more : (l : List Bytes) → Written groups codes n l → n + 1 ≤ length groups → n + 1 ≤ length codes → n + 1 < 65536 → Written gs cs r (l ++ (termOf g c ∷ []))
-      more l o a b s = record { count = step (omega arith) ∙ omega (arith, o .count, length-append l (termOf g c ∷ [])); is = at }
+      more l o a b s = record { count = step ∙ mod-eq-of-lt s ∙ omega (arith, o .count, length-append l (termOf g c ∷ [])); is = at }
         where
           group-at : (i : ℕ) → getD gs i 0 ≡ getD (set groups n g) i 0
           group-at i = ap (λ (u : List ℕ). getD u i 0) (p ∙ ap (λ (u : ℕ). set groups u g) e)
@@ -67,7 +66,7 @@ module _ (groups codes : List ℕ) (n : ℕ) where
 
 -- A term of a register, and forms of it.
 module _ (h : Bytes) (items table : List ℕ) where
-  pub put-term : (groups codes : List ℕ) (n f g : ℕ) (gs cs : List ℕ) (r w v x c y : ℕ) → g ≡ groupOf (termAt h f) → w ≡ n → x ≡ newGroup h items table g → gs ≡ set groups w x → v ≡ n → c ≡ codeOf (termAt h f) → y ≡ newCode h items g c → cs ≡ set codes v y → (n < 65535 → r ≡ n + 1) → TermsPut groups codes n (newTerm h items table f ∷ []) gs cs r
+  pub put-term : (groups codes : List ℕ) (n f g : ℕ) (gs cs : List ℕ) (r w v x c y : ℕ) → g ≡ groupOf (termAt h f) → w ≡ n → x ≡ newGroup h items table g → gs ≡ set groups w x → v ≡ n → c ≡ codeOf (termAt h f) → y ≡ newCode h items g c → cs ≡ set codes v y → r ≡ (n + 1) % 65536 → TermsPut groups codes n (newTerm h items table f ∷ []) gs cs r
   unfolding newTerm
   put-term groups codes n f g gs cs r w v x c y ge we xe gse ve ce ye cse step =
       let xx : x ≡ newGroup h items table (groupOf (termAt h f)) = xe ∙ ap (newGroup h items table) ge in
@@ -111,19 +110,19 @@ module _ (h : Bytes) (items table : List ℕ) where
     unfolding newTerms
     page-none e = rw e (put-none groups codes n)
 
-    pub page-past : (i c : ℕ) → (place ≡ 0 → ⊥) → i ≡ place - 1 → c ≡ twoAt h 2 → c ≤ i → TermsPut groups codes n (newTerms h items table (formsIn (dictionaryIn h .pages) place)) groups codes n
+    pub page-past : (i c : ℕ) → (place ≡ 0 → ⊥) → i ≡ place - 1 → c ≡ pageCount h → c ≤ i → TermsPut groups codes n (newTerms h items table (formsIn (dictionaryIn h .pages) place)) groups codes n
     unfolding newTerms dictionaryIn
     page-past i c some e f b =
         let s : place ≡ suc i = omega (arith, some) in
-        let none : getD (tabulate (twoAt h 2) (pageAt h)) i noPage ≡ noPage = List·getD-eq-default (tabulate (twoAt h 2) (pageAt h)) noPage (rw length-tabulate (omega arith)) in
-        let empty : formsIn (tabulate (twoAt h 2) (pageAt h)) place ≡ [] = ap (formsIn (tabulate (twoAt h 2) (pageAt h))) s ∙ ap (λ (q : PageRow). q .forms) none in
+        let none : getD (tabulate (pageCount h) (pageAt h)) i noPage ≡ noPage = List·getD-eq-default (tabulate (pageCount h) (pageAt h)) noPage (rw length-tabulate (omega arith)) in
+        let empty : formsIn (tabulate (pageCount h) (pageAt h)) place ≡ [] = ap (formsIn (tabulate (pageCount h) (pageAt h))) s ∙ ap (λ (q : PageRow). q .forms) none in
         subst (λ (l : List ℕ). TermsPut groups codes n (map (newTerm h items table) l) groups codes n) (sym empty) (put-none groups codes n)
 
-    pub page-put : (i c a b : ℕ) (gs cs : List ℕ) (r : ℕ) → (place ≡ 0 → ⊥) → i ≡ place - 1 → c ≡ twoAt h 2 → i < c → a ≡ formStart h i → b ≡ formStart h (suc i) → TermsPut groups codes n (newTerms h items table (tabulate (b - a) (λ j. formAt h (a + j)))) gs cs r → TermsPut groups codes n (newTerms h items table (formsIn (dictionaryIn h .pages) place)) gs cs r
+    pub page-put : (i c a b : ℕ) (gs cs : List ℕ) (r : ℕ) → (place ≡ 0 → ⊥) → i ≡ place - 1 → c ≡ pageCount h → i < c → a ≡ formStart h i → b ≡ formStart h (suc i) → TermsPut groups codes n (newTerms h items table (tabulate (b - a) (λ j. formAt h (a + j)))) gs cs r → TermsPut groups codes n (newTerms h items table (formsIn (dictionaryIn h .pages) place)) gs cs r
     unfolding dictionaryIn pageAt
     page-put i c a b gs cs r some e f k ae be p =
         let s : place ≡ suc i = omega (arith, some) in
-        let at : getD (tabulate (twoAt h 2) (pageAt h)) i noPage .forms ≡ tabulate (formStart h (suc i) - formStart h i) (λ j. formAt h (formStart h i + j)) = ap (λ (q : PageRow). q .forms) (getD-tabulate (twoAt h 2) (pageAt h) noPage i (omega arith)) in
+        let at : getD (tabulate (pageCount h) (pageAt h)) i noPage .forms ≡ tabulate (formStart h (suc i) - formStart h i) (λ j. formAt h (formStart h i + j)) = ap (λ (q : PageRow). q .forms) (getD-tabulate (pageCount h) (pageAt h) noPage i (omega arith)) in
         rw (s, at) (rw (be, ae) at p)
 
 -- Pages.

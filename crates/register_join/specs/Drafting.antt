@@ -10,12 +10,11 @@ use Rattle.text.specs.Table.{tabulate}
 use Rattle.values.specs.declared.Kind.{Kind}
 use Rattle.language.specs.Joining.{kindsClash}
 use Rattle.dictionary.specs.Items.{textAt as itemAt}
-use Rattle.register_form.specs.Numbers.{twoAt}
 use Rattle.register_form.specs.Dictionary.{PropertyRow, PageRow, Dictionary, termOf, groupOf, codeOf, noProperty}
-use Rattle.register_form.specs.Form.{kindFrom, propertyAt, pageAt, formAt, termAt, dictionaryIn, registerIn}
+use Rattle.register_form.specs.Form.{kindByte, pageCount, propertyCount, kindFrom, propertyAt, pageAt, formAt, termAt, dictionaryIn, registerIn}
 use Rattle.register_form.specs.Draft.{onceBehind}
-use Rattle.register_form.specs.Tables.{draftIn}
-use Rattle.register_merge.specs.Formed.{Formed}
+use Rattle.register_form.specs.Tables.{tablesOf, draftIn}
+use Rattle.register_form.specs.Formed.{Formed}
 use Rattle.register_merge.specs.Merged.{Merged}
 use Rattle.register_join.specs.Sheets.{Sheet, termsOn}
 use Rattle.register_join.specs.Joined.{sameRow, nameIn, placeIn, formsIn, rowsOf, keysOf, codeBy, joinDraft}
@@ -51,15 +50,15 @@ pub record PropertiesPut (h : Bytes) (items kinds names table : List ℕ) (n p :
   pub kinds-size : length ks ≡ length kinds
   pub names-size : length ns ≡ length names
   pub table-size : length t ≡ length table
-  pub rowed : (rows : List PropertyRow) → Rowed kinds names table n rows → n + twoAt h 0 ≤ length kinds → n + twoAt h 0 ≤ length names → n + twoAt h 0 < 65536
-      → ((q : ℕ) → q < twoAt h 0 → itemsIn items (propertyAt h q .name) < length table)
+  pub rowed : (rows : List PropertyRow) → Rowed kinds names table n rows → n + propertyCount h ≤ length kinds → n + propertyCount h ≤ length names → n + propertyCount h < 65536
+      → ((q : ℕ) → q < propertyCount h → itemsIn items (propertyAt h q .name) < length table)
       → Rowed ks ns t r (onceBehind sameRow rows (tabulate p (λ q. record { kind = propertyAt h q .kind; name = itemsIn items (propertyAt h q .name) })))
 
 pub record IdentifiersPut (h : Bytes) (items list table : List ℕ) (n p : ℕ) (l t : List ℕ) (r : ℕ) : Type 0 where
   pub list-size : length l ≡ length list
   pub table-size : length t ≡ length table
-  pub listed : (keys : List ℕ) → Listed table list n keys → n + twoAt h 2 ≤ length list → n + twoAt h 2 < 65536
-      → ((q : ℕ) → q < twoAt h 2 → itemsIn items (pageAt h q .identifier) < length table)
+  pub listed : (keys : List ℕ) → Listed table list n keys → n + pageCount h ≤ length list → n + pageCount h < 65536
+      → ((q : ℕ) → q < pageCount h → itemsIn items (pageAt h q .identifier) < length table)
       → Listed t l r (onceBehind eqb keys (tabulate p (λ q. itemsIn items (pageAt h q .identifier))))
 
 -- A term of a held register with items and places; the group's place is that of its property's name in a table.
@@ -124,14 +123,14 @@ pub record JoinPut (h g : Bytes) (items1 items2 kinds names identifiers firsts g
   pub sizes : (length ks ≡ length kinds) × (length ns ≡ length names) × (length is ≡ length identifiers) × (length fs ≡ length firsts) × (length gs ≡ length groups) × (length cs ≡ length codes)
   pub draft : Formed h → Formed g → (texts : List Bytes) → Merged (dictionaryIn h) (dictionaryIn g) texts (itemsIn items1) (itemsIn items2) → TableRoom kinds names identifiers firsts groups codes
       → (s : Bytes) (starts lens : List ℕ) (m : ℕ)
-      → draftIn s starts lens m ks ns np is fs ng gs cs nf ≡ joinDraft (dictionaryIn h) (dictionaryIn g) (itemsIn items1) (itemsIn items2) (tabulate m (itemAt s starts lens))
+      → draftIn (tablesOf s starts lens m ks ns np is fs ng gs cs nf) ≡ joinDraft (dictionaryIn h) (dictionaryIn g) (itemsIn items1) (itemsIn items2) (tabulate m (itemAt s starts lens))
 
 -- Whether property p of the first register and the like one of the second, if there is one, have different kinds; a table has the places
 -- of the second's names.
 unfoldable pub clashesAt : Bytes → Bytes → List ℕ → List ℕ → ℕ → Bool
 clashesAt h g items table p =
     cond (eqb (getD table (itemsIn items (propertyAt h p .name)) 0) 0) false
-    (not (eqb (getD g (8 + 3 * (getD table (itemsIn items (propertyAt h p .name)) 0 - 1)) 0) (getD h (8 + 3 * p) 0)))
+    (not (eqb (kindByte g (getD table (itemsIn items (propertyAt h p .name)) 0 - 1)) (kindByte h p)))
 
 unfoldable pub someClash : Bytes → Bytes → List ℕ → List ℕ → ℕ → Bool
 someClash h g items table n = any (clashesAt h g items table) (tabulate n (λ p. p))

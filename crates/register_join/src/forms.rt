@@ -7,8 +7,6 @@ ghost use Rattle.text.specs.Table.{tabulate};
 ghost use Rattle.register_form.specs.Form.{formAt, dictionaryIn};
 ghost use Rattle.register_join.specs.Joined.{formsIn};
 ghost use Rattle.register_join.specs.Drafting.{newGroup, newCode, newTerm, newTerms, TermsPut};
-use crate::after;
-use crate::put_byte;
 use register_form::code_at;
 use register_form::form_at;
 use register_form::form_end;
@@ -17,19 +15,13 @@ use register_form::group_at;
 use register_form::kind_at;
 use register_form::name_number;
 use register_form::page_count;
-use sorting::get;
-use sorting::num_at;
-use sorting::widen;
+use tables::get;
+use tables::next;
+use tables::num_at;
+use tables::put_byte;
+use tables::put_code;
+use tables::widen;
 use values::Kind;
-
-// Writes a code at a place of a table, where there is room.
-fn put_code(t: &mut [u64], at: usize, v: u64)
-    ensures { λ _. ⌜ now (t .exit) ≡ set (now (t .entry)) at v ⌝ }
-{
-    if at < t.len() {
-        t[at] = v;
-    }
-}
 
 // The property that a group above 0 is of.
 fn property_of(g: u8) -> u16
@@ -93,7 +85,7 @@ fn put_term(
     let g = group_at(h, f);
     put_byte(groups, widen(n), new_group(h, items, table, g));
     put_code(codes, widen(n), new_code(h, items, g, code_at(h, f)));
-    after(n)
+    next(n)
 }
 
 // Puts the forms from first up to end.

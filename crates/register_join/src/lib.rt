@@ -2,7 +2,7 @@
 ghost use mathlib.Core.Path.{_≡_};
 ghost use Prim.Native.Nat.{_+_, _<_};
 ghost use lib.ListN.{set};
-ghost use Rattle.register_form.specs.Numbers.{twoAt};
+ghost use Rattle.register_form.specs.Form.{pageCount, propertyCount};
 ghost use Rattle.register_join.specs.Drafting.{Entering, PropertiesPut, IdentifiersPut, newSheet, PagesPut, JoinPut, clashesAt, someClash, Clashed};
 use forms::put_page;
 use register_form::identifier_number;
@@ -10,10 +10,12 @@ use register_form::kind_byte;
 use register_form::name_number;
 use register_form::page_count;
 use register_form::property_count;
-use sorting::get;
-use sorting::num_at;
-use sorting::put;
-use sorting::widen;
+use tables::get;
+use tables::next;
+use tables::num_at;
+use tables::put;
+use tables::put_byte;
+use tables::widen;
 
 mod forms; // forms.rt: the forms of a page
 
@@ -24,22 +26,6 @@ pub struct Counts {
     pub forms: u16,
 }
 
-// Writes a byte at a place of a table, where there is room.
-pub fn put_byte(t: &mut [u8], at: usize, v: u8)
-    ensures { λ _. ⌜ now (t .exit) ≡ set (now (t .entry)) at v ⌝ }
-{
-    if at < t.len() {
-        t[at] = v;
-    }
-}
-
-// One more, up to 65,535.
-pub fn after(i: u16) -> u16
-    ensures { λ r. ⌜ (i < 65535 → r ≡ i + 1) ⌝ }
-{
-    if i < 65535 { i + 1 } else { i }
-}
-
 // Puts x behind the first n of a list, unless the table has a place for it; answers how many there are.
 fn enter(table: &mut [u16], list: &mut [u16], n: u16, x: u16) -> u16
     ensures { λ r. ⌜ Entering (now (table .entry)) (now (list .entry)) n x (now (table .exit)) (now (list .exit)) r ⌝ }
@@ -48,7 +34,7 @@ fn enter(table: &mut [u16], list: &mut [u16], n: u16, x: u16) -> u16
     if get(table, k) != 0 {
         return n;
     }
-    let m = after(n);
+    let m = next(n);
     put(table, k, m);
     put(list, widen(n), x);
     m
@@ -63,7 +49,7 @@ fn put_properties(
     table: &mut [u16],
     from: u16,
 ) -> u16
-    ensures { λ r. ⌜ PropertiesPut (now (h .entry)) (now (items .entry)) (now (kinds .entry)) (now (names .entry)) (now (table .entry)) from (twoAt (now (h .entry)) 0) (now (kinds .exit)) (now (names .exit)) (now (table .exit)) r ⌝ }
+    ensures { λ r. ⌜ PropertiesPut (now (h .entry)) (now (items .entry)) (now (kinds .entry)) (now (names .entry)) (now (table .entry)) from (propertyCount (now (h .entry))) (now (kinds .exit)) (now (names .exit)) (now (table .exit)) r ⌝ }
 {
     let most = property_count(h);
     let mut n = from;
@@ -78,7 +64,7 @@ fn put_properties(
 
 // Puts the identifiers of a register's pages behind the first n, those that are not there.
 fn put_identifiers(h: &[u8], items: &[u16], list: &mut [u16], table: &mut [u16], from: u16) -> u16
-    ensures { λ r. ⌜ IdentifiersPut (now (h .entry)) (now (items .entry)) (now (list .entry)) (now (table .entry)) from (twoAt (now (h .entry)) 2) (now (list .exit)) (now (table .exit)) r ⌝ }
+    ensures { λ r. ⌜ IdentifiersPut (now (h .entry)) (now (items .entry)) (now (list .entry)) (now (table .entry)) from (pageCount (now (h .entry))) (now (list .exit)) (now (table .exit)) r ⌝ }
 {
     let most = page_count(h);
     let mut n = from;
@@ -102,7 +88,7 @@ fn clashes(h: &[u8], g: &[u8], items: &[u16], table: &[u16], p: u16) -> bool
 }
 
 fn some_clash(h: &[u8], g: &[u8], items: &[u16], table: &[u16]) -> bool
-    ensures { λ r. ⌜ r ≡ someClash (now (h .entry)) (now (g .entry)) (now (items .entry)) (now (table .entry)) (twoAt (now (h .entry)) 0) ⌝ }
+    ensures { λ r. ⌜ r ≡ someClash (now (h .entry)) (now (g .entry)) (now (items .entry)) (now (table .entry)) (propertyCount (now (h .entry))) ⌝ }
 {
     let most = property_count(h);
     let mut p: u16 = 0;

@@ -1,9 +1,10 @@
 -- A run of the merge: what holds after each text.
-use Prim.Native.Nat.{ℕ, suc, _+_, _-_, _≤_, _<_}
+use Prim.Native.Nat.{ℕ, suc, _+_, _-_, _%_, _≤_, _<_}
 use mathlib.Core.Path.{_≡_, refl, sym, ap, ap₂, _∙_}
 use mathlib.Core.Bool.{Bool, true, false, cond}
 use mathlib.Core.Logic.{_⊎_, inl, inr, ⊎-elim}
 use mathlib.Core.List.{List, []}
+use native.Mathlib.Nat.{mod-eq-of-lt}
 use native.Mathlib.Omega.{arith}
 use native.Mathlib.Decide.{ℕ-discrete}
 use lib.ListN.{length, getD, set, length-set}
@@ -15,9 +16,8 @@ use Rattle.text.specs.declared.Order.the-variants.{Less}
 use Rattle.language.proofs.Members.{by-test}
 use Rattle.sorting.proofs.Orders.{bytes-total}
 use Rattle.dictionary.specs.Items.{textAt as itemAt}
-use Rattle.register_form.specs.Numbers.{twoAt}
-use Rattle.register_form.specs.Form.{textStart, textAt, dictionaryIn}
-use Rattle.register_merge.specs.Formed.{Formed}
+use Rattle.register_form.specs.Form.{textCount, textStart, textAt, dictionaryIn}
+use Rattle.register_form.specs.Formed.{Formed}
 use Rattle.register_merge.specs.Merged.{Itemed, Names, Merged}
 use Rattle.register_merge.specs.Merging.{nextOrder, takesFirst, takesSecond, nextText, Pasted, Added, Noted, Room, Merger}
 use Rattle.register_merge.proofs.Stored.{text-new, text-old, within-more}
@@ -26,8 +26,8 @@ use Rattle.register_merge.proofs.Halves.{Half, Has, half-none, half-nex
 use Rattle.register_merge.proofs.Sides.{ascends-table, texts-few, texts-up, start-most, text-length, start-next}
 
 pub record State (h g heap : Bytes) (starts lens items1 items2 : List ℕ) (i j k end : ℕ) : Type 0 where
-  pub first : Half (textAt h) (twoAt h 6) i k (itemAt heap starts lens) items1
-  pub second : Half (textAt g) (twoAt g 6) j k (itemAt heap starts lens) items2
+  pub first : Half (textAt h) (textCount h) i k (itemAt heap starts lens) items1
+  pub second : Half (textAt g) (textCount g) j k (itemAt heap starts lens) items2
   pub up : (a b : ℕ) → a < b → b < k → orderOf (itemAt heap starts lens a) (itemAt heap starts lens b) ≡ Less
   pub each : (a : ℕ) → a < k → Has items1 i a ⊎ Has items2 j a
   pub within : (a : ℕ) → a < k → getD starts a 0 + getD lens a 0 ≤ end
@@ -48,29 +48,29 @@ module _ (n : ℕ) (items is : List ℕ) (i k p : ℕ) (f : Bool) (small : n < 6
 
 -- One text more.
 module _ (h g heap : Bytes) (starts lens items1 items2 : List ℕ) (i j k end : ℕ) (o : Order)
-    (u : Bytes) (ss ls is js : List ℕ) (p q l r : ℕ) (hb : twoAt h 6 < 65536) (gb : twoAt g 6 < 65536)
+    (u : Bytes) (ss ls is js : List ℕ) (p q l r : ℕ) (hb : textCount h < 65536) (gb : textCount g < 65536)
     (fh : Formed h) (fg : Formed g) (room : Room heap starts lens items1 items2) (st : State h g heap starts lens items1 items2 i j k end)
-    (i-most : i ≤ twoAt h 6) (j-most : j ≤ twoAt g 6) (nx : Next h g i j o)
+    (i-most : i ≤ textCount h) (j-most : j ≤ textCount g) (nx : Next h g i j o)
     (added : Added heap starts lens k end (nextText o (textAt h i) (textAt g j)) u ss ls r)
-    (noted1 : Noted items1 i k (takesFirst o) is p) (noted2 : Noted items2 j k (takesSecond o) js q) (more : k + 1 < 65536 → l ≡ k + 1) where
+    (noted1 : Noted items1 i k (takesFirst o) is p) (noted2 : Noted items2 j k (takesSecond o) js q) (more : l ≡ (k + 1) % 65536) where
   w : Bytes
   w = nextText o (textAt h i) (textAt g j)
 
   p-is : p ≡ i + bit (takesFirst o)
-  p-is = next-number (twoAt h 6) items1 is i k p (takesFirst o) hb i-most (nx .below1) noted1
+  p-is = next-number (textCount h) items1 is i k p (takesFirst o) hb i-most (nx .below1) noted1
 
   q-is : q ≡ j + bit (takesSecond o)
-  q-is = next-number (twoAt g 6) items2 js j k q (takesSecond o) gb j-most (nx .below2) noted2
+  q-is = next-number (textCount g) items2 js j k q (takesSecond o) gb j-most (nx .below2) noted2
 
   -- By the register that it is taken from.
   by : {A : Type 0} → (takesFirst o ≡ true → A) → (takesSecond o ≡ true → A) → A
   by f s = by-test (takesFirst o) f (λ e. s (nx .some e))
 
-  p-most : p ≤ twoAt h 6
-  p-most = next-most (twoAt h 6) items1 is i k p (takesFirst o) hb i-most (nx .below1) noted1
+  p-most : p ≤ textCount h
+  p-most = next-most (textCount h) items1 is i k p (takesFirst o) hb i-most (nx .below1) noted1
 
-  q-most : q ≤ twoAt g 6
-  q-most = next-most (twoAt g 6) items2 js j k q (takesSecond o) gb j-most (nx .below2) noted2
+  q-most : q ≤ textCount g
+  q-most = next-most (textCount g) items2 js j k q (takesSecond o) gb j-most (nx .below2) noted2
 
   -- The length of the text, and where it ends.
   weight : end + length w ≤ textStart h p + textStart g q
@@ -100,7 +100,7 @@ module _ (h g heap : Bytes) (starts lens items1 items2 : List ℕ) (i j k end : 
   few = by (λ e. omega (arith, st .count, nx .below1 e, texts-few h fh, texts-few g fg)) (λ e. omega (arith, st .count, nx .below2 e, texts-few h fh, texts-few g fg))
 
   l-is : l ≡ k + 1
-  l-is = more (omega (arith, few))
+  l-is = more ∙ mod-eq-of-lt (omega (arith, few))
 
   low : end < 4294967296
   low = omega (arith, ends)
@@ -119,15 +119,15 @@ module _ (h g heap : Bytes) (starts lens items1 items2 : List ℕ) (i j k end : 
   unfolding w
   old a b = text-old heap starts lens k end _ u ss ls r added fits low short rs rl a b (st .within a b)
 
-  first-more : Half (textAt h) (twoAt h 6) p l (itemAt u ss ls) is
+  first-more : Half (textAt h) (textCount h) p l (itemAt u ss ls) is
   unfolding w
   first-more =
-      half-next (textAt h) (twoAt h 6) (texts-up h fh) i k (itemAt heap starts lens) (itemAt u ss ls) items1 is w new old (st .first) (takesFirst o) p l (nx .below1) (nx .is1) (nx .less1) (omega (arith, texts-few h fh, room .items1-size)) (noted1 .is) p-is l-is
+      half-next (textAt h) (textCount h) (texts-up h fh) i k (itemAt heap starts lens) (itemAt u ss ls) items1 is w new old (st .first) (takesFirst o) p l (nx .below1) (nx .is1) (nx .less1) (omega (arith, texts-few h fh, room .items1-size)) (noted1 .is) p-is l-is
 
-  second-more : Half (textAt g) (twoAt g 6) q l (itemAt u ss ls) js
+  second-more : Half (textAt g) (textCount g) q l (itemAt u ss ls) js
   unfolding w
   second-more =
-      half-next (textAt g) (twoAt g 6) (texts-up g fg) j k (itemAt heap starts lens) (itemAt u ss ls) items2 js w new old (st .second) (takesSecond o) q l (nx .below2) (nx .is2) (nx .less2) (omega (arith, texts-few g fg, room .items2-size)) (noted2 .is) q-is l-is
+      half-next (textAt g) (textCount g) (texts-up g fg) j k (itemAt heap starts lens) (itemAt u ss ls) items2 js w new old (st .second) (takesSecond o) q l (nx .below2) (nx .is2) (nx .less2) (omega (arith, texts-few g fg, room .items2-size)) (noted2 .is) q-is l-is
 
   last-above : (a : ℕ) → a < k → orderOf (itemAt heap starts lens a) w ≡ Less
   unfolding w
@@ -177,8 +177,8 @@ pub record Run (h g heap₀ : Bytes) (starts₀ lens₀ items1₀ items2₀ : Li
   pub lens-size : length lens ≡ length lens₀
   pub items1-size : length items1 ≡ length items1₀
   pub items2-size : length items2 ≡ length items2₀
-  pub i-most : i ≤ twoAt h 6
-  pub j-most : j ≤ twoAt g 6
+  pub i-most : i ≤ textCount h
+  pub j-most : j ≤ textCount g
   pub state : Formed h → Formed g → Room heap₀ starts₀ lens₀ items1₀ items2₀ → State h g heap starts lens items1 items2 i j k end
 
 module _ (h g heap₀ : Bytes) (starts₀ lens₀ items1₀ items2₀ : List ℕ) where
@@ -194,8 +194,8 @@ module _ (h g heap₀ : Bytes) (starts₀ lens₀ items1₀ items2₀ : List ℕ
         j-most = omega arith;
         state = λ fh fg room.
             record {
-              first = half-none (textAt h) (twoAt h 6) (itemAt heap₀ starts₀ lens₀) items1₀;
-              second = half-none (textAt g) (twoAt g 6) (itemAt heap₀ starts₀ lens₀) items2₀;
+              first = half-none (textAt h) (textCount h) (itemAt heap₀ starts₀ lens₀) items1₀;
+              second = half-none (textAt g) (textCount g) (itemAt heap₀ starts₀ lens₀) items2₀;
               up = λ a b x y. absurd (omega arith);
               each = λ a b. absurd (omega arith);
               within = λ a b. absurd (omega arith);
@@ -220,9 +220,9 @@ module _ (h g heap₀ : Bytes) (starts₀ lens₀ items1₀ items2₀ : List ℕ
     set-size false l u x v e = ap length e
 
     -- One turn.
-    module _ (o : Order) (t u : Bytes) (ss ls is js : List ℕ) (f s : Bool) (p q l r : ℕ) (hb : twoAt h 6 < 65536) (gb : twoAt g 6 < 65536)
-        (more : (i < twoAt h 6) ⊎ (j < twoAt g 6)) (oe : o ≡ nextOrder h g i j) (te : t ≡ nextText o (textAt h i) (textAt g j))
-        (added : Added heap starts lens k end t u ss ls r) (fe : f ≡ takesFirst o) (noted1 : Noted items1 i k f is p) (se : s ≡ takesSecond o) (noted2 : Noted items2 j k s js q) (le : k + 1 < 65536 → l ≡ k + 1) where
+    module _ (o : Order) (t u : Bytes) (ss ls is js : List ℕ) (f s : Bool) (p q l r : ℕ) (hb : textCount h < 65536) (gb : textCount g < 65536)
+        (more : (i < textCount h) ⊎ (j < textCount g)) (oe : o ≡ nextOrder h g i j) (te : t ≡ nextText o (textAt h i) (textAt g j))
+        (added : Added heap starts lens k end t u ss ls r) (fe : f ≡ takesFirst o) (noted1 : Noted items1 i k f is p) (se : s ≡ takesSecond o) (noted2 : Noted items2 j k s js q) (le : l ≡ (k + 1) % 65536) where
       nx : Next h g i j o
       nx = next-is h g i j o oe more
 
@@ -232,10 +232,10 @@ module _ (h g heap₀ : Bytes) (starts₀ lens₀ items1₀ items2₀ : List ℕ
       n2 : Noted items2 j k (takesSecond o) js q
       n2 = rw (← se) noted2
 
-      pub run-less : (twoAt h 6 - p) + (twoAt g 6 - q) < (twoAt h 6 - i) + (twoAt g 6 - j)
+      pub run-less : (textCount h - p) + (textCount g - q) < (textCount h - i) + (textCount g - j)
       run-less =
-          let a = next-number (twoAt h 6) items1 is i k p (takesFirst o) hb (run .i-most) (nx .below1) n1 in
-          let b = next-number (twoAt g 6) items2 js j k q (takesSecond o) gb (run .j-most) (nx .below2) n2 in
+          let a = next-number (textCount h) items1 is i k p (takesFirst o) hb (run .i-most) (nx .below1) n1 in
+          let b = next-number (textCount g) items2 js j k q (takesSecond o) gb (run .j-most) (nx .below2) n2 in
           by-test (takesFirst o)
           (λ e. omega (arith, nx .below1 e, ap bit e, run .j-most))
           (λ e. omega (arith, nx .below2 (nx .some e), ap bit (nx .some e), ap bit e, run .i-most))
@@ -248,30 +248,30 @@ module _ (h g heap₀ : Bytes) (starts₀ lens₀ items1₀ items2₀ : List ℕ
             lens-size = ap length (added .lens-are) ∙ length-set lens k _ ∙ run .lens-size;
             items1-size = set-size f items1 is i k (noted1 .is) ∙ run .items1-size;
             items2-size = set-size s items2 js j k (noted2 .is) ∙ run .items2-size;
-            i-most = next-most (twoAt h 6) items1 is i k p (takesFirst o) hb (run .i-most) (nx .below1) n1;
-            j-most = next-most (twoAt g 6) items2 js j k q (takesSecond o) gb (run .j-most) (nx .below2) n2;
+            i-most = next-most (textCount h) items1 is i k p (takesFirst o) hb (run .i-most) (nx .below1) n1;
+            j-most = next-most (textCount g) items2 js j k q (takesSecond o) gb (run .j-most) (nx .below2) n2;
             state = λ fh fg room.
                 state-more h g heap starts lens items1 items2 i j k end o u ss ls is js p q l r hb gb fh fg (room-kept room) (run .state fh fg room) (run .i-most) (run .j-most) nx (rw te at added) n1 n2 le;
           }
 
     -- At the end the texts are merged.
-    pub run-all : twoAt h 6 ≤ i → twoAt g 6 ≤ j → Merger h g heap₀ starts₀ lens₀ items1₀ items2₀ heap starts lens items1 items2 k
+    pub run-all : textCount h ≤ i → textCount g ≤ j → Merger h g heap₀ starts₀ lens₀ items1₀ items2₀ heap starts lens items1 items2 k
     unfolding dictionaryIn
     run-all a b = record { sizes = (run .heap-size, run .starts-size, run .lens-size, run .items1-size, run .items2-size); merged = λ fh fg room. merged fh fg (run .state fh fg room) }
       where
         out : ℕ → Bytes
         out = itemAt heap starts lens
 
-        side : (x : Bytes) (y : ℕ) (items : List ℕ) → Half (textAt x) (twoAt x 6) y k out items → twoAt x 6 ≤ y → Itemed (dictionaryIn x) (tabulate k out) (λ z. getD items z 0)
+        side : (x : Bytes) (y : ℕ) (items : List ℕ) → Half (textAt x) (textCount x) y k out items → textCount x ≤ y → Itemed (dictionaryIn x) (tabulate k out) (λ z. getD items z 0)
         side x y items m n =
             record {
-              below = λ z e. rw length-tabulate (m .below z (let w : z < twoAt x 6 = rw length-tabulate at e in omega arith));
+              below = λ z e. rw length-tabulate (m .below z (let w : z < textCount x = rw length-tabulate at e in omega arith));
               text = λ z e.
-                  let w : z < twoAt x 6 = rw length-tabulate at e in
-                  getD-tabulate k out [] (getD items z 0) (m .below z (omega arith)) ∙ m .is z (omega arith) ∙ sym (getD-tabulate (twoAt x 6) (textAt x) [] z w);
+                  let w : z < textCount x = rw length-tabulate at e in
+                  getD-tabulate k out [] (getD items z 0) (m .below z (omega arith)) ∙ m .is z (omega arith) ∙ sym (getD-tabulate (textCount x) (textAt x) [] z w);
             }
 
-        has : (x : Bytes) (y z : ℕ) (items : List ℕ) → y ≤ twoAt x 6 → Has items y z → Names (dictionaryIn x) (λ v. getD items v 0) z
+        has : (x : Bytes) (y z : ℕ) (items : List ℕ) → y ≤ textCount x → Has items y z → Names (dictionaryIn x) (λ v. getD items v 0) z
         has x y z items m n = let v = n .below in record { number = n .number; below = rw length-tabulate (omega arith); is = n .is }
 
         merged : Formed h → Formed g → State h g heap starts lens items1 items2 i j k end → Merged (dictionaryIn h) (dictionaryIn g) (tabulate k out) (λ x. getD items1 x 0) (λ y. getD items2 y 0)

@@ -15,12 +15,10 @@ use Rattle.language.proofs.Members.{and-true, both-true}
 use Rattle.sorting.specs.Ascending.{isLess, Total, below, ascends}
 use Rattle.sorting.proofs.Canonical.{tail-ascends, ascends-snoc}
 use Rattle.sorting.proofs.Orders.{bytes-total}
-use Rattle.register_form.specs.Numbers.{twoAt}
-use Rattle.register_form.specs.Form.{textStart, textAt, dictionaryIn}
-use Rattle.register_form.proofs.Parts.{length-part}
-use Rattle.register_form.proofs.Laying.{Laid, laid-facts, rises-to}
+use Rattle.register_form.specs.Form.{textCount, textStart, textAt, dictionaryIn}
+use Rattle.register_form.proofs.Laying.{Laid, laid-facts, rises-to, text-length as text-ends}
 use Rattle.register_form.proofs.Described.{Canon, canon}
-use Rattle.register_merge.specs.Formed.{Formed}
+use Rattle.register_form.specs.Formed.{Formed}
 
 is-less : (r : Order) → isLess r ≡ true → r ≡ Less
 is-less Less h = refl
@@ -50,28 +48,25 @@ module _ (h : Bytes) (f : Formed h) where
   laid : Laid h
   laid = laid-facts h (f .laid)
 
-  pub texts-few : twoAt h 6 ≤ 2368
+  pub texts-few : textCount h ≤ 2368
   texts-few = laid .counted .texts
 
-  pub texts-up : (x : ℕ) → suc x < twoAt h 6 → orderOf (textAt h x) (textAt h (suc x)) ≡ Less
+  pub texts-up : (x : ℕ) → suc x < textCount h → orderOf (textAt h x) (textAt h (suc x)) ≡ Less
   unfolding dictionaryIn
   texts-up x b =
-      sym (ap₂ orderOf (getD-tabulate (twoAt h 6) (textAt h) [] x (omega arith)) (getD-tabulate (twoAt h 6) (textAt h) [] (suc x) b))
-      ∙ ascends-step orderOf (tabulate (twoAt h 6) (textAt h)) [] x (canon (dictionaryIn h) (f .canonical) .up) (rw length-tabulate b)
+      sym (ap₂ orderOf (getD-tabulate (textCount h) (textAt h) [] x (omega arith)) (getD-tabulate (textCount h) (textAt h) [] (suc x) b))
+      ∙ ascends-step orderOf (tabulate (textCount h) (textAt h)) [] x (canon (dictionaryIn h) (f .canonical) .up) (rw length-tabulate b)
 
-  pub start-most : (i : ℕ) → i ≤ twoAt h 6 → textStart h i ≤ 35136
-  start-most i b = omega (arith, rises-to (textStart h) (twoAt h 6) (laid .texts .up) i b, laid .texts .last)
+  pub start-most : (i : ℕ) → i ≤ textCount h → textStart h i ≤ 35136
+  start-most i b = omega (arith, rises-to (textStart h) (textCount h) (laid .texts .up) i b, laid .texts .last)
 
   -- The start behind a text.
-  pub text-length : (i : ℕ) → i < twoAt h 6 → textStart h (i + 1) ≡ textStart h i + length (textAt h i)
-  unfolding textAt
+  pub text-length : (i : ℕ) → i < textCount h → textStart h (i + 1) ≡ textStart h i + length (textAt h i)
   text-length i b =
-      let most = start-most (suc i) b in
       let step = laid .texts .up i b in
-      let size = laid .size in
-      rw add-one (omega (arith, length-part h (28492 + textStart h i) (textStart h (suc i) - textStart h i) (omega arith)))
+      rw add-one (omega (arith, text-ends h laid i b))
 
   -- The next start does not lie before this one.
-  pub start-next : (i p : ℕ) (t : Bool) → (t ≡ true → i < twoAt h 6) → p ≡ i + bit t → textStart h i ≤ textStart h p
+  pub start-next : (i p : ℕ) (t : Bool) → (t ≡ true → i < textCount h) → p ≡ i + bit t → textStart h i ≤ textStart h p
   start-next i p true b e = rw e (let z = text-length i (b refl) in omega arith)
   start-next i p false b e = let z : p ≡ i = omega arith in rw z (omega arith)

@@ -3,6 +3,7 @@ use Prim.Native.Nat.{ℕ, _+_, _-_, _%_, _≤_, _<_}
 use mathlib.Core.Path.{_≡_, refl, sym, ap, ap₂, _∙_}
 use mathlib.Core.Bool.{Bool, true, false, cond}
 use mathlib.Core.List.{List, []}
+use native.Mathlib.Nat.{mod-eq-of-lt}
 use native.Mathlib.Omega.{arith}
 use native.Mathlib.Numerals.{add-one}
 use lib.Dec.{leb}
@@ -13,22 +14,21 @@ use Rattle.text.specs.Bytes.{Bytes, orderOf}
 use Rattle.text.specs.Table.{bit}
 use Rattle.text.specs.declared.Order.{Order}
 use Rattle.text.specs.declared.Order.the-variants.{Less, Equal, Greater}
-use Rattle.register_form.specs.Numbers.{twoAt}
-use Rattle.register_form.specs.Form.{textAt}
+use Rattle.register_form.specs.Form.{textCount, textAt}
 use Rattle.register_merge.specs.Merging.{nextOrder, nextText, Pasted, Added, Noted}
 
 module _ (h g : Bytes) (i j : ℕ) where
-  pub order-first : (m : ℕ) → m ≡ twoAt g 6 → m ≤ j → Less ≡ nextOrder h g i j
+  pub order-first : (m : ℕ) → m ≡ textCount g → m ≤ j → Less ≡ nextOrder h g i j
   unfolding nextOrder
-  order-first m e b = rw (le-leb (twoAt g 6) j (omega arith))
+  order-first m e b = rw (le-leb (textCount g) j (omega arith))
 
-  pub order-second : (m n : ℕ) → m ≡ twoAt g 6 → j < m → n ≡ twoAt h 6 → n ≤ i → Greater ≡ nextOrder h g i j
+  pub order-second : (m n : ℕ) → m ≡ textCount g → j < m → n ≡ textCount h → n ≤ i → Greater ≡ nextOrder h g i j
   unfolding nextOrder
-  order-second m n e b f c = rw (lt-leb (twoAt g 6) j (omega arith), le-leb (twoAt h 6) i (omega arith))
+  order-second m n e b f c = rw (lt-leb (textCount g) j (omega arith), le-leb (textCount h) i (omega arith))
 
-  pub order-both : (m n : ℕ) (a b : Bytes) (r : Order) → m ≡ twoAt g 6 → j < m → n ≡ twoAt h 6 → i < n → a ≡ textAt h i → b ≡ textAt g j → r ≡ orderOf a b → r ≡ nextOrder h g i j
+  pub order-both : (m n : ℕ) (a b : Bytes) (r : Order) → m ≡ textCount g → j < m → n ≡ textCount h → i < n → a ≡ textAt h i → b ≡ textAt g j → r ≡ orderOf a b → r ≡ nextOrder h g i j
   unfolding nextOrder
-  order-both m n a b r e k f l s t q = q ∙ ap₂ orderOf s t ∙ sym (rw (lt-leb (twoAt g 6) j (omega arith), lt-leb (twoAt h 6) i (omega arith)))
+  order-both m n a b r e k f l s t q = q ∙ ap₂ orderOf s t ∙ sym (rw (lt-leb (textCount g) j (omega arith), lt-leb (textCount h) i (omega arith)))
 
 pub text-less : (o : Order) (a b c : Bytes) → o ≡ Less → c ≡ a → c ≡ nextText o a b
 text-less o a b c e f = rw e f
@@ -71,12 +71,12 @@ copied-all d t u at i c l =
     let z : i ≡ length t = omega arith in
     record { size = c .size; end = λ l. omega arith; is = λ l. c .is ∙ ap (paste d at t) z }
 
-pub added-is : (heap : Bytes) (starts lens : List ℕ) (k end : ℕ) (t u : Bytes) (ss ls : List ℕ) (w v b r : ℕ) → w ≡ k → ss ≡ set starts w (end % 4294967296) → v ≡ k → b ≡ length t % 65536 → ls ≡ set lens v b → Pasted heap end t u r → Added heap starts lens k end t u ss ls r
-added-is heap starts lens k end t u ss ls w v b r e f g c m p =
-    record { pasted = p; starts-are = f ∙ ap (λ (x : ℕ). set starts x (end % 4294967296)) e; lens-are = m ∙ ap₂ (λ (x y : ℕ). set lens x y) g c }
+pub added-is : (heap : Bytes) (starts lens : List ℕ) (k end : ℕ) (t u : Bytes) (ss ls : List ℕ) (w x v b r : ℕ) → w ≡ k → x ≡ end % 4294967296 → ss ≡ set starts w x → v ≡ k → b ≡ length t % 65536 → ls ≡ set lens v b → Pasted heap end t u r → Added heap starts lens k end t u ss ls r
+added-is heap starts lens k end t u ss ls w x v b r e d f g c m p =
+    record { pasted = p; starts-are = f ∙ ap₂ (λ (y z : ℕ). set starts y z) e d; lens-are = m ∙ ap₂ (λ (x y : ℕ). set lens x y) g c }
 
-pub note-taken : (l u : List ℕ) (i k w r : ℕ) (taken : Bool) → taken ≡ true → w ≡ i → u ≡ set l w k → (i + 1 < 65536 → r ≡ i + 1) → Noted l i k taken u r
-note-taken l u i k w r taken t e f g = rw t (record { is = f ∙ ap (λ (x : ℕ). set l x k) e; next = λ b. g b })
+pub note-taken : (l u : List ℕ) (i k w r : ℕ) (taken : Bool) → taken ≡ true → w ≡ i → u ≡ set l w k → r ≡ (i + 1) % 65536 → Noted l i k taken u r
+note-taken l u i k w r taken t e f g = rw t (record { is = f ∙ ap (λ (x : ℕ). set l x k) e; next = λ b. g ∙ mod-eq-of-lt b })
 
 pub note-left : (l : List ℕ) (i k : ℕ) (taken : Bool) → taken ≡ false → Noted l i k taken l i
 note-left l i k taken t = rw t (record { is = refl; next = λ b. omega arith })

@@ -1,3 +1,2 @@
-pub mod Formed
 pub mod Merged
 pub mod Merging

@@ -11,14 +11,13 @@ use Rattle.text.specs.Table.{tabulate, bit}
 use Rattle.text.specs.declared.Order.{Order}
 use Rattle.text.specs.declared.Order.the-variants.{Less, Equal, Greater}
 use Rattle.dictionary.specs.Items.{textAt as itemAt}
-use Rattle.register_form.specs.Numbers.{twoAt}
-use Rattle.register_form.specs.Form.{textAt, dictionaryIn}
-use Rattle.register_merge.specs.Formed.{Formed}
+use Rattle.register_form.specs.Form.{textCount, textAt, dictionaryIn}
+use Rattle.register_form.specs.Formed.{Formed}
 use Rattle.register_merge.specs.Merged.{Merged}
 
 -- How the next texts stand to one another; a register with no text left stands behind.
 unfoldable pub nextOrder : Bytes → Bytes → ℕ → ℕ → Order
-nextOrder h g i j = cond (leb (twoAt g 6) j) Less (cond (leb (twoAt h 6) i) Greater (orderOf (textAt h i) (textAt g j)))
+nextOrder h g i j = cond (leb (textCount g) j) Less (cond (leb (textCount h) i) Greater (orderOf (textAt h i) (textAt g j)))
 
 -- Whether the next text is one of the first register, of the second, and which it is.
 abbrev pub takesFirst : Order → Bool

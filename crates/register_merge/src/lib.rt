@@ -7,8 +7,12 @@ ghost use Rattle.register_form.specs.Form.{textAt};
 ghost use Rattle.register_merge.specs.Merging.{nextOrder, takesFirst, takesSecond, nextText, Pasted, Added, Noted, Merger};
 use register_form::text_at;
 use register_form::text_count;
-use sorting::put;
-use sorting::widen;
+use tables::narrow;
+use tables::narrow_start;
+use tables::next;
+use tables::put;
+use tables::put_start;
+use tables::widen;
 use text::Order;
 use text::compare;
 
@@ -74,21 +78,6 @@ fn put_text(heap: &mut [u8], at: usize, t: &[u8]) -> usize
     at + i
 }
 
-// Writes a start of 32 bits, and a length of 16, at a place of a table, where there is room.
-fn put_start(t: &mut [u32], at: usize, v: usize)
-    ensures { λ _. ⌜ now (t .exit) ≡ set (now (t .entry)) at (v % 4294967296) ⌝ }
-{
-    if at < t.len() {
-        t[at] = (v % 4294967296) as u32;
-    }
-}
-
-fn narrow(v: usize) -> u16
-    ensures { λ r. ⌜ r ≡ v % 65536 ⌝ }
-{
-    (v % 65536) as u16
-}
-
 // Puts text t behind those before it, as item k; answers where it ends.
 fn add_text(
     heap: &mut [u8],
@@ -100,16 +89,9 @@ fn add_text(
 ) -> usize
     ensures { λ r. ⌜ Added (now (heap .entry)) (now (starts .entry)) (now (lens .entry)) k end (now (t .entry)) (now (heap .exit)) (now (starts .exit)) (now (lens .exit)) r ⌝ }
 {
-    put_start(starts, widen(k), end);
+    put_start(starts, widen(k), narrow_start(end));
     put(lens, widen(k), narrow(t.len()));
     put_text(heap, end, t)
-}
-
-// One more, up to 65,535.
-fn after(i: u16) -> u16
-    ensures { λ r. ⌜ (i + 1 < 65536 → r ≡ i + 1) ⌝ }
-{
-    if i < 65535 { i + 1 } else { i }
 }
 
 // Notes item k for the number i where that is taken; answers the next number.
@@ -118,7 +100,7 @@ fn note(items: &mut [u16], i: u16, k: u16, taken: bool) -> u16
 {
     if taken {
         put(items, widen(i), k);
-        return after(i);
+        return next(i);
     }
     i
 }
@@ -146,7 +128,7 @@ pub fn merge<'a>(
         end = add_text(heap, starts, lens, k, end, next_text(h, g, i, j, order));
         i = note(items1, i, k, takes_first(order));
         j = note(items2, j, k, takes_second(order));
-        k = after(k);
+        k = next(k);
     }
     k
 }

@@ -17,9 +17,8 @@ use Rattle.values.specs.Spelling.{spellNumber, spellBoolean, spellIdentifier, s
 use Rattle.values.proofs.Spelled.{name-keeps, value-short}
 use Rattle.language.specs.Rules.{isIdentifier, magnitude, isStorable}
 use Rattle.sorting.proofs.Canonical.{same-truth, left-of, right-of, both}
-use Rattle.register_form.specs.Numbers.{twoAt}
 use Rattle.register_form.specs.Dictionary.{nameOf, identifierOf, groupOf, codeOf, numberFrom, valueFrom, textIn, propertyIn, categoryOf, heldOf}
-use Rattle.register_form.specs.Form.{propertyAt, termAt, textAt, dictionaryIn}
+use Rattle.register_form.specs.Form.{propertyCount, textCount, propertyAt, termAt, textAt, dictionaryIn}
 use Rattle.register_form.specs.Tests.{isLabelled, isPlain, isPlainNumber, isCode, isTerm, codeTexts, termTexts, keepsTerm, termBytes}
 use Rattle.register_form.proofs.Laying.{Laid}
 use Rattle.register_test.specs.Stages.{classOf, noText, booleanLength, spelledLength, judgedIn, judgedText, judgedValue, judgedGroup, judgedTerm}
@@ -75,12 +74,12 @@ boolean-length c = go (eqb c 1)
 module _
     (h : Bytes)
     (laid : Laid h)
-    (labels : (x : ℕ) → x < twoAt h 6 → isLabelled (textAt h x) ≡ true)
+    (labels : (x : ℕ) → x < textCount h → isLabelled (textAt h x) ≡ true)
     (classes : List ℕ)
-    (right : (x : ℕ) → x < twoAt h 6 → getD classes x 0 ≡ classOf (textAt h x))
+    (right : (x : ℕ) → x < textCount h → getD classes x 0 ≡ classOf (textAt h x))
   where
     -- a term that names text c
-    right-in : (low high c : ℕ) (b : Bool) (n : ℕ) → c < twoAt h 6 → (leb low (classOf (textAt h c)) && leb (classOf (textAt h c)) high) ≡ b → (b ≡ true → cond (eqb (classOf (textAt h c)) 3) (length (textAt h c)) (length (textAt h c) - 1) ≡ n) → Right (judgedIn h low high (getD classes c 0) c) (b && leb n 64) (c ∷ []) n
+    right-in : (low high c : ℕ) (b : Bool) (n : ℕ) → c < textCount h → (leb low (classOf (textAt h c)) && leb (classOf (textAt h c)) high) ≡ b → (b ≡ true → cond (eqb (classOf (textAt h c)) 3) (length (textAt h c)) (length (textAt h c) - 1) ≡ n) → Right (judgedIn h low high (getD classes c 0) c) (b && leb n 64) (c ∷ []) n
     unfolding judgedIn spelledLength any
     right-in low high c b n k e f =
         rw (right c k, e, ← text-length h laid c k)
@@ -95,15 +94,15 @@ module _
         go false e = rw e
 
     -- the same, by the code
-    right-text : (low high c : ℕ) (ok : Bool) (n : ℕ) → (ltb c (twoAt h 6) ≡ false → ok ≡ false) → (c < twoAt h 6 → Right (judgedIn h low high (getD classes c 0) c) ok (c ∷ []) n) → Right (judgedText h classes low high c) ok (c ∷ []) n
+    right-text : (low high c : ℕ) (ok : Bool) (n : ℕ) → (ltb c (textCount h) ≡ false → ok ≡ false) → (c < textCount h → Right (judgedIn h low high (getD classes c 0) c) ok (c ∷ []) n) → Right (judgedText h classes low high c) ok (c ∷ []) n
     unfolding judgedText
-    right-text low high c ok n out within = go (ltb c (twoAt h 6)) refl
+    right-text low high c ok n out within = go (ltb c (textCount h)) refl
       where
-        go : (b : Bool) → ltb c (twoAt h 6) ≡ b → Right (cond (ltb c (twoAt h 6)) (judgedIn h low high (getD classes c 0) c) (noText false 0)) ok (c ∷ []) n
-        go true e = rw e (within (ltb-true c (twoAt h 6) e))
+        go : (b : Bool) → ltb c (textCount h) ≡ b → Right (cond (ltb c (textCount h)) (judgedIn h low high (getD classes c 0) c) (noText false 0)) ok (c ∷ []) n
+        go true e = rw e (within (ltb-true c (textCount h) e))
         go false e = rw (e, out e) (right-none (c ∷ []) n 0)
 
-    plain-length : (c : ℕ) → c < twoAt h 6 → isPlain (textAt h c) ≡ true → cond (eqb (classOf (textAt h c)) 3) (length (textAt h c)) (length (textAt h c) - 1) ≡ length (nameOf (textAt h c))
+    plain-length : (c : ℕ) → c < textCount h → isPlain (textAt h c) ≡ true → cond (eqb (classOf (textAt h c)) 3) (length (textAt h c)) (length (textAt h c) - 1) ≡ length (nameOf (textAt h c))
     plain-length c k p = rw (class-spaced (textAt h c), p) (sym (length-name (textAt h c) (labels c k) p))
 
     -- a plain text that keeps a rule by which it is short
@@ -115,16 +114,16 @@ module _
           (λ k.
           let name = nameOf (textAt h c) in
           let ok = isPlain (textAt h c) && q name in
-          rw (plain-number h c, lt-ltb c (twoAt h 6) k, text-in h c k, ← short ok (length name) (λ e. small name (right-of (isPlain (textAt h c)) (q name) e)))
+          rw (plain-number h c, lt-ltb c (textCount h) k, text-in h c k, ← short ok (length name) (λ e. small name (right-of (isPlain (textAt h c)) (q name) e)))
           (right-in low high c ok (length name) k (fact (textAt h c)) (λ e. plain-length c k (left-of (isPlain (textAt h c)) (q name) e))))
 
     right-link : (c : ℕ) → Right (judgedText h classes 2 3 c) (ltb c (length (dictionaryIn h .texts)) && isStorable (link (identifierOf (textIn (dictionaryIn h) c)))) (c ∷ []) (length (spellIdentifier (identifierOf (textIn (dictionaryIn h) c))))
     right-link c =
         rw (text-count h)
-        (right-text 2 3 c (ltb c (twoAt h 6) && isStorable (link (identifierOf (textIn (dictionaryIn h) c)))) (length (spellIdentifier (identifierOf (textIn (dictionaryIn h) c))))
+        (right-text 2 3 c (ltb c (textCount h) && isStorable (link (identifierOf (textIn (dictionaryIn h) c)))) (length (spellIdentifier (identifierOf (textIn (dictionaryIn h) c))))
         (λ e. rw e)
         (λ k.
-        rw (lt-ltb c (twoAt h 6) k, text-in h c k, storable-link (textAt h c))
+        rw (lt-ltb c (textCount h) k, text-in h c k, storable-link (textAt h c))
         (right-in 2 3 c (isIdentifier (identifierOf (textAt h c))) (length (spellIdentifier (identifierOf (textAt h c)))) k (class-link (textAt h c)) (λ e. sym (length-spelled (textAt h c) (labels c k) e)))))
 
     right-value : (k : Kind) (c : ℕ) → Right (judgedValue h classes k c) (isCode (dictionaryIn h) k c && isStorable (valueFrom (dictionaryIn h .texts) k c)) (codeTexts (dictionaryIn h) k c) (length (spelling (valueFrom (dictionaryIn h .texts) k c)))
@@ -135,11 +134,11 @@ module _
     right-value Kind.String c = right-name 1 2 isValue class-string value-short c
 
     -- a value of the property of a group
-    right-property : (g c : ℕ) → (g ≡ 0 → ⊥) → Right (cond (leb g (twoAt h 0)) (judgedValue h classes (propertyAt h (g - 1) .kind) c) (noText false 0)) (leb g (length (dictionaryIn h .properties)) && isCode (dictionaryIn h) (propertyIn (dictionaryIn h) (g - 1) .kind) c && isStorable (valueFrom (dictionaryIn h .texts) (propertyIn (dictionaryIn h) (g - 1) .kind) c)) (codeTexts (dictionaryIn h) (propertyIn (dictionaryIn h) (g - 1) .kind) c) (length (spelling (valueFrom (dictionaryIn h .texts) (propertyIn (dictionaryIn h) (g - 1) .kind) c)))
-    right-property g c some = rw (property-count h) (go (leb g (twoAt h 0)) refl)
+    right-property : (g c : ℕ) → (g ≡ 0 → ⊥) → Right (cond (leb g (propertyCount h)) (judgedValue h classes (propertyAt h (g - 1) .kind) c) (noText false 0)) (leb g (length (dictionaryIn h .properties)) && isCode (dictionaryIn h) (propertyIn (dictionaryIn h) (g - 1) .kind) c && isStorable (valueFrom (dictionaryIn h .texts) (propertyIn (dictionaryIn h) (g - 1) .kind) c)) (codeTexts (dictionaryIn h) (propertyIn (dictionaryIn h) (g - 1) .kind) c) (length (spelling (valueFrom (dictionaryIn h .texts) (propertyIn (dictionaryIn h) (g - 1) .kind) c)))
+    right-property g c some = rw (property-count h) (go (leb g (propertyCount h)) refl)
       where
-        go : (b : Bool) → leb g (twoAt h 0) ≡ b → Right (cond (leb g (twoAt h 0)) (judgedValue h classes (propertyAt h (g - 1) .kind) c) (noText false 0)) (leb g (twoAt h 0) && isCode (dictionaryIn h) (propertyIn (dictionaryIn h) (g - 1) .kind) c && isStorable (valueFrom (dictionaryIn h .texts) (propertyIn (dictionaryIn h) (g - 1) .kind) c)) (codeTexts (dictionaryIn h) (propertyIn (dictionaryIn h) (g - 1) .kind) c) (length (spelling (valueFrom (dictionaryIn h .texts) (propertyIn (dictionaryIn h) (g - 1) .kind) c)))
-        go true e = rw (e, property-in h (g - 1) (omega (arith, leb-true g (twoAt h 0) e, some))) (right-value (propertyAt h (g - 1) .kind) c)
+        go : (b : Bool) → leb g (propertyCount h) ≡ b → Right (cond (leb g (propertyCount h)) (judgedValue h classes (propertyAt h (g - 1) .kind) c) (noText false 0)) (leb g (propertyCount h) && isCode (dictionaryIn h) (propertyIn (dictionaryIn h) (g - 1) .kind) c && isStorable (valueFrom (dictionaryIn h .texts) (propertyIn (dictionaryIn h) (g - 1) .kind) c)) (codeTexts (dictionaryIn h) (propertyIn (dictionaryIn h) (g - 1) .kind) c) (length (spelling (valueFrom (dictionaryIn h .texts) (propertyIn (dictionaryIn h) (g - 1) .kind) c)))
+        go true e = rw (e, property-in h (g - 1) (omega (arith, leb-true g (propertyCount h) e, some))) (right-value (propertyAt h (g - 1) .kind) c)
         go false e = rw e (right-none (codeTexts (dictionaryIn h) (propertyIn (dictionaryIn h) (g - 1) .kind) c) (length (spelling (valueFrom (dictionaryIn h .texts) (propertyIn (dictionaryIn h) (g - 1) .kind) c))) 0)
 
     -- a term by its group and its code

@@ -9,17 +9,15 @@ use lib.ListN.{length, getD, replicate, length-replicate, getD-replicate}
 use borrow.Author.Tests.{ltb-true}
 use Rattle.text.specs.Bytes.{Bytes, orderOf, any, all}
 use Rattle.text.specs.Table.{tabulate}
-use Rattle.text.proofs.Laws.{part-length}
 use Rattle.text.proofs.Tables.{length-tabulate, getD-tabulate}
 use Rattle.values.specs.Names.{isPropertyName}
 use Rattle.language.specs.Register.{distinct}
 use Rattle.sorting.specs.Ascending.{ascends}
-use Rattle.register_form.specs.Numbers.{twoAt}
 use Rattle.register_form.specs.Dictionary.{PropertyRow, nameOf, textIn, termIn, propertyIn, noProperty}
-use Rattle.register_form.specs.Form.{propertyAt, termAt, textStart, textAt, dictionaryIn}
+use Rattle.register_form.specs.Form.{propertyCount, termCount, textCount, propertyAt, termAt, textStart, textAt, dictionaryIn}
 use Rattle.register_form.specs.Tests.{allTo, isLabelled, isPlain, isPlainNumber, keepsProperty}
 use Rattle.register_form.proofs.Parts.{map-tabulate}
-use Rattle.register_form.proofs.Laying.{Laid, rises-to}
+use Rattle.register_form.proofs.Laying.{Laid, text-length as text-ends}
 use Rattle.register_test.specs.Loops.{written, isSet, climbs}
 use Rattle.register_test.specs.Stages.{textTest, textLength, nameNumber, propertyOk, namesTo, propertyTest}
 use Rattle.register_test.proofs.Loops.{all-ext}
@@ -48,72 +46,69 @@ module _ (size : ℕ) (at v : ℕ → ℕ) (some : (i : ℕ) → not (eqb (v i) 
 
 module _ (h : Bytes) where
   -- The rows of the dictionary.
-  pub text-count : length (dictionaryIn h .texts) ≡ twoAt h 6
+  pub text-count : length (dictionaryIn h .texts) ≡ textCount h
   unfolding dictionaryIn
-  text-count = length-tabulate (twoAt h 6) (textAt h)
+  text-count = length-tabulate (textCount h) (textAt h)
 
-  pub term-count : length (dictionaryIn h .terms) ≡ twoAt h 4
+  pub term-count : length (dictionaryIn h .terms) ≡ termCount h
   unfolding dictionaryIn
-  term-count = length-tabulate (twoAt h 4) (termAt h)
+  term-count = length-tabulate (termCount h) (termAt h)
 
-  pub property-count : length (dictionaryIn h .properties) ≡ twoAt h 0
+  pub property-count : length (dictionaryIn h .properties) ≡ propertyCount h
   unfolding dictionaryIn
-  property-count = length-tabulate (twoAt h 0) (propertyAt h)
+  property-count = length-tabulate (propertyCount h) (propertyAt h)
 
-  pub text-in : (x : ℕ) → x < twoAt h 6 → textIn (dictionaryIn h) x ≡ textAt h x
+  pub text-in : (x : ℕ) → x < textCount h → textIn (dictionaryIn h) x ≡ textAt h x
   unfolding dictionaryIn
-  text-in x b = getD-tabulate (twoAt h 6) (textAt h) [] x b
+  text-in x b = getD-tabulate (textCount h) (textAt h) [] x b
 
-  pub term-in : (f : ℕ) → f < twoAt h 4 → termIn (dictionaryIn h) f ≡ termAt h f
+  pub term-in : (f : ℕ) → f < termCount h → termIn (dictionaryIn h) f ≡ termAt h f
   unfolding dictionaryIn
-  term-in f b = getD-tabulate (twoAt h 4) (termAt h) [] f b
+  term-in f b = getD-tabulate (termCount h) (termAt h) [] f b
 
-  pub property-in : (p : ℕ) → p < twoAt h 0 → propertyIn (dictionaryIn h) p ≡ propertyAt h p
+  pub property-in : (p : ℕ) → p < propertyCount h → propertyIn (dictionaryIn h) p ≡ propertyAt h p
   unfolding dictionaryIn
-  property-in p b = getD-tabulate (twoAt h 0) (propertyAt h) (noProperty (dictionaryIn h)) p b
+  property-in p b = getD-tabulate (propertyCount h) (propertyAt h) (noProperty (dictionaryIn h)) p b
 
-  pub properties-are : dictionaryIn h .properties ≡ tabulate (twoAt h 0) (propertyAt h)
+  pub properties-are : dictionaryIn h .properties ≡ tabulate (propertyCount h) (propertyAt h)
   unfolding dictionaryIn
   properties-are = refl
 
   -- Texts.
-  pub texts-told : allTo (twoAt h 6) (textTest h) ≡ (all isLabelled (dictionaryIn h .texts) && ascends orderOf (dictionaryIn h .texts))
+  pub texts-told : allTo (textCount h) (textTest h) ≡ (all isLabelled (dictionaryIn h .texts) && ascends orderOf (dictionaryIn h .texts))
   unfolding textTest dictionaryIn
   texts-told =
-      all-and (twoAt h 6) (λ x. isLabelled (textAt h x)) (climbs (textAt h))
-      ∙ sym (ap₂ _&&_ (all-tabulate isLabelled (twoAt h 6) (textAt h)) (ascends-tabulate (twoAt h 6) (textAt h)))
+      all-and (textCount h) (λ x. isLabelled (textAt h x)) (climbs (textAt h))
+      ∙ sym (ap₂ _&&_ (all-tabulate isLabelled (textCount h) (textAt h)) (ascends-tabulate (textCount h) (textAt h)))
 
-  pub plain-number : (x : ℕ) → isPlainNumber (dictionaryIn h) x ≡ (ltb x (twoAt h 6) && isPlain (textAt h x))
+  pub plain-number : (x : ℕ) → isPlainNumber (dictionaryIn h) x ≡ (ltb x (textCount h) && isPlain (textAt h x))
   unfolding isPlainNumber
-  plain-number x = rw text-count (go (ltb x (twoAt h 6)) refl)
+  plain-number x = rw text-count (go (ltb x (textCount h)) refl)
     where
-      go : (b : Bool) → ltb x (twoAt h 6) ≡ b → (ltb x (twoAt h 6) && isPlain (textIn (dictionaryIn h) x)) ≡ (ltb x (twoAt h 6) && isPlain (textAt h x))
-      go true e = rw (text-in x (ltb-true x (twoAt h 6) e))
+      go : (b : Bool) → ltb x (textCount h) ≡ b → (ltb x (textCount h) && isPlain (textIn (dictionaryIn h) x)) ≡ (ltb x (textCount h) && isPlain (textAt h x))
+      go true e = rw (text-in x (ltb-true x (textCount h) e))
       go false e = rw e
 
 module _ (h : Bytes) (laid : Laid h) where
-  pub text-length : (x : ℕ) → x < twoAt h 6 → length (textAt h x) ≡ textLength h x
-  unfolding textAt textLength
-  text-length x b =
-      let up = laid .texts .up in
-      part-length h (28492 + textStart h x) (textStart h (suc x) - textStart h x)
-      (omega (arith, laid .size, laid .texts .last, up x b, rises-to (textStart h) (twoAt h 6) up (suc x) (omega arith)))
+  pub text-length : (x : ℕ) → x < textCount h → length (textAt h x) ≡ textLength h x
+  unfolding textLength
+  text-length x b = text-ends h laid x b
 
   -- Properties.
   property-told : (p : ℕ) → propertyTest h (replicate 2368 0) p ≡ (isPlainNumber (dictionaryIn h) (nameNumber h p) && keepsProperty (dictionaryIn h) (propertyAt h p) && not (any (eqb (nameNumber h p)) (tabulate p (nameNumber h))))
   unfolding propertyTest propertyOk keepsProperty
-  property-told p = rw (plain-number h x) (go (ltb x (twoAt h 6)) refl)
+  property-told p = rw (plain-number h x) (go (ltb x (textCount h)) refl)
     where
       x : ℕ
       x = nameNumber h p
 
-      go : (b : Bool) → ltb x (twoAt h 6) ≡ b → (ltb x (twoAt h 6) && isPlain (textAt h x) && isPropertyName (nameOf (textAt h x)) && eqb (getD (namesTo h p (replicate 2368 0)) x 0) 0) ≡ (ltb x (twoAt h 6) && isPlain (textAt h x) && isPropertyName (nameOf (textIn (dictionaryIn h) x)) && not (any (eqb x) (tabulate p (nameNumber h))))
+      go : (b : Bool) → ltb x (textCount h) ≡ b → (ltb x (textCount h) && isPlain (textAt h x) && isPropertyName (nameOf (textAt h x)) && eqb (getD (namesTo h p (replicate 2368 0)) x 0) 0) ≡ (ltb x (textCount h) && isPlain (textAt h x) && isPropertyName (nameOf (textIn (dictionaryIn h) x)) && not (any (eqb x) (tabulate p (nameNumber h))))
       go true e =
-          let k : x < twoAt h 6 = ltb-true x (twoAt h 6) e in
+          let k : x < textCount h = ltb-true x (textCount h) e in
           rw (text-in h x k, unset-written 2368 (nameNumber h) (λ p. 1) (λ i. refl) x (omega (arith, laid .counted .texts)) p)
       go false e = rw e
 
-  pub properties-told : allTo (twoAt h 0) (propertyTest h (replicate 2368 0)) ≡ (all (λ p. isPlainNumber (dictionaryIn h) (p .name)) (dictionaryIn h .properties) && all (keepsProperty (dictionaryIn h)) (dictionaryIn h .properties) && distinct eqb (map (λ p. p .name) (dictionaryIn h .properties)))
+  pub properties-told : allTo (propertyCount h) (propertyTest h (replicate 2368 0)) ≡ (all (λ p. isPlainNumber (dictionaryIn h) (p .name)) (dictionaryIn h .properties) && all (keepsProperty (dictionaryIn h)) (dictionaryIn h .properties) && distinct eqb (map (λ p. p .name) (dictionaryIn h .properties)))
   properties-told =
       all-ext n (propertyTest h (replicate 2368 0)) (λ p. (plain p && keeps p) && once p) (λ p b. property-told p)
       ∙ all-and n (λ p. plain p && keeps p) once
@@ -121,7 +116,7 @@ module _ (h : Bytes) (laid : Laid h) where
       ∙ sym (ap₂ _&&_ (ap₂ _&&_ names rules) single)
     where
       n : ℕ
-      n = twoAt h 0
+      n = propertyCount h
 
       plain : ℕ → Bool
       plain p = isPlainNumber (dictionaryIn h) (nameNumber h p)

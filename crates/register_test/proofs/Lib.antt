@@ -13,3 +13,4 @@ pub mod Ways
 pub mod TextWays
 pub mod TermWays
 pub mod PageWays
+pub mod Held

@@ -8,9 +8,8 @@ use native.Mathlib.Numerals.{add-one}
 use lib.Dec.{ltb, leb, eqb}
 use lib.ListN.{length, getD}
 use Rattle.text.specs.Bytes.{Bytes}
-use Rattle.register_form.specs.Numbers.{twoAt}
 use Rattle.register_form.specs.Dictionary.{groupOf}
-use Rattle.register_form.specs.Form.{formStart, formAt, termAt}
+use Rattle.register_form.specs.Form.{termCount, textCount, formStart, formAt, termAt}
 use Rattle.register_form.specs.Tests.{allTo}
 use Rattle.register_test.specs.Loops.{sumTo, isSet}
 use Rattle.register_test.specs.Stages.{textLength, formCount, formIn, behindAt, formOk, lastBy, formTest, formLength, FormsTested, identifierAt, lastTo, placesTo, pageOk, pageTest, pageLength, usedTest}
@@ -26,7 +25,7 @@ unfolding usedTest
 used-tested used places x a b e f = rw (e, f)
 
 module _ (h : Bytes) where
-  pub form-is : (last : List ℕ) (mark f n u w g : ℕ) (behind : Bool) → n ≡ twoAt h 4 → w ≡ f → u ≡ getD last w 0 → g ≡ groupOf (termAt h f) → (ltb f n && not (eqb u mark) && not (behind && eqb g 0)) ≡ formOk h last mark behind f
+  pub form-is : (last : List ℕ) (mark f n u w g : ℕ) (behind : Bool) → n ≡ termCount h → w ≡ f → u ≡ getD last w 0 → g ≡ groupOf (termAt h f) → (ltb f n && not (eqb u mark) && not (behind && eqb g 0)) ≡ formOk h last mark behind f
   unfolding formOk
   form-is last mark f n u w g behind a b c d = rw (a, c, b, d)
 
@@ -55,7 +54,7 @@ module _ (h : Bytes) where
     unfolding formLength
     form-sum shown s w v x p t r q = sum-more (formLength h shown i) j s x p (t ∙ r ∙ rw (q, form-in))
 
-  pub page-is : (classes places : List ℕ) (x n w u w' u' : ℕ) → n ≡ twoAt h 6 → w ≡ x → u ≡ getD classes w 0 → w' ≡ x → u' ≡ getD places w' 0 → (ltb x n && leb 2 u && eqb u' 0) ≡ pageOk h classes places x
+  pub page-is : (classes places : List ℕ) (x n w u w' u' : ℕ) → n ≡ textCount h → w ≡ x → u ≡ getD classes w 0 → w' ≡ x → u' ≡ getD places w' 0 → (ltb x n && leb 2 u && eqb u' 0) ≡ pageOk h classes places x
   unfolding pageOk
   page-is classes places x n w u w' u' a b c d e = rw (a, c, b, e, d)
 

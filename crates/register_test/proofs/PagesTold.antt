@@ -11,9 +11,8 @@ use Rattle.text.specs.Bytes.{Bytes, any, all}
 use Rattle.text.specs.Table.{tabulate}
 use Rattle.language.specs.Register.{distinct}
 use Rattle.language.specs.Rules.{isIdentifier}
-use Rattle.register_form.specs.Numbers.{twoAt}
 use Rattle.register_form.specs.Dictionary.{identifierOf, isCategory, textIn, termIn}
-use Rattle.register_form.specs.Form.{formsOf, pageAt, termAt, textAt, dictionaryIn}
+use Rattle.register_form.specs.Form.{pageCount, termCount, textCount, formsOf, pageAt, termAt, textAt, dictionaryIn}
 use Rattle.register_form.specs.Tests.{allTo, inOrder, isPageRow, everyUsed, termUses, keepsPage}
 use Rattle.register_form.proofs.Parts.{map-tabulate}
 use Rattle.register_form.proofs.Laying.{Laid}
@@ -30,7 +29,7 @@ pub under : (a b c : Bool) → (a ≡ true → b ≡ c) → (a && b) ≡ (a && c
 under true b c h = h refl
 under false b c h = refl
 
-pub pages-are : (h : Bytes) → dictionaryIn h .pages ≡ tabulate (twoAt h 2) (pageAt h)
+pub pages-are : (h : Bytes) → dictionaryIn h .pages ≡ tabulate (pageCount h) (pageAt h)
 unfolding dictionaryIn
 pages-are h = refl
 
@@ -68,16 +67,16 @@ module _ (h : Bytes) where
       ∙ rw (← forms-are h i) (sym (any-joined formsOf (pageAt h) (eqb f) i))
 
 module _ (h : Bytes) (laid : Laid h) where
-  pub terms-used : allTo (twoAt h 4) (isSet (lasts h (twoAt h 2))) ≡ everyUsed (length (dictionaryIn h .terms)) (termUses (dictionaryIn h))
+  pub terms-used : allTo (termCount h) (isSet (lasts h (pageCount h))) ≡ everyUsed (length (dictionaryIn h .terms)) (termUses (dictionaryIn h))
   unfolding everyUsed
   terms-used =
-      all-ext (twoAt h 4) (isSet (lasts h (twoAt h 2))) (λ f. any (eqb f) (flatMap formsOf (tabulate (twoAt h 2) (pageAt h)))) (λ f b. lasts-set h f (omega (arith, laid .counted .terms)) (twoAt h 2))
+      all-ext (termCount h) (isSet (lasts h (pageCount h))) (λ f. any (eqb f) (flatMap formsOf (tabulate (pageCount h) (pageAt h)))) (λ f b. lasts-set h f (omega (arith, laid .counted .terms)) (pageCount h))
       ∙ rw (term-count h, pages-are h)
 
   -- the forms of page i
   module _ (i : ℕ) where
     abbrev room : Bool
-    room = allTo (formCount h i) (λ j. ltb (formIn h i j) (twoAt h 4))
+    room = allTo (formCount h i) (λ j. ltb (formIn h i j) (termCount h))
 
     once-told : room ≡ true → allTo (formCount h i) (λ j. not (eqb (getD (lastBy h (i + 1) i j (lasts h i)) (formIn h i j) 0) (i + 1))) ≡ distinct eqb (pageAt h i .forms)
     once-told r =
@@ -88,7 +87,7 @@ module _ (h : Bytes) (laid : Laid h) where
         step : (j : ℕ) → j < formCount h i → not (eqb (getD (lastBy h (i + 1) i j (lasts h i)) (formIn h i j) 0) (i + 1)) ≡ not (any (eqb (formIn h i j)) (tabulate j (formIn h i)))
         step j b =
             let f = formIn h i j in
-            let c : f < 2048 = omega (arith, ltb-true f (twoAt h 4) (all-to (formCount h i) (λ j. ltb (formIn h i j) (twoAt h 4)) r j b), laid .counted .terms) in
+            let c : f < 2048 = omega (arith, ltb-true f (termCount h) (all-to (formCount h i) (λ j. ltb (formIn h i j) (termCount h)) r j b), laid .counted .terms) in
             let m : getD (lasts h i) f 0 ≡ i + 1 → ⊥ = λ e. let k : getD (lasts h i) f 0 ≡ i + 1 = e in omega (arith, lasts-most h f c i) in
             let e : eqb (getD (lastBy h (i + 1) i j (lasts h i)) f 0) (i + 1) ≡ any (eqb f) (tabulate j (formIn h i)) =
             written-holds (λ y. eqb y (i + 1)) (formIn h i) (λ j. i + 1) (λ j. eq-eqb (i + 1) (i + 1) refl) (lasts h i) f (lasts-room h i f c) j
@@ -110,7 +109,7 @@ module _ (h : Bytes) (laid : Laid h) where
         terms j = termIn (dictionaryIn h) (formIn h i j)
 
         there : (j : ℕ) → j < formCount h i → termAt h (formIn h i j) ≡ terms j
-        there j b = sym (term-in h (formIn h i j) (ltb-true (formIn h i j) (twoAt h 4) (all-to (formCount h i) (λ j. ltb (formIn h i j) (twoAt h 4)) r j b)))
+        there j b = sym (term-in h (formIn h i j) (ltb-true (formIn h i j) (termCount h) (all-to (formCount h i) (λ j. ltb (formIn h i j) (termCount h)) r j b)))
 
     pub forms-told : allTo (formCount h i) (formTest h (i + 1) (lasts h i) i) ≡ (all (λ f. ltb f (length (dictionaryIn h .terms))) (pageAt h i .forms) && distinct eqb (pageAt h i .forms) && inOrder false (map (termIn (dictionaryIn h)) (pageAt h i .forms)))
     unfolding formTest formOk
@@ -126,7 +125,7 @@ module _ (h : Bytes) (laid : Laid h) where
         n = formCount h i
 
         a : ℕ → Bool
-        a j = ltb (formIn h i j) (twoAt h 4)
+        a j = ltb (formIn h i j) (termCount h)
 
         b : ℕ → Bool
         b j = not (eqb (getD (lastBy h (i + 1) i j (lasts h i)) (formIn h i j) 0) (i + 1))
@@ -135,7 +134,7 @@ module _ (h : Bytes) (laid : Laid h) where
         c j = not (behindAt h i j && isCategory (termAt h (formIn h i j)))
 
         within : allTo n a ≡ all (λ f. ltb f (length (dictionaryIn h .terms))) (pageAt h i .forms)
-        within = rw (term-count h, forms-are h i) (sym (all-tabulate (λ f. ltb f (twoAt h 4)) n (formIn h i)))
+        within = rw (term-count h, forms-are h i) (sym (all-tabulate (λ f. ltb f (termCount h)) n (formIn h i)))
 
 -- The tests of a page in another order.
 regroup : (u k n a b c : Bool) → ((u && k && n) && (a && b && c)) ≡ ((u && a && c) && k && n && b)
@@ -152,17 +151,17 @@ regroup true true true true false false = refl
 regroup true true true true true true = refl
 regroup true true true true false true = refl
 
-module _ (h : Bytes) (laid : Laid h) (classes : List ℕ) (right : (x : ℕ) → x < twoAt h 6 → getD classes x 0 ≡ classOf (textAt h x)) where
+module _ (h : Bytes) (laid : Laid h) (classes : List ℕ) (right : (x : ℕ) → x < textCount h → getD classes x 0 ≡ classOf (textAt h x)) where
   identifier-told : (i : ℕ) → pageOk h classes (placesTo h i (replicate 2368 0)) (identifierAt h i) ≡ (ltb (identifierAt h i) (length (dictionaryIn h .texts)) && keepsPage (dictionaryIn h) (pageAt h i) && not (any (eqb (identifierAt h i)) (tabulate i (identifierAt h))))
   unfolding pageOk keepsPage
-  identifier-told i = rw (text-count h) (go (ltb x (twoAt h 6)) refl)
+  identifier-told i = rw (text-count h) (go (ltb x (textCount h)) refl)
     where
       x : ℕ
       x = identifierAt h i
 
-      go : (b : Bool) → ltb x (twoAt h 6) ≡ b → (ltb x (twoAt h 6) && leb 2 (getD classes x 0) && eqb (getD (placesTo h i (replicate 2368 0)) x 0) 0) ≡ (ltb x (twoAt h 6) && isIdentifier (identifierOf (textIn (dictionaryIn h) x)) && not (any (eqb x) (tabulate i (identifierAt h))))
+      go : (b : Bool) → ltb x (textCount h) ≡ b → (ltb x (textCount h) && leb 2 (getD classes x 0) && eqb (getD (placesTo h i (replicate 2368 0)) x 0) 0) ≡ (ltb x (textCount h) && isIdentifier (identifierOf (textIn (dictionaryIn h) x)) && not (any (eqb x) (tabulate i (identifierAt h))))
       go true e =
-          let k : x < twoAt h 6 = ltb-true x (twoAt h 6) e in
+          let k : x < textCount h = ltb-true x (textCount h) e in
           rw (text-in h x k, right x k, class-identifier (textAt h x), unset-written 2368 (identifierAt h) (λ i. i + 1) (λ i. rw (ne-eqb (i + 1) 0 (λ e. let k : i + 1 ≡ 0 = e in omega arith))) x (omega (arith, laid .counted .texts)) i)
       go false e = rw e
 
@@ -172,7 +171,7 @@ module _ (h : Bytes) (laid : Laid h) (classes : List ℕ) (right : (x : ℕ) →
       ap₂ _&&_ (identifier-told i) (forms-told h laid i)
       ∙ regroup (ltb (identifierAt h i) (length (dictionaryIn h .texts))) (keepsPage (dictionaryIn h) (pageAt h i)) (not (any (eqb (identifierAt h i)) (tabulate i (identifierAt h)))) (all (λ f. ltb f (length (dictionaryIn h .terms))) (pageAt h i .forms)) (distinct eqb (pageAt h i .forms)) (inOrder false (map (termIn (dictionaryIn h)) (pageAt h i .forms)))
 
-  pub pages-told : allTo (twoAt h 2) (pageTest h classes (replicate 2048 0) (replicate 2368 0)) ≡ (all (isPageRow (dictionaryIn h)) (dictionaryIn h .pages) && all (keepsPage (dictionaryIn h)) (dictionaryIn h .pages) && distinct eqb (map (λ r. r .identifier) (dictionaryIn h .pages)) && all (λ r. distinct eqb (r .forms)) (dictionaryIn h .pages))
+  pub pages-told : allTo (pageCount h) (pageTest h classes (replicate 2048 0) (replicate 2368 0)) ≡ (all (isPageRow (dictionaryIn h)) (dictionaryIn h .pages) && all (keepsPage (dictionaryIn h)) (dictionaryIn h .pages) && distinct eqb (map (λ r. r .identifier) (dictionaryIn h .pages)) && all (λ r. distinct eqb (r .forms)) (dictionaryIn h .pages))
   pages-told =
       all-ext n (pageTest h classes (replicate 2048 0) (replicate 2368 0)) (λ i. ((rows i && keeps i) && fresh i) && once i) (λ i b. page-told i)
       ∙ all-and n (λ i. (rows i && keeps i) && fresh i) once
@@ -181,7 +180,7 @@ module _ (h : Bytes) (laid : Laid h) (classes : List ℕ) (right : (x : ℕ) →
       ∙ rw (pages-are h)
     where
       n : ℕ
-      n = twoAt h 2
+      n = pageCount h
 
       rows : ℕ → Bool
       rows i = isPageRow (dictionaryIn h) (pageAt h i)

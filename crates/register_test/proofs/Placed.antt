@@ -13,9 +13,8 @@ use Rattle.text.specs.Bytes.{Bytes}
 use Rattle.text.specs.Table.{tabulate}
 use Rattle.text.proofs.Tables.{length-tabulate}
 use Rattle.sorting.proofs.Canonical.{left-of, right-of}
-use Rattle.register_form.specs.Numbers.{twoAt}
 use Rattle.register_form.specs.Dictionary.{PageRow}
-use Rattle.register_form.specs.Form.{pageAt, dictionaryIn}
+use Rattle.register_form.specs.Form.{pageCount, textCount, pageAt, dictionaryIn}
 use Rattle.register_form.specs.Tests.{allTo}
 use Rattle.register_form.specs.Opened.{next, placeOf, Places}
 use Rattle.register_form.proofs.Laying.{Laid}
@@ -48,19 +47,19 @@ found-not : (p n : ℕ) → found p false n ≡ p
 found-not zero n = refl
 found-not (suc p) n = rw (ne-eqb (suc p) 0 (λ k. let m : suc p ≡ 0 = k in omega arith))
 
-module _ (h : Bytes) (classes last : List ℕ) (ok : allTo (twoAt h 2) (pageTest h classes last (replicate 2368 0)) ≡ true) where
+module _ (h : Bytes) (classes last : List ℕ) (ok : allTo (pageCount h) (pageTest h classes last (replicate 2368 0)) ≡ true) where
   -- no page before page i has its identifier
-  fresh : (i : ℕ) → i < twoAt h 2 → getD (placesTo h i (replicate 2368 0)) (identifierAt h i) 0 ≡ 0
+  fresh : (i : ℕ) → i < pageCount h → getD (placesTo h i (replicate 2368 0)) (identifierAt h i) 0 ≡ 0
   unfolding pageTest pageOk
   fresh i b =
       let x = identifierAt h i in
       let places = placesTo h i (replicate 2368 0) in
       eqb-true (getD places x 0) 0
-      (right-of (ltb x (twoAt h 6) && leb 2 (getD classes x 0)) (eqb (getD places x 0) 0)
-      (left-of (ltb x (twoAt h 6) && leb 2 (getD classes x 0) && eqb (getD places x 0) 0) (allTo (formCount h i) (formTest h (i + 1) (lastTo h i last) i))
-      (all-to (twoAt h 2) (pageTest h classes last (replicate 2368 0)) ok i b)))
+      (right-of (ltb x (textCount h) && leb 2 (getD classes x 0)) (eqb (getD places x 0) 0)
+      (left-of (ltb x (textCount h) && leb 2 (getD classes x 0) && eqb (getD places x 0) 0) (allTo (formCount h i) (formTest h (i + 1) (lastTo h i last) i))
+      (all-to (pageCount h) (pageTest h classes last (replicate 2368 0)) ok i b)))
 
-  placed : (x : ℕ) → x < 2368 → (n : ℕ) → n ≤ twoAt h 2 → getD (placesTo h n (replicate 2368 0)) x 0 ≡ placeOf (tabulate n (pageAt h)) x
+  placed : (x : ℕ) → x < 2368 → (n : ℕ) → n ≤ pageCount h → getD (placesTo h n (replicate 2368 0)) x 0 ≡ placeOf (tabulate n (pageAt h)) x
   unfolding written tabulate placeOf
   placed x b zero l = getD-replicate {A = ℕ} 2368 x 0 0 b
   placed x b (suc n) l = go (ℕ-discrete x (identifierAt h n)) (placed x b n (omega arith)) ∙ sym (place-snoc (tabulate n (pageAt h)) (pageAt h n) x)
@@ -81,6 +80,6 @@ module _ (h : Bytes) (classes last : List ℕ) (ok : allTo (twoAt h 2) (pageTest
           ∙ ih
           ∙ rw (ne-eqb (identifierAt h n) x (λ k. e (sym k))) (sym (found-not (placeOf (tabulate n (pageAt h)) x) (length (tabulate n (pageAt h)))))
 
-  pub places-right : Laid h → Places (dictionaryIn h) (placesTo h (twoAt h 2) (replicate 2368 0))
+  pub places-right : Laid h → Places (dictionaryIn h) (placesTo h (pageCount h) (replicate 2368 0))
   unfolding Places
-  places-right laid x b = placed x (omega (arith, text-count h, laid .counted .texts)) (twoAt h 2) (omega arith) ∙ rw (pages-are h)
+  places-right laid x b = placed x (omega (arith, text-count h, laid .counted .texts)) (pageCount h) (omega arith) ∙ rw (pages-are h)

@@ -9,9 +9,8 @@ use borrow.Author.Tests.{eq-eqb, ne-eqb, lt-ltb, le-ltb, le-leb, lt-leb}
 use Rattle.text.specs.Bytes.{Bytes}
 use Rattle.values.specs.declared.Kind.{Kind}
 use Rattle.values.specs.Spelling.{spellNumber}
-use Rattle.register_form.specs.Numbers.{twoAt}
 use Rattle.register_form.specs.Dictionary.{groupOf, codeOf, numberFrom}
-use Rattle.register_form.specs.Form.{propertyAt, termAt}
+use Rattle.register_form.specs.Form.{propertyCount, textCount, propertyAt, termAt}
 use Rattle.register_form.specs.Tests.{allTo}
 use Rattle.register_test.specs.Loops.{climbs}
 use Rattle.register_test.specs.Stages.{textLength, noText, booleanLength, spelledLength, judgedIn, judgedText, judgedValue, judgedGroup, judgedTerm, termTest}
@@ -51,14 +50,14 @@ module _ (h : Bytes) where
   in-is low high class x b e = ap (λ (n : ℕ). record { ok = leb low class && leb class high && leb n 64; text = x; bytes = n }) e
 
   module _ (classes : List ℕ) where
-    module _ (low high c n m : ℕ) (r : Judged) (e : n ≡ twoAt h 6) (f : m ≡ n) where
+    module _ (low high c n m : ℕ) (r : Judged) (e : n ≡ textCount h) (f : m ≡ n) where
       pub text-past : m ≤ c → r ≡ noText false 0 → r ≡ judgedText h classes low high c
       unfolding judgedText
-      text-past l g = g ∙ rw (le-ltb c (twoAt h 6) (rw (← e, ← f) l))
+      text-past l g = g ∙ rw (le-ltb c (textCount h) (rw (← e, ← f) l))
 
       pub text-there : (w g : ℕ) → c < m → w ≡ c → g ≡ getD classes w 0 → r ≡ judgedIn h low high g c → r ≡ judgedText h classes low high c
       unfolding judgedText
-      text-there w g l i j k = k ∙ rw (lt-ltb c (twoAt h 6) (rw (← e, ← f) l), j, i)
+      text-there w g l i j k = k ∙ rw (lt-ltb c (textCount h) (rw (← e, ← f) l), j, i)
 
     module _ (k : Kind) (c : ℕ) (r : Judged) where
       pub value-page : k ≡ Kind.Page → r ≡ judgedText h classes 2 3 c → r ≡ judgedValue h classes k c
@@ -82,13 +81,13 @@ module _ (h : Bytes) where
       unfolding judgedGroup
       group-category e f = f ∙ rw (eq-eqb g 0 e)
 
-      pub group-property : (n : ℕ) (k : Kind) → (g ≡ 0 → ⊥) → n ≡ twoAt h 0 → g ≤ n → k ≡ propertyAt h (g - 1) .kind → r ≡ judgedValue h classes k c → r ≡ judgedGroup h classes g c
+      pub group-property : (n : ℕ) (k : Kind) → (g ≡ 0 → ⊥) → n ≡ propertyCount h → g ≤ n → k ≡ propertyAt h (g - 1) .kind → r ≡ judgedValue h classes k c → r ≡ judgedGroup h classes g c
       unfolding judgedGroup
-      group-property n k e f l i j = j ∙ rw (ne-eqb g 0 e, le-leb g (twoAt h 0) (rw (← f) l), i)
+      group-property n k e f l i j = j ∙ rw (ne-eqb g 0 e, le-leb g (propertyCount h) (rw (← f) l), i)
 
-      pub group-none : (n : ℕ) → (g ≡ 0 → ⊥) → n ≡ twoAt h 0 → n < g → r ≡ noText false 0 → r ≡ judgedGroup h classes g c
+      pub group-none : (n : ℕ) → (g ≡ 0 → ⊥) → n ≡ propertyCount h → n < g → r ≡ noText false 0 → r ≡ judgedGroup h classes g c
       unfolding judgedGroup
-      group-none n e f l j = j ∙ rw (ne-eqb g 0 e, lt-leb g (twoAt h 0) (rw (← f) l))
+      group-none n e f l j = j ∙ rw (ne-eqb g 0 e, lt-leb g (propertyCount h) (rw (← f) l))
 
     pub term-is : (f g w c : ℕ) (r : Judged) → g ≡ groupOf (termAt h f) → w ≡ g → c ≡ codeOf (termAt h f) → r ≡ judgedGroup h classes w c → r ≡ judgedTerm h classes f
     unfolding judgedTerm

@@ -11,8 +11,7 @@ use Rattle.text.specs.Bytes.{Bytes, orderOf, any, all}
 use Rattle.text.specs.Table.{tabulate}
 use Rattle.sorting.specs.Ascending.{ascends}
 use Rattle.sorting.proofs.Canonical.{left-of}
-use Rattle.register_form.specs.Numbers.{twoAt}
-use Rattle.register_form.specs.Form.{termAt, textAt, dictionaryIn}
+use Rattle.register_form.specs.Form.{termCount, textCount, termAt, textAt, dictionaryIn}
 use Rattle.register_form.specs.Tests.{allTo, isLabelled, isTerm, termTexts, keepsTerm, termBytes}
 use Rattle.register_form.proofs.Laying.{Laid}
 use Rattle.register_form.proofs.Regions.{all-to}
@@ -22,18 +21,18 @@ use Rattle.register_test.proofs.Loops.{all-ext}
 use Rattle.register_test.proofs.Tabled.{all-and, all-tabulate, any-snoc, any-joined, ascends-tabulate, written-fill}
 use Rattle.register_test.proofs.Judging.{right-term}
 
-pub terms-are : (h : Bytes) → dictionaryIn h .terms ≡ tabulate (twoAt h 4) (termAt h)
+pub terms-are : (h : Bytes) → dictionaryIn h .terms ≡ tabulate (termCount h) (termAt h)
 unfolding dictionaryIn
 terms-are h = refl
 
 module _
     (h : Bytes)
     (laid : Laid h)
-    (labels : (x : ℕ) → x < twoAt h 6 → isLabelled (textAt h x) ≡ true)
+    (labels : (x : ℕ) → x < textCount h → isLabelled (textAt h x) ≡ true)
     (classes : List ℕ)
-    (right : (x : ℕ) → x < twoAt h 6 → getD classes x 0 ≡ classOf (textAt h x))
+    (right : (x : ℕ) → x < textCount h → getD classes x 0 ≡ classOf (textAt h x))
   where
-    pub terms-told : allTo (twoAt h 4) (termTest h classes) ≡ (all (isTerm (dictionaryIn h)) (dictionaryIn h .terms) && all (keepsTerm (dictionaryIn h)) (dictionaryIn h .terms) && ascends orderOf (dictionaryIn h .terms))
+    pub terms-told : allTo (termCount h) (termTest h classes) ≡ (all (isTerm (dictionaryIn h)) (dictionaryIn h .terms) && all (keepsTerm (dictionaryIn h)) (dictionaryIn h .terms) && ascends orderOf (dictionaryIn h .terms))
     unfolding termTest
     terms-told =
         all-and n (λ f. judgedTerm h classes f .ok) (climbs (termAt h))
@@ -43,7 +42,7 @@ module _
         ∙ rw (terms-are h)
       where
         n : ℕ
-        n = twoAt h 4
+        n = termCount h
 
         is : ℕ → Bool
         is f = isTerm (dictionaryIn h) (termAt h f)
@@ -51,13 +50,13 @@ module _
         keeps : ℕ → Bool
         keeps f = keepsTerm (dictionaryIn h) (termAt h f)
 
-    module _ (ok : allTo (twoAt h 4) (termTest h classes) ≡ true) where
-      kept : (f : ℕ) → f < twoAt h 4 → (isTerm (dictionaryIn h) (termAt h f) && keepsTerm (dictionaryIn h) (termAt h f)) ≡ true
+    module _ (ok : allTo (termCount h) (termTest h classes) ≡ true) where
+      kept : (f : ℕ) → f < termCount h → (isTerm (dictionaryIn h) (termAt h f) && keepsTerm (dictionaryIn h) (termAt h f)) ≡ true
       unfolding termTest
-      kept f b = sym (right-term h laid labels classes right f .is) ∙ left-of (judgedTerm h classes f .ok) (climbs (termAt h) f) (all-to (twoAt h 4) (termTest h classes) ok f b)
+      kept f b = sym (right-term h laid labels classes right f .is) ∙ left-of (judgedTerm h classes f .ok) (climbs (termAt h) f) (all-to (termCount h) (termTest h classes) ok f b)
 
       -- the texts that the first n terms name
-      named : (x : ℕ) → x < 65535 → (n : ℕ) → n ≤ twoAt h 4 → any (eqb x) (tabulate n (λ f. judgedTerm h classes f .text)) ≡ any (eqb x) (flatMap (termTexts (dictionaryIn h)) (tabulate n (termAt h)))
+      named : (x : ℕ) → x < 65535 → (n : ℕ) → n ≤ termCount h → any (eqb x) (tabulate n (λ f. judgedTerm h classes f .text)) ≡ any (eqb x) (flatMap (termTexts (dictionaryIn h)) (tabulate n (termAt h)))
       unfolding tabulate any flatMap
       named x b zero l = refl
       named x b (suc n) l =
@@ -65,10 +64,10 @@ module _
           ∙ ap₂ _||_ (named x b n (omega arith)) (right-term h laid labels classes right n .names (kept n (omega arith)) x b)
           ∙ sym (any-joined (termTexts (dictionaryIn h)) (termAt h) (eqb x) n)
 
-      pub texts-named : (x : ℕ) → x < 65535 → any (eqb x) (tabulate (twoAt h 4) (λ f. judgedTerm h classes f .text)) ≡ any (eqb x) (flatMap (termTexts (dictionaryIn h)) (dictionaryIn h .terms))
-      texts-named x b = named x b (twoAt h 4) (le-refl (twoAt h 4)) ∙ rw (terms-are h)
+      pub texts-named : (x : ℕ) → x < 65535 → any (eqb x) (tabulate (termCount h) (λ f. judgedTerm h classes f .text)) ≡ any (eqb x) (flatMap (termTexts (dictionaryIn h)) (dictionaryIn h .terms))
+      texts-named x b = named x b (termCount h) (le-refl (termCount h)) ∙ rw (terms-are h)
 
-      pub shown-right : (f : ℕ) → f < twoAt h 4 → getD (shownTo h classes (twoAt h 4) (replicate 2048 0)) f 0 ≡ termBytes (dictionaryIn h) (termAt h f)
+      pub shown-right : (f : ℕ) → f < termCount h → getD (shownTo h classes (termCount h) (replicate 2048 0)) f 0 ≡ termBytes (dictionaryIn h) (termAt h f)
       shown-right f b =
-          written-fill (λ f. judgedTerm h classes f .bytes) (replicate 2048 0) f (rw (length-replicate {A = ℕ} 2048 0) (omega (arith, laid .counted .terms))) (twoAt h 4) b
+          written-fill (λ f. judgedTerm h classes f .bytes) (replicate 2048 0) f (rw (length-replicate {A = ℕ} 2048 0) (omega (arith, laid .counted .terms))) (termCount h) b
           ∙ right-term h laid labels classes right f .bytes (kept f b)

@@ -11,9 +11,8 @@ use Rattle.text.specs.declared.Order.{Order}
 use Rattle.values.specs.Names.{isName, isNamespace, isPropertyName, isValue}
 use Rattle.language.specs.Rules.{isIdentifier}
 use Rattle.sorting.specs.Ascending.{isLess}
-use Rattle.register_form.specs.Numbers.{twoAt}
 use Rattle.register_form.specs.Dictionary.{spaceOf, nameOf}
-use Rattle.register_form.specs.Form.{textStart, textAt}
+use Rattle.register_form.specs.Form.{textCount, textStart, textAt}
 use Rattle.register_form.specs.Tests.{allTo, isLabelled, isPlain}
 use Rattle.register_test.specs.Loops.{sumTo, climbs}
 use Rattle.register_test.specs.Stages.{classOf, textTest, textLength, nameNumber, propertyOk, namesTo, propertyTest, propertyLength}
@@ -69,7 +68,7 @@ module _ (h : Bytes) (x : ℕ) where
   unfolding textLength
   length-is a b r e f g = g ∙ rw (e, f)
 
-  pub property-is : (used : List ℕ) (n w u : ℕ) (m : Bytes) (p q : Bool) → n ≡ twoAt h 6 → p ≡ isPlain (textAt h x) → m ≡ nameOf (textAt h x) → q ≡ isPropertyName m → w ≡ x → u ≡ getD used w 0 → (ltb x n && p && q && eqb u 0) ≡ propertyOk h used x
+  pub property-is : (used : List ℕ) (n w u : ℕ) (m : Bytes) (p q : Bool) → n ≡ textCount h → p ≡ isPlain (textAt h x) → m ≡ nameOf (textAt h x) → q ≡ isPropertyName m → w ≡ x → u ≡ getD used w 0 → (ltb x n && p && q && eqb u 0) ≡ propertyOk h used x
   unfolding propertyOk
   property-is used n w u m p q e f g j k l = rw (e, f, j, g, l, k)
 

@@ -9,7 +9,7 @@ use lib.ListN.{length, getD, replicate, length-replicate, getD-replicate}
 use lib.Seq.{ext-getD}
 use borrow.Author.Tests.{not-true, not-false}
 use Rattle.text.specs.Bytes.{Bytes}
-use Rattle.register_form.specs.Numbers.{twoAt}
+use Rattle.register_form.specs.Form.{pageCount, termCount, textCount}
 use Rattle.register_form.specs.Tests.{allTo, isLaid}
 use Rattle.register_form.proofs.Forms.{tested-is}
 use Rattle.register_test.specs.Loops.{written, isSet}
@@ -40,19 +40,19 @@ try-not h places r e f =
 pub try-is : (h : Bytes) (places places' classes used used' shown last : List ℕ) (r texts terms ut ux : Bool) (p g : Tally)
     → r ≡ isLaid h
     → not r ≡ false
-    → (texts ≡ allTo (twoAt h 6) (textTest h)) × (classes ≡ classesTo h (twoAt h 6) (replicate 2368 0))
+    → (texts ≡ allTo (textCount h) (textTest h)) × (classes ≡ classesTo h (textCount h) (replicate 2368 0))
     → PropertiesTested h (replicate 2368 0) used p
     → TermsTested h classes used (replicate 2048 0) used' shown terms
     → PagesTested h classes shown (replicate 2048 0) places last places' g
-    → ut ≡ allTo (twoAt h 4) (isSet last)
-    → ux ≡ allTo (twoAt h 6) (usedTest used' places')
+    → ut ≡ allTo (termCount h) (isSet last)
+    → ux ≡ allTo (textCount h) (usedTest used' places')
     → Tries h places places' (texts && p .ok && terms && g .ok && ut && ux && leb (p .bytes + g .bytes) 32768)
 unfolding verdict
 try-is h places places' classes used used' shown last r texts terms ut ux p g e f t pt tt gt u v =
     record {
       is = λ z. told z ∙ verdict-is h laid;
       places = λ z k. rw (gt .table, z) (verdict-places h laid (sym (told z) ∙ k));
-      size = ap length (gt .table) ∙ length-written (identifierAt h) (λ i. i + 1) places (twoAt h 2);
+      size = ap length (gt .table) ∙ length-written (identifierAt h) (λ i. i + 1) places (pageCount h);
     }
   where
     laid : isLaid h ≡ true

@@ -11,9 +11,8 @@ use Rattle.text.proofs.Laws.{all-at}
 use Rattle.language.specs.Register.{distinct}
 use Rattle.sorting.specs.Ascending.{ascends}
 use Rattle.sorting.proofs.Canonical.{same-truth, left-of, right-of}
-use Rattle.register_form.specs.Numbers.{twoAt}
 use Rattle.register_form.specs.Dictionary.{Dictionary}
-use Rattle.register_form.specs.Form.{textAt, dictionaryIn}
+use Rattle.register_form.specs.Form.{pageCount, propertyCount, termCount, textCount, textAt, dictionaryIn}
 use Rattle.register_form.specs.Tests.{allTo, isLaid, isLabelled, isPlainNumber, isTerm, isPageRow, isCanonical, keepsProperty, keepsTerm, keepsPage, countedBytes, keepsRules, tested}
 use Rattle.register_form.specs.Opened.{Places}
 use Rattle.register_form.proofs.Laying.{Laid, laid-facts}
@@ -30,45 +29,45 @@ use Rattle.register_test.proofs.Counting.{texts-used, bytes-counted}
 
 module _ (h : Bytes) where
   abbrev pub classes : List ℕ
-  classes = classesTo h (twoAt h 6) (replicate 2368 0)
+  classes = classesTo h (textCount h) (replicate 2368 0)
 
   abbrev pub marks : List ℕ
-  marks = namedTo h classes (twoAt h 4) (namesTo h (twoAt h 0) (replicate 2368 0))
+  marks = namedTo h classes (termCount h) (namesTo h (propertyCount h) (replicate 2368 0))
 
   abbrev pub places : List ℕ
-  places = placesTo h (twoAt h 2) (replicate 2368 0)
+  places = placesTo h (pageCount h) (replicate 2368 0)
 
   abbrev pub bytes : ℕ
-  bytes = sumTo (twoAt h 0) (propertyLength h) + sumTo (twoAt h 2) (pageLength h (shownTo h classes (twoAt h 4) (replicate 2048 0)))
+  bytes = sumTo (propertyCount h) (propertyLength h) + sumTo (pageCount h) (pageLength h (shownTo h classes (termCount h) (replicate 2048 0)))
 
   -- The tests, in the order in which they are made.
   abbrev texts : Bool
-  texts = allTo (twoAt h 6) (textTest h)
+  texts = allTo (textCount h) (textTest h)
 
   abbrev properties : Bool
-  properties = allTo (twoAt h 0) (propertyTest h (replicate 2368 0))
+  properties = allTo (propertyCount h) (propertyTest h (replicate 2368 0))
 
   abbrev terms : Bool
-  terms = allTo (twoAt h 4) (termTest h classes)
+  terms = allTo (termCount h) (termTest h classes)
 
   abbrev pages : Bool
-  pages = allTo (twoAt h 2) (pageTest h classes (replicate 2048 0) (replicate 2368 0))
+  pages = allTo (pageCount h) (pageTest h classes (replicate 2048 0) (replicate 2368 0))
 
   abbrev used-terms : Bool
-  used-terms = allTo (twoAt h 4) (isSet (lastTo h (twoAt h 2) (replicate 2048 0)))
+  used-terms = allTo (termCount h) (isSet (lastTo h (pageCount h) (replicate 2048 0)))
 
   abbrev used-texts : Bool
-  used-texts = allTo (twoAt h 6) (usedTest marks places)
+  used-texts = allTo (textCount h) (usedTest marks places)
 
   unfoldable pub verdict : Bool
   verdict = texts && properties && terms && pages && used-terms && used-texts && leb bytes 32768
 
-  labelled : all isLabelled (dictionaryIn h .texts) ≡ true → (x : ℕ) → x < twoAt h 6 → isLabelled (textAt h x) ≡ true
+  labelled : all isLabelled (dictionaryIn h .texts) ≡ true → (x : ℕ) → x < textCount h → isLabelled (textAt h x) ≡ true
   labelled e x b = rw (text-in h x b) at (all-at isLabelled (dictionaryIn h .texts) x [] e (omega (arith, text-count h)))
 
   module _ (laid : Laid h) where
-    classes-right : (x : ℕ) → x < twoAt h 6 → getD classes x 0 ≡ classOf (textAt h x)
-    classes-right x b = written-fill (λ x. classOf (textAt h x)) (replicate 2368 0) x (rw (length-replicate {A = ℕ} 2368 0) (omega (arith, laid .counted .texts))) (twoAt h 6) b
+    classes-right : (x : ℕ) → x < textCount h → getD classes x 0 ≡ classOf (textAt h x)
+    classes-right x b = written-fill (λ x. classOf (textAt h x)) (replicate 2368 0) x (rw (length-replicate {A = ℕ} 2368 0) (omega (arith, laid .counted .texts))) (textCount h) b
 
     each-passed : verdict ≡ true → (i : ℕ) → getD (texts ∷ properties ∷ terms ∷ pages ∷ used-terms ∷ used-texts ∷ leb bytes 32768 ∷ []) i true ≡ true
     unfolding verdict

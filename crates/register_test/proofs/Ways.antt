@@ -9,7 +9,7 @@ use lib.ListN.{length, getD, length-take, List·getD-eq-default}
 use borrow.Author.Tests.{eq-eqb, ne-eqb, not-true, not-false}
 use Rattle.text.specs.Bytes.{Bytes, part}
 use Rattle.register_form.specs.Numbers.{twoAt}
-use Rattle.register_form.specs.Form.{registerSize, formStart, textStart}
+use Rattle.register_form.specs.Form.{pageCount, propertyCount, termCount, textCount, registerSize, formStart, textStart}
 use Rattle.register_form.specs.Tests.{allTo, zerosAt, rises, isCounted, isPadded, isLaid}
 use Rattle.register_form.proofs.Parts.{getD-part}
 use Rattle.register_test.specs.Stages.{areRowsPadded, kindTest, startAt, riseTest}
@@ -32,8 +32,8 @@ module _ (h : Bytes) where
   zeros-some base size n room c r e f k = k ∙ rw (e, f)
 
   pub rows-padded : (n p p' q q' s s' : ℕ) (a b c d : Bool)
-      → n ≡ twoAt h 2
-      → p ≡ twoAt h 0
+      → n ≡ pageCount h
+      → p ≡ propertyCount h
       → p' ≡ p
       → a ≡ zerosAt h (8 + 3 * p') (192 - 3 * p')
       → q ≡ n
@@ -48,9 +48,9 @@ module _ (h : Bytes) where
   rows-padded n p p' q q' s s' a b c d e f g i j k l m o r t = rw (i, k, m, t, g, f, j, l, r, o, e)
 
   pub padded-is : (n t t' u u' x : ℕ) (a b c d : Bool)
-      → n ≡ twoAt h 6
+      → n ≡ textCount h
       → a ≡ areRowsPadded h
-      → t ≡ twoAt h 4
+      → t ≡ termCount h
       → t' ≡ t
       → b ≡ zerosAt h (5322 + 9 * t') (18432 - 9 * t')
       → x ≡ n
@@ -62,7 +62,7 @@ module _ (h : Bytes) where
   unfolding isPadded areRowsPadded
   padded-is n t t' u u' x a b c d e f g i j k l m o r = rw (f, j, l, r, i, g, k, o, m, e)
 
-  pub counted-is : (a b c d : ℕ) → a ≡ twoAt h 0 → b ≡ twoAt h 2 → c ≡ twoAt h 4 → d ≡ twoAt h 6 → (leb a 64 && leb b 256 && leb c 2048 && leb d 2368) ≡ isCounted h
+  pub counted-is : (a b c d : ℕ) → a ≡ propertyCount h → b ≡ pageCount h → c ≡ termCount h → d ≡ textCount h → (leb a 64 && leb b 256 && leb c 2048 && leb d 2368) ≡ isCounted h
   unfolding isCounted
   counted-is a b c d e f g i = rw (e, f, g, i)
 
@@ -96,10 +96,10 @@ module _ (h : Bytes) where
       → length h ≡ registerSize
       → r ≡ isCounted h
       → not r ≡ false
-      → a ≡ allTo (twoAt h 0) (kindTest h)
-      → pages ≡ twoAt h 2
+      → a ≡ allTo (propertyCount h) (kindTest h)
+      → pages ≡ pageCount h
       → b ≡ rises (startAt h 712) pages 2048
-      → texts ≡ twoAt h 6
+      → texts ≡ textCount h
       → c ≡ rises (startAt h 23754) texts 35136
       → d ≡ isPadded h
       → (a && b && c && d) ≡ isLaid h

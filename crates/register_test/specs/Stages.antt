@@ -13,7 +13,7 @@ use Rattle.values.specs.Spelling.{spellNumber}
 use Rattle.language.specs.Rules.{isIdentifier}
 use Rattle.register_form.specs.Numbers.{twoAt}
 use Rattle.register_form.specs.Dictionary.{nameOf, identifierOf, groupOf, codeOf, isCategory, numberFrom}
-use Rattle.register_form.specs.Form.{propertyAt, pageAt, formStart, formAt, termAt, textStart, textAt}
+use Rattle.register_form.specs.Form.{pageCount, propertyCount, termCount, textCount, propertyAt, pageAt, formStart, formAt, termAt, textStart, textAt}
 use Rattle.register_form.specs.Tests.{allTo, zerosAt, isLabelled, isPlain}
 use Rattle.register_test.specs.Loops.{written, sumTo, climbs, isSet}
 use Rattle.register_test.specs.declared.Judged.{Judged}
@@ -43,10 +43,10 @@ module _ (h : Bytes) where
   -- Of the layout.
   unfoldable pub areRowsPadded : Bool
   areRowsPadded =
-      zerosAt h (8 + 3 * twoAt h 0) (192 - 3 * twoAt h 0)
-      && zerosAt h (200 + 2 * twoAt h 2) (512 - 2 * twoAt h 2)
-      && zerosAt h (714 + 2 * twoAt h 2) (512 - 2 * twoAt h 2)
-      && zerosAt h (1226 + 2 * formStart h (twoAt h 2)) (4096 - 2 * formStart h (twoAt h 2))
+      zerosAt h (8 + 3 * propertyCount h) (192 - 3 * propertyCount h)
+      && zerosAt h (200 + 2 * pageCount h) (512 - 2 * pageCount h)
+      && zerosAt h (714 + 2 * pageCount h) (512 - 2 * pageCount h)
+      && zerosAt h (1226 + 2 * formStart h (pageCount h)) (4096 - 2 * formStart h (pageCount h))
 
   unfoldable pub kindTest : ℕ → Bool
   kindTest p = ltb (getD h (8 + 3 * p) 0) 4
@@ -72,7 +72,7 @@ module _ (h : Bytes) where
   nameNumber p = propertyAt h p .name
 
   unfoldable pub propertyOk : List ℕ → ℕ → Bool
-  propertyOk used x = ltb x (twoAt h 6) && isPlain (textAt h x) && isPropertyName (nameOf (textAt h x)) && eqb (getD used x 0) 0
+  propertyOk used x = ltb x (textCount h) && isPlain (textAt h x) && isPropertyName (nameOf (textAt h x)) && eqb (getD used x 0) 0
 
   abbrev pub namesTo : ℕ → List ℕ → List ℕ
   namesTo n used = written nameNumber (λ p. 1) n used
@@ -84,9 +84,9 @@ module _ (h : Bytes) where
   propertyLength p = textLength (nameNumber p) - 1
 
   pub record PropertiesTested (used used' : List ℕ) (r : Tally) : Type 0 where
-    pub ok : r .ok ≡ allTo (twoAt h 0) (propertyTest used)
-    pub bytes : r .bytes ≡ sumTo (twoAt h 0) propertyLength
-    pub marks : used' ≡ namesTo (twoAt h 0) used
+    pub ok : r .ok ≡ allTo (propertyCount h) (propertyTest used)
+    pub bytes : r .bytes ≡ sumTo (propertyCount h) propertyLength
+    pub marks : used' ≡ namesTo (propertyCount h) used
     pub most : r .bytes ≤ 4294967296
 
   -- Of a term, over the table of classes.
@@ -104,7 +104,7 @@ module _ (h : Bytes) where
 
   module _ (classes : List ℕ) where
     unfoldable pub judgedText : ℕ → ℕ → ℕ → Judged
-    judgedText low high c = cond (ltb c (twoAt h 6)) (judgedIn low high (getD classes c 0) c) (noText false 0)
+    judgedText low high c = cond (ltb c (textCount h)) (judgedIn low high (getD classes c 0) c) (noText false 0)
 
     unfoldable pub judgedValue : Kind → ℕ → Judged
     judgedValue Kind.Page c = judgedText 2 3 c
@@ -113,7 +113,7 @@ module _ (h : Bytes) where
     judgedValue Kind.String c = judgedText 1 2 c
 
     unfoldable pub judgedGroup : ℕ → ℕ → Judged
-    judgedGroup g c = cond (eqb g 0) (judgedText 2 2 c) (cond (leb g (twoAt h 0)) (judgedValue (propertyAt h (g - 1) .kind) c) (noText false 0))
+    judgedGroup g c = cond (eqb g 0) (judgedText 2 2 c) (cond (leb g (propertyCount h)) (judgedValue (propertyAt h (g - 1) .kind) c) (noText false 0))
 
     unfoldable pub judgedTerm : ℕ → Judged
     judgedTerm f = judgedGroup (groupOf (termAt h f)) (codeOf (termAt h f))
@@ -128,9 +128,9 @@ module _ (h : Bytes) where
     shownTo n shown = written (λ f. f) (λ f. judgedTerm f .bytes) n shown
 
   pub record TermsTested (classes used shown used' shown' : List ℕ) (ok : Bool) : Type 0 where
-    pub is : ok ≡ allTo (twoAt h 4) (termTest classes)
-    pub marks : used' ≡ namedTo classes (twoAt h 4) used
-    pub lengths : shown' ≡ shownTo classes (twoAt h 4) shown
+    pub is : ok ≡ allTo (termCount h) (termTest classes)
+    pub marks : used' ≡ namedTo classes (termCount h) used
+    pub lengths : shown' ≡ shownTo classes (termCount h) shown
 
   -- Of the forms of page i, over a table of the last page, told by its mark, that has a term.
   unfoldable pub formCount : ℕ → ℕ
@@ -145,7 +145,7 @@ module _ (h : Bytes) where
   behindAt i (suc j) = not (isCategory (termAt h (formIn i j)))
 
   unfoldable pub formOk : List ℕ → ℕ → Bool → ℕ → Bool
-  formOk last mark behind f = ltb f (twoAt h 4) && not (eqb (getD last f 0) mark) && not (behind && isCategory (termAt h f))
+  formOk last mark behind f = ltb f (termCount h) && not (eqb (getD last f 0) mark) && not (behind && isCategory (termAt h f))
 
   abbrev pub lastBy : ℕ → ℕ → ℕ → List ℕ → List ℕ
   lastBy mark i n last = written (formIn i) (λ j. mark) n last
@@ -174,7 +174,7 @@ module _ (h : Bytes) where
   placesTo n places = written identifierAt (λ i. i + 1) n places
 
   unfoldable pub pageOk : List ℕ → List ℕ → ℕ → Bool
-  pageOk classes places x = ltb x (twoAt h 6) && leb 2 (getD classes x 0) && eqb (getD places x 0) 0
+  pageOk classes places x = ltb x (textCount h) && leb 2 (getD classes x 0) && eqb (getD places x 0) 0
 
   unfoldable pub pageTest : List ℕ → List ℕ → List ℕ → ℕ → Bool
   pageTest classes last places i = pageOk classes (placesTo i places) (identifierAt i) && allTo (formCount i) (formTest (i + 1) (lastTo i last) i)
@@ -183,8 +183,8 @@ module _ (h : Bytes) where
   pageLength shown i = (textLength (identifierAt i) - 1) + sumTo (formCount i) (formLength shown i)
 
   pub record PagesTested (classes shown last places last' places' : List ℕ) (r : Tally) : Type 0 where
-    pub ok : r .ok ≡ allTo (twoAt h 2) (pageTest classes last places)
-    pub bytes : r .bytes ≡ sumTo (twoAt h 2) (pageLength shown)
-    pub marks : last' ≡ lastTo (twoAt h 2) last
-    pub table : places' ≡ placesTo (twoAt h 2) places
+    pub ok : r .ok ≡ allTo (pageCount h) (pageTest classes last places)
+    pub bytes : r .bytes ≡ sumTo (pageCount h) (pageLength shown)
+    pub marks : last' ≡ lastTo (pageCount h) last
+    pub table : places' ≡ placesTo (pageCount h) places
     pub most : r .bytes ≤ 562949953421312

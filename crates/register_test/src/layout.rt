@@ -1,7 +1,7 @@
 // Whether bytes are laid out as those of a dictionary.
 ghost use mathlib.Core.Path.{_≡_};
 ghost use Prim.Native.Nat.{_+_, _-_};
-ghost use Rattle.register_form.specs.Numbers.{twoAt};
+ghost use Rattle.register_form.specs.Form.{propertyCount};
 ghost use Rattle.register_form.specs.Tests.{allTo, zerosAt, rises, isCounted, isPadded, isLaid};
 ghost use Rattle.register_test.specs.Stages.{areRowsPadded, kindTest, startAt, riseTest};
 use register_form::REGISTER_BYTES;
@@ -13,7 +13,7 @@ use register_form::term_count;
 use register_form::text_count;
 use register_form::text_start;
 use register_form::two_at;
-use register_form::widen;
+use tables::widen;
 use text::part;
 
 // Whether the n bytes from a place on are 0. It never stops before the end, so that a compiler takes many bytes at a time.
@@ -80,7 +80,7 @@ fn is_kind(h: &[u8], p: u16) -> bool
 }
 
 fn are_kinds(h: &[u8]) -> bool
-    ensures { λ r. ⌜ r ≡ allTo (twoAt (now (h .entry)) 0) (kindTest (now (h .entry))) ⌝ }
+    ensures { λ r. ⌜ r ≡ allTo (propertyCount (now (h .entry))) (kindTest (now (h .entry))) ⌝ }
 {
     let n = property_count(h);
     let mut ok = true;

@@ -1,6 +1,6 @@
 // The tests of pages and their forms, and that each text and term is used.
 ghost use mathlib.Core.Path.{_≡_};
-ghost use Rattle.register_form.specs.Numbers.{twoAt};
+ghost use Rattle.register_form.specs.Form.{termCount, textCount};
 ghost use Rattle.register_form.specs.Tests.{allTo};
 ghost use Rattle.register_test.specs.Loops.{isSet};
 ghost use Rattle.register_test.specs.Stages.{formOk, FormsTested, pageOk, PagesTested, usedTest};
@@ -15,9 +15,9 @@ use register_form::minus;
 use register_form::page_count;
 use register_form::term_count;
 use register_form::text_count;
-use register_form::widen;
-use sorting::get;
-use sorting::put;
+use tables::get;
+use tables::put;
+use tables::widen;
 
 // Whether a page may have term f, where the table has the last page, told by its mark, that has it, and behind says that the form
 // before is a value.
@@ -90,7 +90,7 @@ fn is_set(t: &[u16], i: u16) -> bool
 
 // Whether some page has each term.
 pub fn terms_used(h: &[u8], last: &[u16]) -> bool
-    ensures { λ r. ⌜ r ≡ allTo (twoAt (now (h .entry)) 4) (isSet (now (last .entry))) ⌝ }
+    ensures { λ r. ⌜ r ≡ allTo (termCount (now (h .entry))) (isSet (now (last .entry))) ⌝ }
 {
     let n = term_count(h);
     let mut ok = true;
@@ -104,7 +104,7 @@ pub fn terms_used(h: &[u8], last: &[u16]) -> bool
 
 // Whether each text is used, by a property or a term or as a page's identifier.
 pub fn texts_used(h: &[u8], used: &[u16], places: &[u16]) -> bool
-    ensures { λ r. ⌜ r ≡ allTo (twoAt (now (h .entry)) 6) (usedTest (now (used .entry)) (now (places .entry))) ⌝ }
+    ensures { λ r. ⌜ r ≡ allTo (textCount (now (h .entry))) (usedTest (now (used .entry)) (now (places .entry))) ⌝ }
 {
     let n = text_count(h);
     let mut ok = true;

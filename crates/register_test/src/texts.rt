@@ -1,8 +1,7 @@
 // The tests of texts and of properties.
 ghost use mathlib.Core.Path.{_≡_};
 ghost use Prim.Native.Nat.{_-_};
-ghost use Rattle.register_form.specs.Numbers.{twoAt};
-ghost use Rattle.register_form.specs.Form.{textAt};
+ghost use Rattle.register_form.specs.Form.{textCount, textAt};
 ghost use Rattle.register_form.specs.Tests.{allTo, isLabelled, isPlain};
 ghost use Rattle.register_test.specs.Loops.{climbs};
 ghost use Rattle.register_test.specs.Stages.{classOf, textTest, classesTo, textLength, propertyOk, PropertiesTested};
@@ -16,10 +15,10 @@ use register_form::text_at;
 use register_form::text_count;
 use register_form::text_end;
 use register_form::text_start;
-use register_form::widen;
-use sorting::get;
 use sorting::is_less;
-use sorting::put;
+use tables::get;
+use tables::put;
+use tables::widen;
 use text::byte_at;
 use text::compare;
 use values::is_name;
@@ -81,7 +80,7 @@ fn class_of(h: &[u8], x: u16) -> u16
 
 // Whether texts are labelled and ascend; writes the class of each.
 pub fn texts_ok(h: &[u8], classes: &mut [u16]) -> bool
-    ensures { λ r. ⌜ (r ≡ allTo (twoAt (now (h .entry)) 6) (textTest (now (h .entry)))) × (now (classes .exit) ≡ classesTo (now (h .entry)) (twoAt (now (h .entry)) 6) (now (classes .entry))) ⌝ }
+    ensures { λ r. ⌜ (r ≡ allTo (textCount (now (h .entry))) (textTest (now (h .entry)))) × (now (classes .exit) ≡ classesTo (now (h .entry)) (textCount (now (h .entry))) (now (classes .entry))) ⌝ }
 {
     let n = text_count(h);
     let mut ok = true;

@@ -17,22 +17,21 @@ use Rattle.values.specs.declared.KindRead.{KindRead}
 use Rattle.language.specs.Register.{Property, Page, kindAmong, kindsOf}
 use Rattle.language.specs.RegisterText.{emptyPage}
 use Rattle.language.proofs.Members.{getD-mapped}
-use Rattle.register_form.specs.Numbers.{twoAt}
 use Rattle.register_form.specs.Dictionary.{spaceOf, nameOf, textIn, noProperty, decodeProperty, decodePage, decode}
 use Rattle.register_form.specs.Encoding.{placeAmong}
-use Rattle.register_form.specs.Form.{propertyAt, pageAt, textAt, dictionaryIn, registerIn}
+use Rattle.register_form.specs.Form.{pageCount, propertyCount, textCount, propertyAt, pageAt, textAt, dictionaryIn, registerIn}
 use Rattle.register_form.specs.Opened.{pageIn}
 use Rattle.register_view.specs.View.{kindOf}
 
 -- space_in, name_in
-module _ (h : Bytes) (x n : ℕ) (c : n ≡ twoAt h 6) (r : Bytes) where
+module _ (h : Bytes) (x n : ℕ) (c : n ≡ textCount h) (r : Bytes) where
   here : x < n → textIn (dictionaryIn h) x ≡ textAt h x
   unfolding dictionaryIn
-  here l = getD-tabulate (twoAt h 6) (textAt h) [] x (omega arith)
+  here l = getD-tabulate (textCount h) (textAt h) [] x (omega arith)
 
   past : n ≤ x → textIn (dictionaryIn h) x ≡ []
   unfolding dictionaryIn
-  past l = List·getD-eq-default (tabulate (twoAt h 6) (textAt h)) [] (omega (arith, length-tabulate (twoAt h 6) (textAt h)))
+  past l = List·getD-eq-default (tabulate (textCount h) (textAt h)) [] (omega (arith, length-tabulate (textCount h) (textAt h)))
 
   pub space-here : x < n → r ≡ spaceOf (textAt h x) → r ≡ spaceOf (textIn (dictionaryIn h) x)
   space-here l e = rw (here l) e
@@ -49,26 +48,26 @@ module _ (h : Bytes) (x n : ℕ) (c : n ≡ twoAt h 6) (r : Bytes) where
   name-past l e = rw (past l) e
 
 -- How many properties and pages the register has.
-pub property-total : (h : Bytes) → length (registerIn h .properties) ≡ twoAt h 0
+pub property-total : (h : Bytes) → length (registerIn h .properties) ≡ propertyCount h
 unfolding registerIn decode dictionaryIn
-property-total h = length-map (tabulate (twoAt h 0) (propertyAt h)) (decodeProperty (dictionaryIn h)) ∙ length-tabulate (twoAt h 0) (propertyAt h)
+property-total h = length-map (tabulate (propertyCount h) (propertyAt h)) (decodeProperty (dictionaryIn h)) ∙ length-tabulate (propertyCount h) (propertyAt h)
 
-pub page-total : (h : Bytes) → length (registerIn h .pages) ≡ twoAt h 2
+pub page-total : (h : Bytes) → length (registerIn h .pages) ≡ pageCount h
 unfolding registerIn decode dictionaryIn
-page-total h = length-map (tabulate (twoAt h 2) (pageAt h)) (decodePage (dictionaryIn h)) ∙ length-tabulate (twoAt h 2) (pageAt h)
+page-total h = length-map (tabulate (pageCount h) (pageAt h)) (decodePage (dictionaryIn h)) ∙ length-tabulate (pageCount h) (pageAt h)
 
 -- The property and the page in a place.
-pub property-in : (h : Bytes) (p : ℕ) (e : Property) → p < twoAt h 0 → getD (registerIn h .properties) p e ≡ decodeProperty (dictionaryIn h) (propertyAt h p)
+pub property-in : (h : Bytes) (p : ℕ) (e : Property) → p < propertyCount h → getD (registerIn h .properties) p e ≡ decodeProperty (dictionaryIn h) (propertyAt h p)
 unfolding registerIn decode dictionaryIn
 property-in h p e l =
-    getD-mapped (decodeProperty (dictionaryIn h)) (tabulate (twoAt h 0) (propertyAt h)) p (noProperty (dictionaryIn h)) e (omega (arith, length-tabulate (twoAt h 0) (propertyAt h)))
-    ∙ ap (decodeProperty (dictionaryIn h)) (getD-tabulate (twoAt h 0) (propertyAt h) (noProperty (dictionaryIn h)) p l)
+    getD-mapped (decodeProperty (dictionaryIn h)) (tabulate (propertyCount h) (propertyAt h)) p (noProperty (dictionaryIn h)) e (omega (arith, length-tabulate (propertyCount h) (propertyAt h)))
+    ∙ ap (decodeProperty (dictionaryIn h)) (getD-tabulate (propertyCount h) (propertyAt h) (noProperty (dictionaryIn h)) p l)
 
-pub page-in : (h : Bytes) (i : ℕ) → i < twoAt h 2 → pageIn (registerIn h) i ≡ decodePage (dictionaryIn h) (pageAt h i)
+pub page-in : (h : Bytes) (i : ℕ) → i < pageCount h → pageIn (registerIn h) i ≡ decodePage (dictionaryIn h) (pageAt h i)
 unfolding registerIn decode dictionaryIn pageIn
 page-in h i l =
-    getD-mapped (decodePage (dictionaryIn h)) (tabulate (twoAt h 2) (pageAt h)) i (pageAt h i) (emptyPage [] []) (omega (arith, length-tabulate (twoAt h 2) (pageAt h)))
-    ∙ ap (decodePage (dictionaryIn h)) (getD-tabulate (twoAt h 2) (pageAt h) (pageAt h i) i l)
+    getD-mapped (decodePage (dictionaryIn h)) (tabulate (pageCount h) (pageAt h)) i (pageAt h i) (emptyPage [] []) (omega (arith, length-tabulate (pageCount h) (pageAt h)))
+    ∙ ap (decodePage (dictionaryIn h)) (getD-tabulate (pageCount h) (pageAt h) (pageAt h i) i l)
 
 -- Where a property stands: the first p are others.
 pub record Passed (l : List Property) (x : Bytes) (p : ℕ) : Type 0 where
@@ -95,7 +94,7 @@ module _ (l : List Property) (x : Bytes) (p : ℕ) (a : Passed l x p) where
     passed-more e = record { most = omega arith; left = step ∙ rw (e, add-one p) (omega arith) }
 
 -- property_place
-module _ (h x : Bytes) (p n k : ℕ) (y : Bytes) (b : Bool) (c : n ≡ twoAt h 0) (l : p < n) (a : Passed (registerIn h .properties) x p) (row : k ≡ propertyAt h p .name) (name : y ≡ nameOf (textIn (dictionaryIn h) k)) (is : b ≡ same y x) where
+module _ (h x : Bytes) (p n k : ℕ) (y : Bytes) (b : Bool) (c : n ≡ propertyCount h) (l : p < n) (a : Passed (registerIn h .properties) x p) (row : k ≡ propertyAt h p .name) (name : y ≡ nameOf (textIn (dictionaryIn h) k)) (is : b ≡ same y x) where
   abbrev declared : Property
   declared = decodeProperty (dictionaryIn h) (propertyAt h p)
 
@@ -109,7 +108,7 @@ module _ (h x : Bytes) (p n k : ℕ) (y : Bytes) (b : Bool) (c : n ≡ twoAt h 0
   pub place-more : b ≡ false → Passed (registerIn h .properties) x (p + 1)
   place-more e = passed-more (registerIn h .properties) x p a (omega (arith, property-total h)) declared (property-in h p declared (omega arith)) (named ∙ e)
 
-pub place-none : (h x : Bytes) (p n : ℕ) → n ≡ twoAt h 0 → n ≤ p → Passed (registerIn h .properties) x p → n ≡ placeAmong (registerIn h .properties) x
+pub place-none : (h x : Bytes) (p n : ℕ) → n ≡ propertyCount h → n ≤ p → Passed (registerIn h .properties) x p → n ≡ placeAmong (registerIn h .properties) x
 place-none h x p n c l a = c ∙ sym (property-total h) ∙ passed-all (registerIn h .properties) x p a (omega (arith, property-total h))
 
 -- The kind of a property is that of its place.
@@ -132,7 +131,7 @@ kind-absent (p ∷ l) x b = go (same (p .name) x) b (kind-absent l x)
     go false b ih = ih (omega arith)
 
 -- kind_of
-module _ (h x : Bytes) (p n : ℕ) (at : p ≡ placeAmong (registerIn h .properties) x) (c : n ≡ twoAt h 0) where
+module _ (h x : Bytes) (p n : ℕ) (at : p ≡ placeAmong (registerIn h .properties) x) (c : n ≡ propertyCount h) where
   pub kind-is : (k : Kind) → p < n → k ≡ propertyAt h p .kind → kindOf (KindRead.Kind k) ≡ kindsOf (registerIn h) x
   unfolding decodeProperty
   kind-is k l e =
@@ -146,7 +145,7 @@ module _ (h x : Bytes) (p n : ℕ) (at : p ≡ placeAmong (registerIn h .propert
   kind-none l = sym (kind-absent (registerIn h .properties) x (omega (arith, property-total h)))
 
 -- namespace_at, article_at
-module _ (h : Bytes) (i n : ℕ) (c : n ≡ twoAt h 2) (r : Bytes) where
+module _ (h : Bytes) (i n : ℕ) (c : n ≡ pageCount h) (r : Bytes) where
   pub page-namespace : (k : ℕ) → i < n → k ≡ pageAt h i .identifier → r ≡ spaceOf (textIn (dictionaryIn h) k) → r ≡ pageIn (registerIn h) i .identifier .namespace
   unfolding decodePage
   page-namespace k l e f = f ∙ ap (λ (j : ℕ). spaceOf (textIn (dictionaryIn h) j)) e ∙ sym (ap (λ (p : Page). p .identifier .namespace) (page-in h i (omega arith)))

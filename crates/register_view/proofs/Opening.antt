@@ -23,10 +23,9 @@ use Rattle.language.proofs.Members.{and-true, getD-mapped}
 use Rattle.sorting.specs.Ascending.{placed, insertSorted, sorted, rank}
 use Rattle.sorting.proofs.Orders.{bytes-total}
 use Rattle.sorting.proofs.Ranks.{rank-most}
-use Rattle.register_form.specs.Numbers.{twoAt}
 use Rattle.register_form.specs.Dictionary.{PropertyRow, PageRow, Dictionary, labelled}
 use Rattle.register_form.specs.Encoding.{plainText, identifierText, valueTexts, pageTexts, textsIn, textsOf, categoryTerm, valueTerm, pageTerms, termsOf, encodeProperty, encodePage, encode}
-use Rattle.register_form.specs.Form.{formsOf, joined, bytesOf, formOf, propertyAt, pageAt, termAt, textAt, dictionaryIn, registerIn, isForm}
+use Rattle.register_form.specs.Form.{pageCount, propertyCount, termCount, textCount, formsOf, joined, bytesOf, formOf, propertyAt, pageAt, termAt, textAt, dictionaryIn, registerIn, isForm}
 use Rattle.register_form.specs.Opened.{pageIn, Opened}
 use Rattle.register_form.specs.Tests.{Small, Bounded, termUses}
 use Rattle.register_form.proofs.Lists.{mem-at, of-flat, of-sorted}
@@ -210,25 +209,25 @@ known {h} {places} {R} o =
 
 -- The rows of opened bytes.
 module _ {h : Bytes} {R : Register} (k : Known h R) where
-  pub count-pages : twoAt h 2 ≡ length (R .pages)
+  pub count-pages : pageCount h ≡ length (R .pages)
   unfolding dictionaryIn encode
-  count-pages = sym (length-tabulate (twoAt h 2) (pageAt h)) ∙ ap (λ (d : Dictionary). length (d .pages)) (k .is) ∙ length-map (R .pages) (encodePage R)
+  count-pages = sym (length-tabulate (pageCount h) (pageAt h)) ∙ ap (λ (d : Dictionary). length (d .pages)) (k .is) ∙ length-map (R .pages) (encodePage R)
 
-  count-properties : twoAt h 0 ≡ length (R .properties)
+  count-properties : propertyCount h ≡ length (R .properties)
   unfolding dictionaryIn encode
-  count-properties = sym (length-tabulate (twoAt h 0) (propertyAt h)) ∙ ap (λ (d : Dictionary). length (d .properties)) (k .is) ∙ length-map (R .properties) (encodeProperty R)
+  count-properties = sym (length-tabulate (propertyCount h) (propertyAt h)) ∙ ap (λ (d : Dictionary). length (d .properties)) (k .is) ∙ length-map (R .properties) (encodeProperty R)
 
   pub page-row : (i : ℕ) → i < length (R .pages) → pageAt h i ≡ encodePage R (pageIn R i)
   unfolding dictionaryIn encode pageIn
   page-row i b =
-      sym (getD-tabulate (twoAt h 2) (pageAt h) (pageAt h i) i (omega (arith, count-pages)))
+      sym (getD-tabulate (pageCount h) (pageAt h) (pageAt h i) i (omega (arith, count-pages)))
       ∙ ap (λ (d : Dictionary). getD (d .pages) i (pageAt h i)) (k .is)
       ∙ getD-mapped (encodePage R) (R .pages) i (emptyPage [] []) (pageAt h i) b
 
   pub property-row : (p : ℕ) (e : Property) → p < length (R .properties) → propertyAt h p ≡ encodeProperty R (getD (R .properties) p e)
   unfolding dictionaryIn encode
   property-row p e b =
-      sym (getD-tabulate (twoAt h 0) (propertyAt h) (propertyAt h p) p (omega (arith, count-properties)))
+      sym (getD-tabulate (propertyCount h) (propertyAt h) (propertyAt h p) p (omega (arith, count-properties)))
       ∙ ap (λ (d : Dictionary). getD (d .properties) p (propertyAt h p)) (k .is)
       ∙ getD-mapped (encodeProperty R) (R .properties) p e (propertyAt h p) b
 
@@ -243,11 +242,11 @@ module _ {h : Bytes} {R : Register} (k : Known h R) where
   pub term-row : (f : ℕ) → f < length (termsOf R) → termAt h f ≡ getD (termsOf R) f []
   unfolding dictionaryIn
   term-row f b =
-      sym (getD-tabulate (twoAt h 4) (termAt h) [] f (omega (arith, ap length terms-are, length-tabulate (twoAt h 4) (termAt h))))
+      sym (getD-tabulate (termCount h) (termAt h) [] f (omega (arith, ap length terms-are, length-tabulate (termCount h) (termAt h))))
       ∙ ap (λ (l : List Bytes). getD l f []) terms-are
 
   pub text-row : (x : ℕ) → x < length (textsOf R) → textAt h x ≡ getD (textsOf R) x []
   unfolding dictionaryIn
   text-row x b =
-      sym (getD-tabulate (twoAt h 6) (textAt h) [] x (omega (arith, ap length texts-are, length-tabulate (twoAt h 6) (textAt h))))
+      sym (getD-tabulate (textCount h) (textAt h) [] x (omega (arith, ap length texts-are, length-tabulate (textCount h) (textAt h))))
       ∙ ap (λ (l : List Bytes). getD l x []) texts-are

@@ -11,10 +11,9 @@ use Rattle.values.specs.declared.Kind.{Kind}
 use Rattle.language.specs.Register.{Register, sameKind}
 use Rattle.language.specs.Semantics.{someOther}
 use Rattle.sorting.specs.Ascending.{ascends, rank}
-use Rattle.register_form.specs.Numbers.{twoAt}
 use Rattle.register_form.specs.Dictionary.{PropertyRow, termOf}
 use Rattle.register_form.specs.Encoding.{plainText, textsOf, placeAmong, termsOf, encodeProperty}
-use Rattle.register_form.specs.Form.{propertyAt, dictionaryIn, registerIn}
+use Rattle.register_form.specs.Form.{propertyCount, propertyAt, dictionaryIn, registerIn}
 use Rattle.register_form.specs.Opened.{Opened}
 use Rattle.register_form.proofs.Decoded.{texts-up, terms-up}
 use Rattle.register_view.specs.Ranges.{termNumber, Ranked, Located, CategoryRange, PropertyRange}
@@ -58,7 +57,7 @@ module _ (h x : Bytes) where
             category-found R (d .keeps) (d .limits) x k (t .0) (t .1) f (u .0) (u .1) z low high
 
   -- property_range, other_kind
-  module _ (p n : ℕ) (at : p ≡ placeAmong (registerIn h .properties) x) (c : n ≡ twoAt h 0) where
+  module _ (p n : ℕ) (at : p ≡ placeAmong (registerIn h .properties) x) (c : n ≡ propertyCount h) where
     place-in : (R : Register) → registerIn h ≡ R → p ≡ placeAmong (R .properties) x
     place-in R e = at ∙ ap (λ (S : Register). placeAmong (S .properties) x) e
 

@@ -15,10 +15,9 @@ use Rattle.text.proofs.Tables.{length-tabulate, getD-tabulate}
 use Rattle.sorting.specs.Ascending.{isLess, isEqual, ascends, rank}
 use Rattle.sorting.proofs.Orders.{bytes-total}
 use Rattle.sorting.proofs.Ranks.{rank-most, rank-above, rank-below}
-use Rattle.register_form.specs.Numbers.{twoAt}
 use Rattle.register_form.specs.Dictionary.{labelled, termOf}
 use Rattle.register_form.specs.Encoding.{plainText}
-use Rattle.register_form.specs.Form.{termAt, textAt, dictionaryIn}
+use Rattle.register_form.specs.Form.{termCount, textCount, termAt, textAt, dictionaryIn}
 use Rattle.register_form.proofs.Numbers.{two-small}
 use Rattle.register_form.proofs.Lists.{number-back, number-small}
 use Rattle.register_view.specs.Ranges.{entriesIn, entryAt, keyOf, Ranked, Located}
@@ -61,18 +60,18 @@ module _ (h : Bytes) (index : Index) where
     pub entry-term : index ≡ Index.Terms → t ≡ termAt h m → r ≡ orderOf t key → r ≡ orderOf (entryAt h index m) (keyOf index key)
     entry-term e f g = rw (e, ← f) g
 
-  pub count-texts : (r : ℕ) → index ≡ Index.Texts → r ≡ twoAt h 6 → r ≡ length (entriesIn h index)
+  pub count-texts : (r : ℕ) → index ≡ Index.Texts → r ≡ textCount h → r ≡ length (entriesIn h index)
   unfolding dictionaryIn
-  count-texts r e f = rw e (f ∙ sym (length-tabulate (twoAt h 6) (textAt h)))
+  count-texts r e f = rw e (f ∙ sym (length-tabulate (textCount h) (textAt h)))
 
-  pub count-terms : (r : ℕ) → index ≡ Index.Terms → r ≡ twoAt h 4 → r ≡ length (entriesIn h index)
+  pub count-terms : (r : ℕ) → index ≡ Index.Terms → r ≡ termCount h → r ≡ length (entriesIn h index)
   unfolding dictionaryIn
-  count-terms r e f = rw e (f ∙ sym (length-tabulate (twoAt h 4) (termAt h)))
+  count-terms r e f = rw e (f ∙ sym (length-tabulate (termCount h) (termAt h)))
 
 entry-in : (h : Bytes) (index : Index) (m : ℕ) → m < length (entriesIn h index) → getD (entriesIn h index) m [] ≡ entryAt h index m
 unfolding dictionaryIn
-entry-in h Index.Texts m l = getD-tabulate (twoAt h 6) (textAt h) [] m (omega (arith, length-tabulate (twoAt h 6) (textAt h)))
-entry-in h Index.Terms m l = getD-tabulate (twoAt h 4) (termAt h) [] m (omega (arith, length-tabulate (twoAt h 4) (termAt h)))
+entry-in h Index.Texts m l = getD-tabulate (textCount h) (textAt h) [] m (omega (arith, length-tabulate (textCount h) (textAt h)))
+entry-in h Index.Terms m l = getD-tabulate (termCount h) (termAt h) [] m (omega (arith, length-tabulate (termCount h) (termAt h)))
 
 -- find: the key's rank lies between two numbers.
 pub record Between (h : Bytes) (index : Index) (key : Bytes) (lo hi : ℕ) : Type 0 where
@@ -129,7 +128,7 @@ module _ (h : Bytes) (index : Index) (key : Bytes) where
 -- The place of a term that was found has one behind it.
 pub place-small : (h key : Bytes) (r : Found) (f : ℕ) → ((i : ℕ) → getD h i 0 < 256) → Located h Index.Terms key r → r ≡ Found.At f → f + 1 < 65536
 unfolding Located dictionaryIn
-place-small h key r f bytes at e = omega (arith, subst (Located h Index.Terms key) e at .0, length-tabulate (twoAt h 4) (termAt h), two-small h 4 bytes)
+place-small h key r f bytes at e = omega (arith, subst (Located h Index.Terms key) e at .0, length-tabulate (termCount h) (termAt h), two-small h 4 bytes)
 
 pub ruleset searching = (plain-empty, plain-spaced, plain-name, entry-text, entry-term, count-texts, count-terms, located-past, located-at, located-none)
 

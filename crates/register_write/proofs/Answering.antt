@@ -1,30 +1,32 @@
 -- What the writer answers, by what it called.
-use Prim.Native.Nat.{ℕ, zero, suc, _+_, _≤_, _<_, min}
+use Prim.Native.Nat.{ℕ, zero, suc, _+_, _%_, _≤_, _<_, min}
 use mathlib.Core.Path.{_≡_, refl, ap₂, _∙_}
 use mathlib.Core.Bool.{true, false}
 use mathlib.Core.List.{List, _++_}
+use native.Mathlib.Nat.{mod-eq-of-lt}
 use native.Mathlib.Omega.{arith}
 use lib.Dec.{ltb, leb}
 use lib.ListN.{length, getD, replicate, length-replicate}
 use borrow.Author.Tests.{lt-ltb, le-ltb, le-leb, lt-leb}
 use Rattle.text.specs.Bytes.{Bytes}
+use Rattle.language.specs.Answer.{Answered}
 use Rattle.language.specs.Rules.{total}
 use Rattle.sorting.specs.Listing.{listed}
 use Rattle.dictionary.specs.Items.{textAt}
 use Rattle.register_form.specs.Numbers.{zeros}
-use Rattle.register_form.specs.Form.{registerSize}
+use Rattle.register_form.specs.Form.{registerSize, placed}
 use Rattle.register_bytes.specs.Writing.{written, firstOf, Region, putRegions}
 use Rattle.register_bytes.proofs.Filled.{dictionary-written}
-use Rattle.register_assembly.specs.Tables.{Tables}
+use Rattle.register_form.specs.Tables.{Tables}
 use Rattle.register_assembly.specs.Keeping.{PagesKept, Fresh, Within}
 use Rattle.register_assembly.specs.Counting.{textBytes, termBytesBy}
-use Rattle.register_write.specs.Writer.{fitted, Answered, Found, tabled, keptAll, countedBy, fitsCounted, writeCounted, rowRegions, listRegions, FittedWritten, KeptWritten}
+use Rattle.register_write.specs.Writer.{fitted, Found, tabled, keptAll, countedBy, fitsCounted, writeCounted, rowRegions, listRegions, FittedWritten, KeptWritten}
 use Rattle.register_write.proofs.Placing.{kept-are, regions-are}
 
 -- Writing what is within the limits.
 module _ (l : List Region) (h : Bytes) where
   pub fitted-short : length h < registerSize → FittedWritten l h 8 h
-  unfolding fitted
+  unfolding fitted placed
   fitted-short s =
       record {
         is = λ e q b.
@@ -33,7 +35,7 @@ module _ (l : List Region) (h : Bytes) where
       }
 
   pub fitted-written : (k g : Bytes) → registerSize ≤ length h → k ≡ written h 0 (zeros registerSize) → g ≡ putRegions 0 l k → FittedWritten l h 0 g
-  unfolding fitted
+  unfolding fitted placed
   fitted-written k g s d f =
       record {
         is = λ e q b.
@@ -99,7 +101,7 @@ module _ (t : Tables) (v : Found) (h : Bytes) where
 
           pub kept-written : (nb r : ℕ) (o : Bytes)
               → c ≤ 32768
-              → nb ≡ min (t .ng + 1) 65535
+              → nb ≡ (t .ng + 1) % 65536
               → FittedWritten (rowRegions (t .kinds) (v .numbers) (t .names) (t .np) (t .identifiers) (t .ng) (v .nt) (v .nx) begins nb table n ++ listRegions (listed (textAt (v .table) (v .termStarts) (v .termLens)) (v .termRefs) (v .nt)) (listed (textAt (t .s) (t .starts) (t .lens)) (v .refs) (v .nx))) h r o
               → KeptWritten t v h r o
           unfolding fitsCounted writeCounted
@@ -107,6 +109,6 @@ module _ (t : Tables) (v : Found) (h : Bytes) where
               record {
                 is = λ w g k.
                     let fits : fitsCounted t v ≡ true = rw (forms-fit w g, le-leb (countedBy t v) 32768 (omega (arith, counted w g))) in
-                    let answer = q .is (tabled t v) (regions-are t v table begins n nb (pages w g) few (omega arith)) (k fits) in
+                    let answer = q .is (tabled t v) (regions-are t v table begins n nb (pages w g) few (let e : nb ≡ t .ng + 1 = d ∙ mod-eq-of-lt (omega arith) in omega arith)) (k fits) in
                     rw (forms-fit w g, le-leb (countedBy t v) 32768 (omega (arith, counted w g))) answer;
               }

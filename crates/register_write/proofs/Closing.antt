@@ -9,22 +9,26 @@ use lib.Seq.{take-all}
 use borrow.Author.Tests.{le-leb, lt-leb}
 use Rattle.text.specs.Bytes.{Bytes, orderOf, part}
 use Rattle.text.proofs.Tables.{length-tabulate, getD-tabulate}
-use Rattle.language.specs.Answer.{Answer, refused}
+use Rattle.language.specs.Answer.{Answer, refused, Answered}
+use Rattle.language.specs.Rules.{isWithinLimits}
 use Rattle.sorting.specs.Listing.{Numbering}
 use Rattle.dictionary.specs.Items.{textAt}
 use Rattle.register_form.specs.Numbers.{zeros, padded}
 use Rattle.register_form.specs.Dictionary.{Dictionary}
-use Rattle.register_form.specs.Form.{joined, formOf}
+use Rattle.register_form.specs.Form.{joined, formOf, stored}
 use Rattle.register_form.specs.Tests.{Bounded}
 use Rattle.register_form.specs.Draft.{assembled, drafted, writeInto}
 use Rattle.register_form.proofs.Regions.{length-padded}
 use Rattle.register_form.proofs.Rows.{length-rows, row-in}
 use Rattle.register_form.proofs.Rules.{within}
+use Rattle.register_form.proofs.Renumbered.{properties-many, pages-many}
+use Rattle.register_form.proofs.Assembled.{assembled-is}
+use Rattle.register_form.proofs.Drafting.{drafted-limits}
 use Rattle.register_bytes.specs.Writing.{written, rowsOf}
 use Rattle.register_bytes.proofs.Filled.{region-filled}
-use Rattle.register_assembly.specs.Tables.{Tables, draftIn}
+use Rattle.register_form.specs.Tables.{Tables, draftIn}
 use Rattle.register_assembly.specs.Terms.{termBy, termsBy, Filling}
-use Rattle.register_write.specs.Writer.{fitsLimits, fitted, writeDictionary, Answered, Capacity, Found, pageBy, tabled, fitsCounted, writeCounted, foundOf, KeptWritten, TermsWritten, AssembledWritten, DraftWritten}
+use Rattle.register_write.specs.Writer.{fitsLimits, fitted, writeDictionary, Capacity, Found, pageBy, tabled, fitsCounted, writeCounted, foundOf, KeptWritten, TermsWritten, AssembledWritten, DraftWritten}
 use Rattle.register_write.proofs.Renumbered.{property-count, page-count}
 use Rattle.register_write.proofs.Tabling.{Renumbering, tabled-assembled, within as within-numbers}
 use Rattle.register_write.proofs.Counted.{uses-are, counted-are}
@@ -159,11 +163,14 @@ module _ (t : Tables) (h : Bytes) where
 
 -- The register that the draft describes.
 pub draft-written : (t : Tables) (h : Bytes) (y : ℕ) (o : Bytes) → AssembledWritten t h y o → DraftWritten t h y o
-unfolding writeDictionary fitted writeInto formOf
+unfolding writeDictionary fitted writeInto stored formOf fitsLimits
 draft-written t h y o a =
     record {
-      is = λ d c e f.
-          let R = drafted (draftIn t) in
+      is = λ d c.
+          let D = draftIn t in
+          let R = drafted D in
+          let e = assembled-is D d in
+          let f : isWithinLimits R ≡ fitsLimits (assembled D) = drafted-limits D d ∙ sym (rw (properties-many D d, pages-many D d)) in
           let bounded : fitsLimits (assembled (draftIn t)) ≡ true → Bounded (assembled (draftIn t)) = λ i. rw e (bounded-encoded R (within R (f ∙ i))) in
           let answer = a .is (record { draft = d; capacity = c; bounded = bounded }) in
           let same : writeDictionary (assembled (draftIn t)) h ≡ writeInto R h = rw (f, ← e) in

@@ -23,7 +23,7 @@ use Rattle.register_form.proofs.Lists.{mem-at}
 use Rattle.register_form.proofs.Numbers.{code-back}
 use Rattle.register_form.proofs.Parts.{map-tabulate}
 use Rattle.register_bytes.specs.Writing.{rowOf}
-use Rattle.register_assembly.specs.Tables.{Tables, draftIn}
+use Rattle.register_form.specs.Tables.{Tables, draftIn}
 use Rattle.register_assembly.specs.Terms.{codeFor, codeBy, termBy}
 
 -- The parts of a draft in tables.

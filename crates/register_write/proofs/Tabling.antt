@@ -23,7 +23,7 @@ use Rattle.register_form.specs.Draft.{Draft, onceBehind, filtered, newNumber, n
 use Rattle.register_form.proofs.Lists.{mem-at, mem-flat}
 use Rattle.register_form.proofs.Parts.{map-tabulate}
 use Rattle.register_bytes.specs.Writing.{rowOf, rowsOf}
-use Rattle.register_assembly.specs.Tables.{Tables, range, formsAt, draftIn}
+use Rattle.register_form.specs.Tables.{Tables, range, formsAt, draftIn}
 use Rattle.register_assembly.specs.Terms.{termBy}
 use Rattle.register_assembly.specs.Keeping.{wants, passed, keptBy, keptOn, Within}
 use Rattle.register_assembly.proofs.Keepings.{once-append}

@@ -3,22 +3,21 @@ use Prim.Native.Nat.{ℕ, _+_, _≤_}
 use mathlib.Core.Path.{_≡_}
 use mathlib.Core.Bool.{Bool, true, cond, _&&_}
 use mathlib.Core.List.{List, [], _∷_, _++_, flatMap}
-use lib.Dec.{ltb, leb}
-use lib.ListN.{length, getD, drop}
+use lib.Dec.{leb}
+use lib.ListN.{length, getD}
 use Rattle.text.specs.Bytes.{Bytes, orderOf}
 use Rattle.text.specs.Table.{tabulate}
-use Rattle.language.specs.Answer.{Answer, refused, accepted, numberOf}
-use Rattle.language.specs.Rules.{total, isWithinLimits}
+use Rattle.language.specs.Answer.{Answer, refused, Answered}
+use Rattle.language.specs.Rules.{total}
 use Rattle.sorting.specs.Listing.{listed, Numbered}
 use Rattle.dictionary.specs.Items.{textAt}
 use Rattle.register_form.specs.Numbers.{startsFrom}
 use Rattle.register_form.specs.Dictionary.{PageRow, Dictionary}
-use Rattle.register_form.specs.Form.{registerSize, joined, propertyBytes, numberBytes, bytesOf}
+use Rattle.register_form.specs.Form.{joined, propertyBytes, numberBytes, bytesOf, placed}
 use Rattle.register_form.specs.Tests.{termUses, countedBytes, Bounded}
-use Rattle.register_form.specs.Encoding.{encode}
 use Rattle.register_form.specs.Draft.{Draft, assembled, drafted, writeInto}
 use Rattle.register_bytes.specs.Writing.{picked, firstOf, rowsOf, fourBytes, Region, regionsOf}
-use Rattle.register_assembly.specs.Tables.{Tables, draftIn}
+use Rattle.register_form.specs.Tables.{Tables, draftIn}
 use Rattle.register_assembly.specs.Keeping.{keptOn, keptUpTo, Within}
 use Rattle.register_assembly.specs.Counting.{textBytes, termBytesBy}
 
@@ -28,20 +27,10 @@ fitsLimits e = leb (length (e .properties)) 64 && leb (length (e .pages)) 256 &&
 
 -- What writing a dictionary that is within the limits into a buffer answers, and any dictionary.
 unfoldable pub fitted : Dictionary → Bytes → Answer Bytes
-fitted e h = cond (ltb (length h) registerSize) (refused 8) (accepted (bytesOf e ++ drop registerSize h))
+fitted e h = placed (bytesOf e) h
 
 unfoldable pub writeDictionary : Dictionary → Bytes → Answer Bytes
 writeDictionary e h = cond (fitsLimits e) (fitted e h) (refused 7)
-
--- The bytes that a call leaves: those that it accepts, else those that were there.
-abbrev pub leftBy : Answer Bytes → Bytes → Bytes
-leftBy (refused n) h = h
-leftBy (accepted g) h = g
-
--- The answer a is told by r and the bytes g that are left of h.
-pub record Answered (a : Answer Bytes) (h : Bytes) (r : ℕ) (g : Bytes) : Type 0 where
-  pub number : r ≡ numberOf a
-  pub bytes : g ≡ leftBy a h
 
 -- The tables hold what they have room for.
 pub record Capacity (t : Tables) : Type 0 where
@@ -107,11 +96,6 @@ listRegions terms texts =
     ∷ record { size = 35136; bytes = joined texts }
     ∷ []
 
--- The tables of a draft, one by one.
-abbrev pub tablesOf : Bytes → List ℕ → List ℕ → ℕ → List ℕ → List ℕ → ℕ → List ℕ → List ℕ → ℕ → List ℕ → List ℕ → ℕ → Tables
-tablesOf s starts lens m kinds names np identifiers firsts ng groups codes nf =
-    record { s = s; starts = starts; lens = lens; m = m; kinds = kinds; names = names; np = np; identifiers = identifiers; firsts = firsts; ng = ng; groups = groups; codes = codes; nf = nf }
-
 abbrev pub foundOf : List ℕ → ℕ → List ℕ → Bytes → List ℕ → List ℕ → List ℕ → ℕ → List ℕ → Found
 foundOf refs nx numbers table termStarts termLens termRefs nt termNumbers =
     record { refs = refs; nx = nx; numbers = numbers; table = table; termStarts = termStarts; termLens = termLens; termRefs = termRefs; nt = nt; termNumbers = termNumbers }
@@ -134,14 +118,9 @@ pub record Writable (t : Tables) : Type 0 where
 pub record TermsWritten (t : Tables) (refs : List ℕ) (nx : ℕ) (numbers : List ℕ) (h : Bytes) (r : ℕ) (g : Bytes) : Type 0 where
   pub is : Writable t → Numbered orderOf (textAt (t .s) (t .starts) (t .lens)) (t .m) refs nx numbers → t .np ≤ 64 → t .ng ≤ 256 → Answered (writeDictionary (assembled (draftIn t)) h) h r g
 
--- What writing a draft answers: the dictionary that is assembled of it, and the register that it describes. The last asks that the
--- two are one, and that the limits are told alike.
+-- What writing a draft answers: the dictionary that is assembled of it, and the register that it describes.
 pub record AssembledWritten (t : Tables) (h : Bytes) (r : ℕ) (g : Bytes) : Type 0 where
   pub is : Writable t → Answered (writeDictionary (assembled (draftIn t)) h) h r g
 
 pub record DraftWritten (t : Tables) (h : Bytes) (r : ℕ) (g : Bytes) : Type 0 where
-  pub is : Draft (draftIn t)
-      → Capacity t
-      → assembled (draftIn t) ≡ encode (drafted (draftIn t))
-      → isWithinLimits (drafted (draftIn t)) ≡ fitsLimits (assembled (draftIn t))
-      → Answered (writeInto (drafted (draftIn t)) h) h r g
+  pub is : Draft (draftIn t) → Capacity t → Answered (writeInto (drafted (draftIn t)) h) h r g

@@ -4,19 +4,14 @@ ghost use Prim.Native.Nat.{ℕ, _+_, min};
 ghost use Rattle.language.specs.Rules.{total};
 ghost use Rattle.register_bytes.specs.Writing.{firstOf};
 ghost use Rattle.register_assembly.specs.Counting.{textBytes, termBytesBy};
-ghost use Rattle.register_write.specs.Writer.{tablesOf, foundOf, KeptWritten};
+ghost use Rattle.register_form.specs.Tables.{tablesOf};
+ghost use Rattle.register_write.specs.Writer.{foundOf, KeptWritten};
 use crate::OVER_LIMIT;
 use crate::regions::write_fitting;
 use register_assembly::counting::count_terms;
 use register_assembly::counting::count_texts;
 use register_assembly::keeping::keep_forms;
-
-// One more, up to 65,535.
-fn next(n: u16) -> u16
-    ensures { λ r. ⌜ r ≡ min (n + 1) 65535 ⌝ }
-{
-    if n < 65535 { n + 1 } else { n }
-}
+use tables::next;
 
 // The bytes of all names and values, up to 32,769.
 fn count_all(

@@ -1,6 +1,7 @@
 // The one writer of held registers: it assembles a draft and writes it, or refuses it and leaves every byte.
 ghost use Prim.Native.Nat.{ℕ};
-ghost use Rattle.register_write.specs.Writer.{tablesOf, TermsWritten, AssembledWritten, DraftWritten};
+ghost use Rattle.register_form.specs.Tables.{tablesOf};
+ghost use Rattle.register_write.specs.Writer.{TermsWritten, AssembledWritten, DraftWritten};
 use crate::kept::write_kept;
 use dictionary::number;
 use register_assembly::terms::put_term_starts;

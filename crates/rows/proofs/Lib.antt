@@ -3,4 +3,5 @@ pub mod Verdict
 pub mod Ways
 pub mod Loops
 pub mod Judging
-pub mod Hashing
+pub mod Naming
+pub mod Counted

@@ -15,7 +15,7 @@ use super::Declared;
 use entries::Item;
 use entries::Tag;
 use entries::table::item_at;
-use entries::table::num_at;
+use tables::num_at;
 use text::part;
 use text::same_bytes;
 use values::BooleanRead;

@@ -3,7 +3,7 @@ ghost use mathlib.Core.Path.{_≡_};
 ghost use Rattle.rows.specs.Checks.{Collected, lowest, verdictOf, Judges, Room};
 
 pub mod checks; // checks.rt: what one row, or two, must keep
-pub mod hashes; // hashes.rt: hashes of what rows declare
+pub mod names; // names.rt: what rows declare, as parts of the text
 pub mod tests; // tests.rt: some row fails, two rows are alike, how many are inner forms
 
 use checks::bit_of;
@@ -14,6 +14,7 @@ use entries::table::put;
 use tests::count_inner;
 use tests::some_row;
 use tests::twice;
+use text::Span;
 
 // What a row declares.
 pub enum Declared {
@@ -26,6 +27,12 @@ pub enum Check {
     Rule,
     Undeclared,
     Unfit,
+}
+
+// Where what a row declares lies in one part of the text, if it does.
+pub enum Piece {
+    At(Span),
+    Nothing,
 }
 
 // The verdict on a text, and how many rows, properties and pages it has.

@@ -1,21 +1,19 @@
 // Tests and counts over all rows.
 ghost use mathlib.Core.Path.{_≡_};
-ghost use Prim.Native.Nat.{ℕ, _<_};
 ghost use lib.ListN.{getD};
 ghost use Rattle.language.specs.RegisterText.{sameDeclared};
 ghost use Rattle.entries.specs.Table.{entryAt};
 ghost use Rattle.rows.specs.Rows.{anyTo};
-ghost use Rattle.rows.specs.Hashes.{Hashed};
 ghost use Rattle.rows.specs.Checks.{someFails, twiceIn, innerIn, innerTag};
 use super::Check;
 use super::checks::are_alike;
 use super::checks::bit_of;
 use super::checks::row_fails;
-use super::hashes::fill_hashes;
-use super::hashes::hash_before;
+use super::names::list_names;
+use dictionary::build;
 use entries::Tag;
 use entries::table::item_at;
-use entries::table::num_at;
+use tables::num_at;
 
 // Whether some of the first n rows fails a check.
 pub fn some_row(s: &[u8], t: &[u16], n: usize, props: &[u16], m: usize, check: Check) -> bool
@@ -44,29 +42,31 @@ pub fn like_before(s: &[u8], t: &[u16], rows: &[u16], k: usize) -> bool
     some
 }
 
-// The same by the table of hashes: bytes are compared only where a row before row k has its hash.
-fn repeats(s: &[u8], t: &[u16], rows: &[u16], hashes: &[u16], k: usize) -> bool
-    ensures { λ r. ⌜ ((m : ℕ) → Hashed (now (s .entry)) (now (t .entry)) (now (rows .entry)) m (now (hashes .entry)) → k < m → r ≡ anyTo k (λ a. sameDeclared (entryAt (now (s .entry)) (now (t .entry)) (getD (now (rows .entry)) a 0)) (entryAt (now (s .entry)) (now (t .entry)) (getD (now (rows .entry)) k 0)))) ⌝ }
-{
-    if !hash_before(hashes, k) {
-        return false;
-    }
-    like_before(s, t, rows, k)
-}
-
-// Whether two of the first m of a list of rows are alike.
-pub fn twice(s: &[u8], t: &[u16], rows: &[u16], m: usize) -> bool
+// Whether two of the first m of a list of rows are alike: each is compared with those before it.
+fn twice_by_pairs(s: &[u8], t: &[u16], rows: &[u16], m: usize) -> bool
     ensures { λ r. ⌜ r ≡ twiceIn (now (s .entry)) (now (t .entry)) (now (rows .entry)) m ⌝ }
 {
-    let mut hashes = [0u16; 2560];
-    fill_hashes(s, t, rows, m, &mut hashes);
     let mut some = false;
     let mut k: usize = 0;
     while k < m {
-        some = some | repeats(s, t, rows, &hashes, k);
+        some = some | like_before(s, t, rows, k);
         k += 1;
     }
     some
+}
+
+// The same: some are alike where sorting what they declare leaves fewer. Rows that no text gives are compared in pairs.
+pub fn twice(s: &[u8], t: &[u16], rows: &[u16], m: usize) -> bool
+    ensures { λ r. ⌜ r ≡ twiceIn (now (s .entry)) (now (t .entry)) (now (rows .entry)) m ⌝ }
+{
+    let mut starts = [0u32; 2560];
+    let mut lens = [0u16; 2560];
+    if !list_names(s, t, rows, m, &mut starts, &mut lens) {
+        return twice_by_pairs(s, t, rows, m);
+    }
+    let mut refs = [0u16; 2560];
+    let mut reps = [0u16; 2560];
+    build(s, &starts, &lens, m as u16, &mut refs, &mut reps) < m
 }
 
 // Whether an entry is a cat or val form.

@@ -1,4 +1,3 @@
 pub mod Laws
 pub mod Trim
 pub mod Tables
-pub mod Hashing

@@ -7,8 +7,6 @@ ghost use Rattle.text.specs.Bytes.{any, all, same, orderOf, numbers, spa
 ghost use Rattle.text.specs.Class.{oneOf, inClass};
 ghost use Rattle.text.specs.Parts.{Trimmed};
 
-pub mod hash; // hash.rt: a hash of byte strings
-
 // How two byte strings stand to one another.
 pub enum Order {
     Less,

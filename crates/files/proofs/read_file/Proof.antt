@@ -6,10 +6,6 @@ use lib.ListN.{length}
 use Rattle.files.proofs.Reading.{read-within}
 use Rattle.files.proofs.read_file.Statement.{statement}
 use Rattle.files.proofs.read_file.Tie as tie
-use Rattle.files.proofs.read_file.Reads as reads
-use Rattle.files.proofs.read_file.Lts as lts
-use Rattle.files.proofs.read_behind.Reads as read-behind-reads
-use Rattle.os.proofs.open_read.Reads as open-read-reads
 
 abbrev Inv-loop : tie.InvT-loop
 Inv-loop path buf₀ fd done₀ buf done = (done ≤ length buf) × (length buf ≡ length buf₀)

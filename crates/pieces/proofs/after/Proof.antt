@@ -3,9 +3,6 @@ use Rattle.pieces.proofs.Laws.{after-yes, after-no, after-ends}
 use borrow.Author.Needs.{needs}
 use Rattle.pieces.proofs.after.Statement.{statement}
 use Rattle.pieces.proofs.after.Tie as tie
-use Rattle.pieces.proofs.after.Reads as reads
-use Rattle.pieces.proofs.after.Lts as lts
-use Rattle.text.proofs.word_at.Reads as word-at-reads
 
 word-at-requires : tie.Need-word-at-requires
 word-at-requires c κs = search needs

@@ -2,12 +2,6 @@ use Rattle.pieces.proofs.Laws.{category-yes, category-no}
 use borrow.Author.Needs.{needs}
 use Rattle.pieces.proofs.category_of.Statement.{statement}
 use Rattle.pieces.proofs.category_of.Tie as tie
-use Rattle.pieces.proofs.category_of.Reads as reads
-use Rattle.pieces.proofs.category_of.Lts as lts
-use Rattle.pieces.proofs.is_bare.Reads as is-bare-reads
-use Rattle.pieces.proofs.split_at.Reads as split-at-reads
-use Rattle.text.proofs.part.Reads as part-reads
-use Rattle.text.proofs.same_bytes.Reads as same-bytes-reads
 
 split-at-requires : tie.Need-split-at-requires
 split-at-requires c κs = search needs

@@ -2,9 +2,6 @@ use Rattle.pieces.proofs.Laws.{ways}
 use borrow.Author.Needs.{needs}
 use Rattle.pieces.proofs.comparator_at.Statement.{statement}
 use Rattle.pieces.proofs.comparator_at.Tie as tie
-use Rattle.pieces.proofs.comparator_at.Reads as reads
-use Rattle.pieces.proofs.comparator_at.Lts as lts
-use Rattle.pieces.proofs.after.Reads as after-reads
 
 slice-aggregate-after : tie.Need-slice-aggregate-after
 slice-aggregate-after c = search needs

@@ -2,9 +2,6 @@ use Rattle.pieces.specs.Places.{from}
 use borrow.Author.Needs.{needs}
 use Rattle.pieces.proofs.ends_head.Statement.{statement}
 use Rattle.pieces.proofs.ends_head.Tie as tie
-use Rattle.pieces.proofs.ends_head.Reads as reads
-use Rattle.pieces.proofs.ends_head.Lts as lts
-use Rattle.text.proofs.word_at.Reads as word-at-reads
 
 slice-aggregate-word-at : tie.Need-slice-aggregate-word-at
 slice-aggregate-word-at c = search needs

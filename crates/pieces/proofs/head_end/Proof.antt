@@ -6,10 +6,6 @@ use Rattle.pieces.specs.Places.{headAt}
 use Rattle.pieces.proofs.Laws.{head-here, head-none, head-step, head-over}
 use Rattle.pieces.proofs.head_end.Statement.{statement}
 use Rattle.pieces.proofs.head_end.Tie as tie
-use Rattle.pieces.proofs.head_end.Reads as reads
-use Rattle.pieces.proofs.head_end.Lts as lts
-use Rattle.pieces.proofs.ends_head.Reads as ends-head-reads
-use Rattle.text.proofs.word_at.Reads as word-at-reads
 
 abbrev Inv-loop : tie.InvT-loop
 Inv-loop s at i₀ t4 i = headAt s at ≡ headAt s i

@@ -2,10 +2,6 @@ use Rattle.pieces.proofs.Laws.{ways, inner-yes}
 use borrow.Author.Needs.{needs}
 use Rattle.pieces.proofs.inner_end.Statement.{statement}
 use Rattle.pieces.proofs.inner_end.Tie as tie
-use Rattle.pieces.proofs.inner_end.Reads as reads
-use Rattle.pieces.proofs.inner_end.Lts as lts
-use Rattle.pieces.proofs.token.Reads as token-reads
-use Rattle.text.proofs.scan.Reads as scan-reads
 
 slice-aggregate-token : tie.Need-slice-aggregate-token
 slice-aggregate-token c = search needs

@@ -1,11 +1,6 @@
 use borrow.Author.Needs.{needs}
 use Rattle.pieces.proofs.is_existence.Statement.{statement}
 use Rattle.pieces.proofs.is_existence.Tie as tie
-use Rattle.pieces.proofs.is_existence.Reads as reads
-use Rattle.pieces.proofs.is_existence.Lts as lts
-use Rattle.pieces.proofs.is_bare.Reads as is-bare-reads
-use Rattle.text.proofs.part.Reads as part-reads
-use Rattle.text.proofs.same_bytes.Reads as same-bytes-reads
 
 is-bare-requires : tie.Need-is-bare-requires
 is-bare-requires c κs = search needs

@@ -2,9 +2,6 @@ use Rattle.pieces.proofs.Laws.{ways}
 use borrow.Author.Needs.{needs}
 use Rattle.pieces.proofs.next_term.Statement.{statement}
 use Rattle.pieces.proofs.next_term.Tie as tie
-use Rattle.pieces.proofs.next_term.Reads as reads
-use Rattle.pieces.proofs.next_term.Lts as lts
-use Rattle.pieces.proofs.token.Reads as token-reads
 
 slice-aggregate-token : tie.Need-slice-aggregate-token
 slice-aggregate-token c = search needs

@@ -2,11 +2,6 @@ use Rattle.pieces.proofs.Laws.{piece-is}
 use borrow.Author.Needs.{needs}
 use Rattle.pieces.proofs.piece_at.Statement.{statement}
 use Rattle.pieces.proofs.piece_at.Tie as tie
-use Rattle.pieces.proofs.piece_at.Reads as reads
-use Rattle.pieces.proofs.piece_at.Lts as lts
-use Rattle.pieces.proofs.comparator_at.Reads as comparator-at-reads
-use Rattle.text.proofs.scan.Reads as scan-reads
-use Rattle.text.proofs.trimmed.Reads as trimmed-reads
 
 scan-requires : tie.Need-scan-requires
 scan-requires c κs = search needs

@@ -2,14 +2,6 @@ use Rattle.pieces.proofs.Laws.{read-namespace, read-no-namespace, read-
 use borrow.Author.Needs.{needs}
 use Rattle.pieces.proofs.read_piece.Statement.{statement}
 use Rattle.pieces.proofs.read_piece.Tie as tie
-use Rattle.pieces.proofs.read_piece.Reads as reads
-use Rattle.pieces.proofs.read_piece.Lts as lts
-use Rattle.pieces.proofs.is_bare.Reads as is-bare-reads
-use Rattle.pieces.proofs.split_at.Reads as split-at-reads
-use Rattle.text.proofs.part.Reads as part-reads
-use Rattle.text.proofs.same_bytes.Reads as same-bytes-reads
-use Rattle.values.proofs.is_namespace.Reads as is-namespace-reads
-use Rattle.values.proofs.is_reference.Reads as is-reference-reads
 
 split-at-requires : tie.Need-split-at-requires
 split-at-requires c κs = search needs

@@ -2,10 +2,6 @@ use Rattle.pieces.proofs.Laws.{ways}
 use borrow.Author.Needs.{needs}
 use Rattle.pieces.proofs.token.Statement.{statement}
 use Rattle.pieces.proofs.token.Tie as tie
-use Rattle.pieces.proofs.token.Reads as reads
-use Rattle.pieces.proofs.token.Lts as lts
-use Rattle.pieces.proofs.after.Reads as after-reads
-use Rattle.text.proofs.scan.Reads as scan-reads
 
 scan-requires : tie.Need-scan-requires
 scan-requires c κs = search needs

@@ -2,11 +2,6 @@ use Rattle.reader.proofs.Texts.{text-long, text-none, text-tail, text-r
 use borrow.Author.Needs.{needs}
 use Rattle.reader.proofs.read_text.Statement.{statement}
 use Rattle.reader.proofs.read_text.Tie as tie
-use Rattle.reader.proofs.read_text.Reads as reads
-use Rattle.reader.proofs.read_text.Lts as lts
-use Rattle.reader.proofs.readers.query.Reads as query-reads
-use Rattle.reader.proofs.verdict.Reads as verdict-reads
-use Rattle.text.proofs.scan.Reads as scan-reads
 
 returns : tie.Need-returns
 returns c = text-long _ _ (c .if1 .taken)

@@ -1,8 +1,6 @@
 use Rattle.reader.specs.Answers.{verdictOf}
 use Rattle.reader.proofs.verdict.Statement.{statement}
 use Rattle.reader.proofs.verdict.Tie as tie
-use Rattle.reader.proofs.verdict.Reads as reads
-use Rattle.reader.proofs.verdict.Lts as lts
 
 returns : tie.Need-returns
 unfolding verdictOf

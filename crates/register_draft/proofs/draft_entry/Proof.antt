@@ -2,13 +2,6 @@ use Rattle.register_draft.proofs.Steps.{entry-prop, entry-cat, entry-pa
 use borrow.Author.Needs.{needs}
 use Rattle.register_draft.proofs.draft_entry.Statement.{statement}
 use Rattle.register_draft.proofs.draft_entry.Tie as tie
-use Rattle.register_draft.proofs.draft_entry.Reads as reads
-use Rattle.register_draft.proofs.draft_entry.Lts as lts
-use Rattle.register_draft.proofs.adding.draft_page.Reads as draft-page-reads
-use Rattle.register_draft.proofs.adding.draft_prop.Reads as draft-prop-reads
-use Rattle.register_draft.proofs.adding.draft_val.Reads as draft-val-reads
-use Rattle.register_draft.proofs.adding.draft_value.Reads as draft-value-reads
-use Rattle.text.proofs.part.Reads as part-reads
 
 part-requires : tie.Need-part-requires
 part-requires c κs = search needs

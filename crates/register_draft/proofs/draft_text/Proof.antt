@@ -10,11 +10,6 @@ use Rattle.register_draft.specs.Tables.{Holding, Roomy, Accepted}
 use Rattle.register_draft.proofs.Loop.{row-added, holding-none, draft-done}
 use Rattle.register_draft.proofs.draft_text.Statement.{statement}
 use Rattle.register_draft.proofs.draft_text.Tie as tie
-use Rattle.register_draft.proofs.draft_text.Reads as reads
-use Rattle.register_draft.proofs.draft_text.Lts as lts
-use Rattle.entries.proofs.table.item_at.Reads as item-at-reads
-use Rattle.register_draft.proofs.draft_entry.Reads as draft-entry-reads
-use Rattle.sorting.proofs.put.Reads as put-reads
 
 abbrev Inv-loop : tie.InvT-loop
 Inv-loop s t n props np heap₀ starts₀ lens₀ kinds₀ names₀ identifiers₀ firsts₀ groups₀ codes₀ c₀ i₀ heap starts lens kinds names identifiers firsts groups codes c i =

@@ -2,10 +2,6 @@ use Rattle.register_form.proofs.Ways.{reading}
 use borrow.Author.Needs.{needs}
 use Rattle.register_form.proofs.eight_at.Statement.{statement}
 use Rattle.register_form.proofs.eight_at.Tie as tie
-use Rattle.register_form.proofs.eight_at.Reads as reads
-use Rattle.register_form.proofs.eight_at.Lts as lts
-use Rattle.register_form.proofs.long.Reads as long-reads
-use Rattle.register_form.proofs.two_at.Reads as two-at-reads
 
 returns : tie.Need-returns
 returns c = search (reading, needs)

@@ -2,10 +2,6 @@ use Rattle.register_form.proofs.Ways.{reading}
 use borrow.Author.Needs.{needs}
 use Rattle.register_form.proofs.group_at.Statement.{statement}
 use Rattle.register_form.proofs.group_at.Tie as tie
-use Rattle.register_form.proofs.group_at.Reads as reads
-use Rattle.register_form.proofs.group_at.Lts as lts
-use Rattle.register_form.proofs.widen.Reads as widen-reads
-use Rattle.text.proofs.byte_at.Reads as byte-at-reads
 
 widen-requires : tie.Need-widen-requires
 widen-requires c κs = search needs

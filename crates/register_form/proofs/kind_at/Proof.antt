@@ -2,10 +2,6 @@ use Rattle.register_form.proofs.Ways.{reading}
 use borrow.Author.Needs.{needs}
 use Rattle.register_form.proofs.kind_at.Statement.{statement}
 use Rattle.register_form.proofs.kind_at.Tie as tie
-use Rattle.register_form.proofs.kind_at.Reads as reads
-use Rattle.register_form.proofs.kind_at.Lts as lts
-use Rattle.register_form.proofs.kind_byte.Reads as kind-byte-reads
-use Rattle.register_form.proofs.kind_from.Reads as kind-from-reads
 
 kind-byte-requires : tie.Need-kind-byte-requires
 kind-byte-requires c κs = search needs

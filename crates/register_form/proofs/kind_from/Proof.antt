@@ -2,8 +2,6 @@ use Rattle.register_form.proofs.Ways.{reading}
 use borrow.Author.Needs.{needs}
 use Rattle.register_form.proofs.kind_from.Statement.{statement}
 use Rattle.register_form.proofs.kind_from.Tie as tie
-use Rattle.register_form.proofs.kind_from.Reads as reads
-use Rattle.register_form.proofs.kind_from.Lts as lts
 
 returns : tie.Need-returns
 returns c = search (reading, needs)

@@ -2,10 +2,6 @@ use Rattle.register_form.proofs.Ways.{reading}
 use borrow.Author.Needs.{needs}
 use Rattle.register_form.proofs.name_at.Statement.{statement}
 use Rattle.register_form.proofs.name_at.Tie as tie
-use Rattle.register_form.proofs.name_at.Reads as reads
-use Rattle.register_form.proofs.name_at.Lts as lts
-use Rattle.register_form.proofs.name_of.Reads as name-of-reads
-use Rattle.register_form.proofs.text_at.Reads as text-at-reads
 
 text-at-requires : tie.Need-text-at-requires
 text-at-requires c κs = search needs

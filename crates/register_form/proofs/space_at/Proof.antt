@@ -2,10 +2,6 @@ use Rattle.register_form.proofs.Ways.{reading}
 use borrow.Author.Needs.{needs}
 use Rattle.register_form.proofs.space_at.Statement.{statement}
 use Rattle.register_form.proofs.space_at.Tie as tie
-use Rattle.register_form.proofs.space_at.Reads as reads
-use Rattle.register_form.proofs.space_at.Lts as lts
-use Rattle.register_form.proofs.space_of.Reads as space-of-reads
-use Rattle.register_form.proofs.text_at.Reads as text-at-reads
 
 text-at-requires : tie.Need-text-at-requires
 text-at-requires c κs = search needs

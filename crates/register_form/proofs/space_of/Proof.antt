@@ -2,12 +2,6 @@ use Rattle.register_form.proofs.Ways.{reading}
 use borrow.Author.Needs.{needs}
 use Rattle.register_form.proofs.space_of.Statement.{statement}
 use Rattle.register_form.proofs.space_of.Tie as tie
-use Rattle.register_form.proofs.space_of.Reads as reads
-use Rattle.register_form.proofs.space_of.Lts as lts
-use Rattle.register_form.proofs.wide.Reads as wide-reads
-use Rattle.register_form.proofs.widen.Reads as widen-reads
-use Rattle.text.proofs.byte_at.Reads as byte-at-reads
-use Rattle.text.proofs.part.Reads as part-reads
 
 byte-at-requires : tie.Need-byte-at-requires
 byte-at-requires c κs = search needs

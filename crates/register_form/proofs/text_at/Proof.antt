@@ -2,13 +2,6 @@ use Rattle.register_form.proofs.Ways.{reading}
 use borrow.Author.Needs.{needs}
 use Rattle.register_form.proofs.text_at.Statement.{statement}
 use Rattle.register_form.proofs.text_at.Tie as tie
-use Rattle.register_form.proofs.text_at.Reads as reads
-use Rattle.register_form.proofs.text_at.Lts as lts
-use Rattle.register_form.proofs.minus.Reads as minus-reads
-use Rattle.register_form.proofs.text_end.Reads as text-end-reads
-use Rattle.register_form.proofs.text_start.Reads as text-start-reads
-use Rattle.register_form.proofs.widen.Reads as widen-reads
-use Rattle.text.proofs.part.Reads as part-reads
 
 text-start-requires : tie.Need-text-start-requires
 text-start-requires c κs = search needs

@@ -2,10 +2,6 @@ use Rattle.register_form.proofs.Ways.{reading}
 use borrow.Author.Needs.{needs}
 use Rattle.register_form.proofs.text_end.Statement.{statement}
 use Rattle.register_form.proofs.text_end.Tie as tie
-use Rattle.register_form.proofs.text_end.Reads as reads
-use Rattle.register_form.proofs.text_end.Lts as lts
-use Rattle.register_form.proofs.two_at.Reads as two-at-reads
-use Rattle.register_form.proofs.widen.Reads as widen-reads
 
 widen-requires : tie.Need-widen-requires
 widen-requires c κs = search needs

@@ -2,10 +2,6 @@ use Rattle.register_form.proofs.Ways.{reading}
 use borrow.Author.Needs.{needs}
 use Rattle.register_form.proofs.two_at.Statement.{statement}
 use Rattle.register_form.proofs.two_at.Tie as tie
-use Rattle.register_form.proofs.two_at.Reads as reads
-use Rattle.register_form.proofs.two_at.Lts as lts
-use Rattle.register_form.proofs.wide.Reads as wide-reads
-use Rattle.text.proofs.byte_at.Reads as byte-at-reads
 
 returns : tie.Need-returns
 returns c = search (reading, needs)

@@ -2,13 +2,6 @@ use Rattle.register_join.proofs.Clashing.{clashing}
 use borrow.Author.Needs.{needs}
 use Rattle.register_join.proofs.clashes.Statement.{statement}
 use Rattle.register_join.proofs.clashes.Tie as tie
-use Rattle.register_join.proofs.clashes.Reads as reads
-use Rattle.register_join.proofs.clashes.Lts as lts
-use Rattle.register_form.proofs.kind_byte.Reads as kind-byte-reads
-use Rattle.register_form.proofs.name_number.Reads as name-number-reads
-use Rattle.sorting.proofs.get.Reads as get-reads
-use Rattle.sorting.proofs.num_at.Reads as num-at-reads
-use Rattle.sorting.proofs.widen.Reads as widen-reads
 
 name-number-requires : tie.Need-name-number-requires
 name-number-requires c κs = search needs

@@ -2,12 +2,6 @@ use Rattle.register_join.proofs.Ways.{drafting}
 use borrow.Author.Needs.{needs}
 use Rattle.register_join.proofs.enter.Statement.{statement}
 use Rattle.register_join.proofs.enter.Tie as tie
-use Rattle.register_join.proofs.enter.Reads as reads
-use Rattle.register_join.proofs.enter.Lts as lts
-use Rattle.register_join.proofs.after.Reads as after-reads
-use Rattle.sorting.proofs.get.Reads as get-reads
-use Rattle.sorting.proofs.put.Reads as put-reads
-use Rattle.sorting.proofs.widen.Reads as widen-reads
 
 widen-requires : tie.Need-widen-requires
 widen-requires c κs = search needs
@@ -21,8 +15,8 @@ same-length c = search needs
 returns : tie.Need-returns
 returns c = search (drafting, needs)
 
-after-requires : tie.Need-after-requires
-after-requires c κs = search needs
+next-requires : tie.Need-next-requires
+next-requires c κs = search needs
 
 put-requires : tie.Need-put-requires
 put-requires c κs = search needs
@@ -50,7 +44,7 @@ enter-spec =
     get-requires
     same-length
     returns
-    after-requires
+    next-requires
     put-requires
     widen-requires-2
     put-requires-2

@@ -2,10 +2,6 @@ use Rattle.register_join.proofs.Clashing.{clash-put}
 use borrow.Author.Needs.{needs}
 use Rattle.register_join.proofs.kinds_clash.Statement.{statement}
 use Rattle.register_join.proofs.kinds_clash.Tie as tie
-use Rattle.register_join.proofs.kinds_clash.Reads as reads
-use Rattle.register_join.proofs.kinds_clash.Lts as lts
-use Rattle.register_join.proofs.put_properties.Reads as put-properties-reads
-use Rattle.register_join.proofs.some_clash.Reads as some-clash-reads
 
 slice-aggregate-put-properties : tie.Need-slice-aggregate-put-properties
 slice-aggregate-put-properties c = search needs

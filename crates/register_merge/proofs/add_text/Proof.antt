@@ -2,16 +2,12 @@ use Rattle.register_merge.proofs.Ways.{merging}
 use borrow.Author.Needs.{needs}
 use Rattle.register_merge.proofs.add_text.Statement.{statement}
 use Rattle.register_merge.proofs.add_text.Tie as tie
-use Rattle.register_merge.proofs.add_text.Reads as reads
-use Rattle.register_merge.proofs.add_text.Lts as lts
-use Rattle.register_merge.proofs.narrow.Reads as narrow-reads
-use Rattle.register_merge.proofs.put_start.Reads as put-start-reads
-use Rattle.register_merge.proofs.put_text.Reads as put-text-reads
-use Rattle.sorting.proofs.put.Reads as put-reads
-use Rattle.sorting.proofs.widen.Reads as widen-reads
 
 widen-requires : tie.Need-widen-requires
 widen-requires c κs = search needs
+
+narrow-start-requires : tie.Need-narrow-start-requires
+narrow-start-requires c κs = search needs
 
 put-start-requires : tie.Need-put-start-requires
 put-start-requires c κs = search needs
@@ -45,6 +41,7 @@ add-text-spec =
     tie.close
     (tie.spec
     widen-requires
+    narrow-start-requires
     put-start-requires
     widen-requires-2
     narrow-requires

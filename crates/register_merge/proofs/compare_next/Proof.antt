@@ -2,11 +2,6 @@ use Rattle.register_merge.proofs.Ways.{merging}
 use borrow.Author.Needs.{needs}
 use Rattle.register_merge.proofs.compare_next.Statement.{statement}
 use Rattle.register_merge.proofs.compare_next.Tie as tie
-use Rattle.register_merge.proofs.compare_next.Reads as reads
-use Rattle.register_merge.proofs.compare_next.Lts as lts
-use Rattle.register_form.proofs.text_at.Reads as text-at-reads
-use Rattle.register_form.proofs.text_count.Reads as text-count-reads
-use Rattle.text.proofs.compare.Reads as compare-reads
 
 text-count-requires : tie.Need-text-count-requires
 text-count-requires c κs = search needs

@@ -1,7 +1,7 @@
 use Prim.Native.Nat.{_+_, _-_}
 use native.Mathlib.Omega.{arith}
 use borrow.Author.Needs.{needs}
-use Rattle.register_form.specs.Numbers.{twoAt}
+use Rattle.register_form.specs.Form.{textCount}
 use Rattle.register_merge.proofs.Orders.{left-over, none-left}
 use Rattle.register_merge.proofs.Run.{Run, run-none, run-less, run-next, run-all}
 use Rattle.register_merge.proofs.merge.Statement.{statement}
@@ -13,7 +13,7 @@ Inv-loop h g heap₀ starts₀ lens₀ items1₀ items2₀ n m i₀ j₀ k₀ en
 
 abbrev μ-loop : tie.MeasureT-loop
 μ-loop h g heap₀ starts₀ lens₀ items1₀ items2₀ n m i₀ j₀ k₀ end₀ heap starts lens items1 items2 i j k end =
-    (twoAt h 6 - i) + (twoAt g 6 - j)
+    (textCount h - i) + (textCount g - j)
 
 text-count-requires : tie.Need-text-count-requires Inv-loop μ-loop
 text-count-requires c κs = search needs
@@ -45,14 +45,14 @@ takes-second-requires c κs = search needs
 note-requires-2 : tie.Need-note-requires-2 Inv-loop μ-loop
 note-requires-2 c κs = search needs
 
-after-requires : tie.Need-after-requires Inv-loop μ-loop
-after-requires c κs = search needs
+next-requires : tie.Need-next-requires Inv-loop μ-loop
+next-requires c κs = search needs
 
 loop-less : tie.Need-loop-less Inv-loop μ-loop
-loop-less c = run-less _ _ _ _ _ _ _ _ _ _ _ _ _ _ _ _ (c .before .before .before .before .before .before .before .before .before .before .before .before .before .before .before .before .before .before .before .before .before .before .before .before .loop .inv) _ _ _ _ _ _ _ _ _ _ _ _ _ (omega (arith, (c .before .before .before .before .before .before .before .before .before .before .before .before .before .before .before .before .before .before .before .before .before .before .before .before .before .before .text-count .ensures))) (omega (arith, (c .before .before .before .before .before .before .before .before .before .before .before .before .before .before .before .before .before .before .before .before .before .before .before .before .before .text-count2 .ensures))) (left-over _ _ _ _ _ _ (c .before .before .before .before .before .before .before .before .before .before .before .before .before .before .before .before .before .before .before .before .before .before .before .before .before .before .text-count .ensures) (c .before .before .before .before .before .before .before .before .before .before .before .before .before .before .before .before .before .before .before .before .before .before .before .before .before .text-count2 .ensures) (c .before .before .before .before .before .before .before .before .before .before .before .before .before .before .before .before .before .before .before .before .before .before .before .loop-test .taken)) (c .before .before .before .before .before .before .before .before .before .before .before .before .before .before .before .before .before .before .before .before .before .before .compare-next .ensures) (c .before .before .before .before .before .before .before .before .before .before .before .before .before .before .before .before .before .before .next-text .ensures) (c .before .before .before .before .before .before .before .before .before .before .before .before .before .before .before .before .before .add-text .ensures) (c .before .before .before .before .before .before .before .before .before .takes-first .ensures) (c .before .before .before .before .before .before .before .before .note .ensures) (c .before .before .before .before .takes-second .ensures) (c .before .before .before .note2 .ensures) (c .after .ensures)
+loop-less c = run-less _ _ _ _ _ _ _ _ _ _ _ _ _ _ _ _ (c .before .before .before .before .before .before .before .before .before .before .before .before .before .before .before .before .before .before .before .before .before .before .before .before .loop .inv) _ _ _ _ _ _ _ _ _ _ _ _ _ (omega (arith, (c .before .before .before .before .before .before .before .before .before .before .before .before .before .before .before .before .before .before .before .before .before .before .before .before .before .before .text-count .ensures))) (omega (arith, (c .before .before .before .before .before .before .before .before .before .before .before .before .before .before .before .before .before .before .before .before .before .before .before .before .before .text-count2 .ensures))) (left-over _ _ _ _ _ _ (c .before .before .before .before .before .before .before .before .before .before .before .before .before .before .before .before .before .before .before .before .before .before .before .before .before .before .text-count .ensures) (c .before .before .before .before .before .before .before .before .before .before .before .before .before .before .before .before .before .before .before .before .before .before .before .before .before .text-count2 .ensures) (c .before .before .before .before .before .before .before .before .before .before .before .before .before .before .before .before .before .before .before .before .before .before .before .loop-test .taken)) (c .before .before .before .before .before .before .before .before .before .before .before .before .before .before .before .before .before .before .before .before .before .before .compare-next .ensures) (c .before .before .before .before .before .before .before .before .before .before .before .before .before .before .before .before .before .before .next-text .ensures) (c .before .before .before .before .before .before .before .before .before .before .before .before .before .before .before .before .before .add-text .ensures) (c .before .before .before .before .before .before .before .before .before .takes-first .ensures) (c .before .before .before .before .before .before .before .before .note .ensures) (c .before .before .before .before .takes-second .ensures) (c .before .before .before .note2 .ensures) (c .next .ensures)
 
 loop-again : tie.Need-loop-again Inv-loop μ-loop
-loop-again c = run-next _ _ _ _ _ _ _ _ _ _ _ _ _ _ _ _ (c .before .before .before .before .before .before .before .before .before .before .before .before .before .before .before .before .before .before .before .before .before .before .before .before .loop .inv) _ _ _ _ _ _ _ _ _ _ _ _ _ (omega (arith, (c .before .before .before .before .before .before .before .before .before .before .before .before .before .before .before .before .before .before .before .before .before .before .before .before .before .before .text-count .ensures))) (omega (arith, (c .before .before .before .before .before .before .before .before .before .before .before .before .before .before .before .before .before .before .before .before .before .before .before .before .before .text-count2 .ensures))) (left-over _ _ _ _ _ _ (c .before .before .before .before .before .before .before .before .before .before .before .before .before .before .before .before .before .before .before .before .before .before .before .before .before .before .text-count .ensures) (c .before .before .before .before .before .before .before .before .before .before .before .before .before .before .before .before .before .before .before .before .before .before .before .before .before .text-count2 .ensures) (c .before .before .before .before .before .before .before .before .before .before .before .before .before .before .before .before .before .before .before .before .before .before .before .loop-test .taken)) (c .before .before .before .before .before .before .before .before .before .before .before .before .before .before .before .before .before .before .before .before .before .before .compare-next .ensures) (c .before .before .before .before .before .before .before .before .before .before .before .before .before .before .before .before .before .before .next-text .ensures) (c .before .before .before .before .before .before .before .before .before .before .before .before .before .before .before .before .before .add-text .ensures) (c .before .before .before .before .before .before .before .before .before .takes-first .ensures) (c .before .before .before .before .before .before .before .before .note .ensures) (c .before .before .before .before .takes-second .ensures) (c .before .before .before .note2 .ensures) (c .after .ensures)
+loop-again c = run-next _ _ _ _ _ _ _ _ _ _ _ _ _ _ _ _ (c .before .before .before .before .before .before .before .before .before .before .before .before .before .before .before .before .before .before .before .before .before .before .before .before .loop .inv) _ _ _ _ _ _ _ _ _ _ _ _ _ (omega (arith, (c .before .before .before .before .before .before .before .before .before .before .before .before .before .before .before .before .before .before .before .before .before .before .before .before .before .before .text-count .ensures))) (omega (arith, (c .before .before .before .before .before .before .before .before .before .before .before .before .before .before .before .before .before .before .before .before .before .before .before .before .before .text-count2 .ensures))) (left-over _ _ _ _ _ _ (c .before .before .before .before .before .before .before .before .before .before .before .before .before .before .before .before .before .before .before .before .before .before .before .before .before .before .text-count .ensures) (c .before .before .before .before .before .before .before .before .before .before .before .before .before .before .before .before .before .before .before .before .before .before .before .before .before .text-count2 .ensures) (c .before .before .before .before .before .before .before .before .before .before .before .before .before .before .before .before .before .before .before .before .before .before .before .loop-test .taken)) (c .before .before .before .before .before .before .before .before .before .before .before .before .before .before .before .before .before .before .before .before .before .before .compare-next .ensures) (c .before .before .before .before .before .before .before .before .before .before .before .before .before .before .before .before .before .before .next-text .ensures) (c .before .before .before .before .before .before .before .before .before .before .before .before .before .before .before .before .before .add-text .ensures) (c .before .before .before .before .before .before .before .before .before .takes-first .ensures) (c .before .before .before .before .before .before .before .before .note .ensures) (c .before .before .before .before .takes-second .ensures) (c .before .before .before .note2 .ensures) (c .next .ensures)
 
 same-length : tie.Need-same-length Inv-loop μ-loop
 same-length c = c .before .loop .inv .heap-size
@@ -88,7 +88,7 @@ merge-spec =
     note-requires
     takes-second-requires
     note-requires-2
-    after-requires
+    next-requires
     loop-less
     loop-again
     same-length

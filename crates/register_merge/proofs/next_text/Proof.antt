@@ -2,9 +2,6 @@ use Rattle.register_merge.proofs.Ways.{merging}
 use borrow.Author.Needs.{needs}
 use Rattle.register_merge.proofs.next_text.Statement.{statement}
 use Rattle.register_merge.proofs.next_text.Tie as tie
-use Rattle.register_merge.proofs.next_text.Reads as reads
-use Rattle.register_merge.proofs.next_text.Lts as lts
-use Rattle.register_form.proofs.text_at.Reads as text-at-reads
 
 enum-told : tie.Need-enum-told
 enum-told c = search needs

@@ -4,12 +4,6 @@ use Prim.Native.Nat.{_-_}
 use borrow.Author.Needs.{needs}
 use Rattle.rows.proofs.collect.Statement.{statement}
 use Rattle.rows.proofs.collect.Tie as tie
-use Rattle.rows.proofs.collect.Reads as reads
-use Rattle.rows.proofs.collect.Lts as lts
-use Rattle.entries.proofs.table.item_at.Reads as item-at-reads
-use Rattle.entries.proofs.table.put.Reads as put-reads
-use Rattle.rows.proofs.checks.bit_of.Reads as bit-of-reads
-use Rattle.rows.proofs.checks.is_declared.Reads as is-declared-reads
 
 abbrev Inv-loop : tie.InvT-loop
 Inv-loop t n what out₀ m₀ i₀ out m i = Collecting what t n out₀ out m i

@@ -2,11 +2,6 @@ use Rattle.rows.proofs.Judging.{judge-long, judge-broken, judge-read}
 use borrow.Author.Needs.{needs}
 use Rattle.rows.proofs.judge.Statement.{statement}
 use Rattle.rows.proofs.judge.Tie as tie
-use Rattle.rows.proofs.judge.Reads as reads
-use Rattle.rows.proofs.judge.Lts as lts
-use Rattle.entries.proofs.read_all.Reads as read-all-reads
-use Rattle.rows.proofs.collect.Reads as collect-reads
-use Rattle.rows.proofs.judge_rows.Reads as judge-rows-reads
 
 returns : tie.Need-returns
 returns c room = search judge-long

@@ -2,12 +2,6 @@ use Rattle.rows.proofs.Judging.{verdict-is}
 use borrow.Author.Needs.{needs}
 use Rattle.rows.proofs.judge_rows.Statement.{statement}
 use Rattle.rows.proofs.judge_rows.Tie as tie
-use Rattle.rows.proofs.judge_rows.Reads as reads
-use Rattle.rows.proofs.judge_rows.Lts as lts
-use Rattle.rows.proofs.lowest_of.Reads as lowest-of-reads
-use Rattle.rows.proofs.tests.count_inner.Reads as count-inner-reads
-use Rattle.rows.proofs.tests.some_row.Reads as some-row-reads
-use Rattle.rows.proofs.tests.twice.Reads as twice-reads
 
 some-row-requires : tie.Need-some-row-requires
 some-row-requires c κs = search needs

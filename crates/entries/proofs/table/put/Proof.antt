@@ -1,26 +1,19 @@
-use mathlib.Core.Path.{sym}
-use lib.Seq.{set-out}
+use mathlib.Core.Path.{_∙_}
 use borrow.Author.Needs.{needs}
 use Rattle.entries.proofs.table.put.Statement.{statement}
 use Rattle.entries.proofs.table.put.Tie as tie
 
-cast-t : tie.Need-cast-t
-cast-t c = search needs
+narrow-requires : tie.Need-narrow-requires
+narrow-requires c κs = search needs
 
-mul-t : tie.Need-mul-t
-mul-t c = search needs
-
-slice-write-t : tie.Need-slice-write-t
-slice-write-t c = search needs
+put-requires : tie.Need-put-requires
+put-requires c κs = search needs
 
 same-length : tie.Need-same-length
 same-length c = search needs
 
 returns : tie.Need-returns
-returns c = search needs
-
-returns-2 : tie.Need-returns-2
-returns-2 c = sym (set-out _ _ _ (c .if1 .left))
+returns c = c .before .before .put .ensures ∙ rw (c .before .before .before .narrow .ensures)
 
 pub put-spec : {M : Type 1} → statement M
-put-spec = tie.close (tie.spec cast-t mul-t slice-write-t same-length returns returns-2)
+put-spec = tie.close (tie.spec narrow-requires put-requires same-length returns)

@@ -3,11 +3,6 @@ use Rattle.register_draft.proofs.Held.{page-added}
 use borrow.Author.Needs.{needs}
 use Rattle.register_draft.proofs.adding.draft_page.Statement.{statement}
 use Rattle.register_draft.proofs.adding.draft_page.Tie as tie
-use Rattle.register_draft.proofs.adding.draft_page.Reads as reads
-use Rattle.register_draft.proofs.adding.draft_page.Lts as lts
-use Rattle.register_draft.proofs.adding.push_page.Reads as push-page-reads
-use Rattle.register_draft.proofs.tables.next.Reads as next-reads
-use Rattle.register_draft.proofs.tables.push_text.Reads as push-text-reads
 
 push-text-requires : tie.Need-push-text-requires
 push-text-requires c κs = search needs

@@ -8,12 +8,6 @@ use Rattle.register_draft.proofs.Held.{property-added}
 use borrow.Author.Needs.{needs}
 use Rattle.register_draft.proofs.adding.draft_prop.Statement.{statement}
 use Rattle.register_draft.proofs.adding.draft_prop.Tie as tie
-use Rattle.register_draft.proofs.adding.draft_prop.Reads as reads
-use Rattle.register_draft.proofs.adding.draft_prop.Lts as lts
-use Rattle.register_draft.proofs.adding.push_property.Reads as push-property-reads
-use Rattle.register_draft.proofs.tables.next.Reads as next-reads
-use Rattle.register_draft.proofs.tables.push_text.Reads as push-text-reads
-use Rattle.text.proofs.part.Reads as part-reads
 
 part-requires : tie.Need-part-requires
 part-requires c κs = search needs

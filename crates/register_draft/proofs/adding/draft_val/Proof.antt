@@ -2,12 +2,6 @@ use Rattle.register_draft.proofs.Held.{val-lost, val-added}
 use borrow.Author.Needs.{needs}
 use Rattle.register_draft.proofs.adding.draft_val.Statement.{statement}
 use Rattle.register_draft.proofs.adding.draft_val.Tie as tie
-use Rattle.register_draft.proofs.adding.draft_val.Reads as reads
-use Rattle.register_draft.proofs.adding.draft_val.Lts as lts
-use Rattle.register_draft.proofs.adding.draft_value.Reads as draft-value-reads
-use Rattle.register_draft.proofs.lookup.property_place.Reads as property-place-reads
-use Rattle.register_draft.proofs.tables.byte.Reads as byte-reads
-use Rattle.sorting.proofs.widen.Reads as widen-reads
 
 property-place-requires : tie.Need-property-place-requires
 property-place-requires c κs = search needs

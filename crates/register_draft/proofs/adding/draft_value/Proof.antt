@@ -3,12 +3,6 @@ use Rattle.register_draft.proofs.Held.{value-added}
 use borrow.Author.Needs.{needs}
 use Rattle.register_draft.proofs.adding.draft_value.Statement.{statement}
 use Rattle.register_draft.proofs.adding.draft_value.Tie as tie
-use Rattle.register_draft.proofs.adding.draft_value.Reads as reads
-use Rattle.register_draft.proofs.adding.draft_value.Lts as lts
-use Rattle.register_draft.proofs.adding.push_form.Reads as push-form-reads
-use Rattle.register_draft.proofs.tables.next.Reads as next-reads
-use Rattle.register_draft.proofs.tables.push_value.Reads as push-value-reads
-use Rattle.register_draft.proofs.tables.value_code.Reads as value-code-reads
 
 value-code-requires : tie.Need-value-code-requires
 value-code-requires c κs = search needs

@@ -2,13 +2,6 @@ use Rattle.register_draft.proofs.Rows.{form-pushed}
 use borrow.Author.Needs.{needs}
 use Rattle.register_draft.proofs.adding.push_form.Statement.{statement}
 use Rattle.register_draft.proofs.adding.push_form.Tie as tie
-use Rattle.register_draft.proofs.adding.push_form.Reads as reads
-use Rattle.register_draft.proofs.adding.push_form.Lts as lts
-use Rattle.register_draft.proofs.tables.next.Reads as next-reads
-use Rattle.register_draft.proofs.tables.put_byte.Reads as put-byte-reads
-use Rattle.register_draft.proofs.tables.put_code.Reads as put-code-reads
-use Rattle.sorting.proofs.put.Reads as put-reads
-use Rattle.sorting.proofs.widen.Reads as widen-reads
 
 widen-requires : tie.Need-widen-requires
 widen-requires c κs = search needs

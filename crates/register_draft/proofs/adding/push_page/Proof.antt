@@ -2,10 +2,6 @@ use Rattle.register_draft.proofs.Rows.{page-pushed}
 use borrow.Author.Needs.{needs}
 use Rattle.register_draft.proofs.adding.push_page.Statement.{statement}
 use Rattle.register_draft.proofs.adding.push_page.Tie as tie
-use Rattle.register_draft.proofs.adding.push_page.Reads as reads
-use Rattle.register_draft.proofs.adding.push_page.Lts as lts
-use Rattle.sorting.proofs.put.Reads as put-reads
-use Rattle.sorting.proofs.widen.Reads as widen-reads
 
 widen-requires : tie.Need-widen-requires
 widen-requires c κs = search needs

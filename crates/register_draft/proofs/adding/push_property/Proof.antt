@@ -2,12 +2,6 @@ use Rattle.register_draft.proofs.Rows.{property-pushed}
 use borrow.Author.Needs.{needs}
 use Rattle.register_draft.proofs.adding.push_property.Statement.{statement}
 use Rattle.register_draft.proofs.adding.push_property.Tie as tie
-use Rattle.register_draft.proofs.adding.push_property.Reads as reads
-use Rattle.register_draft.proofs.adding.push_property.Lts as lts
-use Rattle.register_draft.proofs.adding.kind_code.Reads as kind-code-reads
-use Rattle.register_draft.proofs.tables.put_byte.Reads as put-byte-reads
-use Rattle.sorting.proofs.put.Reads as put-reads
-use Rattle.sorting.proofs.widen.Reads as widen-reads
 
 widen-requires : tie.Need-widen-requires
 widen-requires c κs = search needs

@@ -8,14 +8,6 @@ use Rattle.register_draft.specs.Lookup.{foundFrom, foundIn}
 use Rattle.register_draft.proofs.Looking.{found-start, found-past, found-none, found-here, found-later}
 use Rattle.register_draft.proofs.lookup.property_place.Statement.{statement}
 use Rattle.register_draft.proofs.lookup.property_place.Tie as tie
-use Rattle.register_draft.proofs.lookup.property_place.Reads as reads
-use Rattle.register_draft.proofs.lookup.property_place.Lts as lts
-use Rattle.entries.proofs.table.item_at.Reads as item-at-reads
-use Rattle.entries.proofs.table.num_at.Reads as num-at-reads
-use Rattle.register_draft.proofs.tables.narrow.Reads as narrow-reads
-use Rattle.rows.proofs.checks.is_declared.Reads as is-declared-reads
-use Rattle.text.proofs.part.Reads as part-reads
-use Rattle.text.proofs.same_bytes.Reads as same-bytes-reads
 
 abbrev Inv-loop : tie.InvT-loop
 Inv-loop s t rows m x k₀ k = foundIn s t rows m x ≡ foundFrom (λ i. declaredKind x (entryAt s t i)) k (drop k (take m rows))

@@ -7,9 +7,6 @@ use Rattle.values.specs.Spelling.{digits}
 use Rattle.register_form.proofs.Digits.{four-off, counted, few}
 use Rattle.register_form.proofs.spelled.digit_count.Statement.{statement}
 use Rattle.register_form.proofs.spelled.digit_count.Tie as tie
-use Rattle.register_form.proofs.spelled.digit_count.Reads as reads
-use Rattle.register_form.proofs.spelled.digit_count.Lts as lts
-use Rattle.register_form.proofs.spelled.few_digits.Reads as few-digits-reads
 
 abbrev Inv-loop : tie.InvT-loop
 Inv-loop n rest₀ k₀ rest k = (k + length (digits rest) ≡ length (digits n)) × (length (digits n) ≤ 20)

@@ -2,8 +2,6 @@ use borrow.Author.Needs.{needs}
 use Rattle.register_form.proofs.Digits.{lengths}
 use Rattle.register_form.proofs.spelled.few_digits.Statement.{statement}
 use Rattle.register_form.proofs.spelled.few_digits.Tie as tie
-use Rattle.register_form.proofs.spelled.few_digits.Reads as reads
-use Rattle.register_form.proofs.spelled.few_digits.Lts as lts
 
 returns : tie.Need-returns
 returns c = search (lengths, needs)

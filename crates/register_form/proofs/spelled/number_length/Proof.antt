@@ -4,9 +4,6 @@ use borrow.Author.Needs.{needs}
 use Rattle.register_form.proofs.Digits.{lengths, few}
 use Rattle.register_form.proofs.spelled.number_length.Statement.{statement}
 use Rattle.register_form.proofs.spelled.number_length.Tie as tie
-use Rattle.register_form.proofs.spelled.number_length.Reads as reads
-use Rattle.register_form.proofs.spelled.number_length.Lts as lts
-use Rattle.register_form.proofs.spelled.digit_count.Reads as digit-count-reads
 
 sub-digit-count : tie.Need-sub-digit-count
 sub-digit-count c = search needs

@@ -2,11 +2,6 @@ use Rattle.register_join.proofs.Ways.{drafting}
 use borrow.Author.Needs.{needs}
 use Rattle.register_join.proofs.forms.new_code.Statement.{statement}
 use Rattle.register_join.proofs.forms.new_code.Tie as tie
-use Rattle.register_join.proofs.forms.new_code.Reads as reads
-use Rattle.register_join.proofs.forms.new_code.Lts as lts
-use Rattle.register_form.proofs.kind_at.Reads as kind-at-reads
-use Rattle.register_join.proofs.forms.item_at.Reads as item-at-reads
-use Rattle.register_join.proofs.forms.property_of.Reads as property-of-reads
 
 item-at-requires : tie.Need-item-at-requires
 item-at-requires c κs = search needs

@@ -2,14 +2,6 @@ use Rattle.register_join.proofs.Ways.{drafting}
 use borrow.Author.Needs.{needs}
 use Rattle.register_join.proofs.forms.new_group.Statement.{statement}
 use Rattle.register_join.proofs.forms.new_group.Tie as tie
-use Rattle.register_join.proofs.forms.new_group.Reads as reads
-use Rattle.register_join.proofs.forms.new_group.Lts as lts
-use Rattle.register_form.proofs.name_number.Reads as name-number-reads
-use Rattle.register_join.proofs.forms.low_byte.Reads as low-byte-reads
-use Rattle.register_join.proofs.forms.property_of.Reads as property-of-reads
-use Rattle.sorting.proofs.get.Reads as get-reads
-use Rattle.sorting.proofs.num_at.Reads as num-at-reads
-use Rattle.sorting.proofs.widen.Reads as widen-reads
 
 returns : tie.Need-returns
 returns c = search (drafting, needs)

@@ -2,12 +2,6 @@ use Rattle.register_join.proofs.Ways.{drafting}
 use borrow.Author.Needs.{needs}
 use Rattle.register_join.proofs.forms.put_page.Statement.{statement}
 use Rattle.register_join.proofs.forms.put_page.Tie as tie
-use Rattle.register_join.proofs.forms.put_page.Reads as reads
-use Rattle.register_join.proofs.forms.put_page.Lts as lts
-use Rattle.register_form.proofs.form_end.Reads as form-end-reads
-use Rattle.register_form.proofs.form_start.Reads as form-start-reads
-use Rattle.register_form.proofs.page_count.Reads as page-count-reads
-use Rattle.register_join.proofs.forms.put_forms.Reads as put-forms-reads
 
 returns : tie.Need-returns
 returns c = search (drafting, needs)

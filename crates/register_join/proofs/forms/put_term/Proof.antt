@@ -2,16 +2,6 @@ use Rattle.register_join.proofs.Ways.{drafting}
 use borrow.Author.Needs.{needs}
 use Rattle.register_join.proofs.forms.put_term.Statement.{statement}
 use Rattle.register_join.proofs.forms.put_term.Tie as tie
-use Rattle.register_join.proofs.forms.put_term.Reads as reads
-use Rattle.register_join.proofs.forms.put_term.Lts as lts
-use Rattle.register_form.proofs.code_at.Reads as code-at-reads
-use Rattle.register_form.proofs.group_at.Reads as group-at-reads
-use Rattle.register_join.proofs.after.Reads as after-reads
-use Rattle.register_join.proofs.forms.new_code.Reads as new-code-reads
-use Rattle.register_join.proofs.forms.new_group.Reads as new-group-reads
-use Rattle.register_join.proofs.put_byte.Reads as put-byte-reads
-use Rattle.register_join.proofs.forms.put_code.Reads as put-code-reads
-use Rattle.sorting.proofs.widen.Reads as widen-reads
 
 group-at-requires : tie.Need-group-at-requires
 group-at-requires c κs = search needs
@@ -37,8 +27,8 @@ new-code-requires c κs = search needs
 put-code-requires : tie.Need-put-code-requires
 put-code-requires c κs = search needs
 
-after-requires : tie.Need-after-requires
-after-requires c κs = search needs
+next-requires : tie.Need-next-requires
+next-requires c κs = search needs
 
 same-length : tie.Need-same-length
 same-length c = search needs
@@ -61,7 +51,7 @@ put-term-spec =
     code-at-requires
     new-code-requires
     put-code-requires
-    after-requires
+    next-requires
     same-length
     same-length-2
     returns)

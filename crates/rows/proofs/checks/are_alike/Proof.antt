@@ -2,11 +2,6 @@ use Rattle.rows.proofs.Ways.{alike}
 use borrow.Author.Needs.{needs}
 use Rattle.rows.proofs.checks.are_alike.Statement.{statement}
 use Rattle.rows.proofs.checks.are_alike.Tie as tie
-use Rattle.rows.proofs.checks.are_alike.Reads as reads
-use Rattle.rows.proofs.checks.are_alike.Lts as lts
-use Rattle.rows.proofs.checks.is_declared.Reads as is-declared-reads
-use Rattle.text.proofs.part.Reads as part-reads
-use Rattle.text.proofs.same_bytes.Reads as same-bytes-reads
 
 is-declared-requires : tie.Need-is-declared-requires
 is-declared-requires c κs = search needs

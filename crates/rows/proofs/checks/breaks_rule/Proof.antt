@@ -2,13 +2,6 @@ use Rattle.rows.proofs.Ways.{rules}
 use borrow.Author.Needs.{needs}
 use Rattle.rows.proofs.checks.breaks_rule.Statement.{statement}
 use Rattle.rows.proofs.checks.breaks_rule.Tie as tie
-use Rattle.rows.proofs.checks.breaks_rule.Reads as reads
-use Rattle.rows.proofs.checks.breaks_rule.Lts as lts
-use Rattle.text.proofs.part.Reads as part-reads
-use Rattle.values.proofs.is_name.Reads as is-name-reads
-use Rattle.values.proofs.is_namespace.Reads as is-namespace-reads
-use Rattle.values.proofs.is_property_name.Reads as is-property-name-reads
-use Rattle.values.proofs.is_value.Reads as is-value-reads
 
 enum-told : tie.Need-enum-told
 enum-told c = search needs

@@ -2,10 +2,6 @@ use Rattle.rows.proofs.Ways.{vals}
 use borrow.Author.Needs.{needs}
 use Rattle.rows.proofs.checks.is_undeclared.Statement.{statement}
 use Rattle.rows.proofs.checks.is_undeclared.Tie as tie
-use Rattle.rows.proofs.checks.is_undeclared.Reads as reads
-use Rattle.rows.proofs.checks.is_undeclared.Lts as lts
-use Rattle.rows.proofs.checks.property_kind.Reads as property-kind-reads
-use Rattle.text.proofs.part.Reads as part-reads
 
 enum-told : tie.Need-enum-told
 enum-told c = search needs

@@ -2,11 +2,6 @@ use Rattle.rows.proofs.Ways.{vals}
 use borrow.Author.Needs.{needs}
 use Rattle.rows.proofs.checks.is_unfit.Statement.{statement}
 use Rattle.rows.proofs.checks.is_unfit.Tie as tie
-use Rattle.rows.proofs.checks.is_unfit.Reads as reads
-use Rattle.rows.proofs.checks.is_unfit.Lts as lts
-use Rattle.rows.proofs.checks.property_kind.Reads as property-kind-reads
-use Rattle.rows.proofs.checks.value_fits.Reads as value-fits-reads
-use Rattle.text.proofs.part.Reads as part-reads
 
 enum-told : tie.Need-enum-told
 enum-told c = search needs

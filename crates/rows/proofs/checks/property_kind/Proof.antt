@@ -8,13 +8,6 @@ use Rattle.rows.specs.Checks.{kindsIn}
 use borrow.Author.Needs.{needs}
 use Rattle.rows.proofs.checks.property_kind.Statement.{statement}
 use Rattle.rows.proofs.checks.property_kind.Tie as tie
-use Rattle.rows.proofs.checks.property_kind.Reads as reads
-use Rattle.rows.proofs.checks.property_kind.Lts as lts
-use Rattle.entries.proofs.table.item_at.Reads as item-at-reads
-use Rattle.entries.proofs.table.num_at.Reads as num-at-reads
-use Rattle.rows.proofs.checks.is_declared.Reads as is-declared-reads
-use Rattle.text.proofs.part.Reads as part-reads
-use Rattle.text.proofs.same_bytes.Reads as same-bytes-reads
 
 abbrev Inv-loop : tie.InvT-loop
 Inv-loop s t rows m x k₀ k = kindsIn s t rows m x ≡ firstIn (λ i. declaredKind x (entryAt s t i)) (drop k (take m rows))

@@ -2,12 +2,6 @@ use Rattle.rows.proofs.Ways.{row}
 use borrow.Author.Needs.{needs}
 use Rattle.rows.proofs.checks.row_fails.Statement.{statement}
 use Rattle.rows.proofs.checks.row_fails.Tie as tie
-use Rattle.rows.proofs.checks.row_fails.Reads as reads
-use Rattle.rows.proofs.checks.row_fails.Lts as lts
-use Rattle.entries.proofs.table.item_at.Reads as item-at-reads
-use Rattle.rows.proofs.checks.breaks_rule.Reads as breaks-rule-reads
-use Rattle.rows.proofs.checks.is_undeclared.Reads as is-undeclared-reads
-use Rattle.rows.proofs.checks.is_unfit.Reads as is-unfit-reads
 
 item-at-requires : tie.Need-item-at-requires
 item-at-requires c κs = search needs

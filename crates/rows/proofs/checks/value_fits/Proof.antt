@@ -2,11 +2,6 @@ use Rattle.rows.proofs.Ways.{fit}
 use borrow.Author.Needs.{needs}
 use Rattle.rows.proofs.checks.value_fits.Statement.{statement}
 use Rattle.rows.proofs.checks.value_fits.Tie as tie
-use Rattle.rows.proofs.checks.value_fits.Reads as reads
-use Rattle.rows.proofs.checks.value_fits.Lts as lts
-use Rattle.values.proofs.is_reference.Reads as is-reference-reads
-use Rattle.values.proofs.read_boolean.Reads as read-boolean-reads
-use Rattle.values.proofs.read_number.Reads as read-number-reads
 
 enum-told : tie.Need-enum-told
 enum-told c = search needs

@@ -6,11 +6,6 @@ use mathlib.Core.Path.{_≡_}
 use borrow.Author.Needs.{needs}
 use Rattle.rows.proofs.tests.count_inner.Statement.{statement}
 use Rattle.rows.proofs.tests.count_inner.Tie as tie
-use Rattle.rows.proofs.tests.count_inner.Reads as reads
-use Rattle.rows.proofs.tests.count_inner.Lts as lts
-use Rattle.entries.proofs.table.item_at.Reads as item-at-reads
-use Rattle.rows.proofs.checks.bit_of.Reads as bit-of-reads
-use Rattle.rows.proofs.tests.is_inner.Reads as is-inner-reads
 
 abbrev Inv-loop : tie.InvT-loop
 Inv-loop t n m₀ i₀ m i = (i ≤ n) × (m ≡ innerIn t i)

@@ -9,11 +9,6 @@ use mathlib.Core.Path.{_≡_}
 use borrow.Author.Needs.{needs}
 use Rattle.rows.proofs.tests.like_before.Statement.{statement}
 use Rattle.rows.proofs.tests.like_before.Tie as tie
-use Rattle.rows.proofs.tests.like_before.Reads as reads
-use Rattle.rows.proofs.tests.like_before.Lts as lts
-use Rattle.entries.proofs.table.item_at.Reads as item-at-reads
-use Rattle.entries.proofs.table.num_at.Reads as num-at-reads
-use Rattle.rows.proofs.checks.are_alike.Reads as are-alike-reads
 
 abbrev Inv-loop : tie.InvT-loop
 Inv-loop s t rows k this some₀ a₀ some a = (a ≤ k) × (some ≡ anyTo a (λ b. sameDeclared (entryAt s t (getD rows b 0)) (entryAt s t (getD rows k 0))))

@@ -5,9 +5,6 @@ use mathlib.Core.Path.{_≡_}
 use borrow.Author.Needs.{needs}
 use Rattle.rows.proofs.tests.some_row.Statement.{statement}
 use Rattle.rows.proofs.tests.some_row.Tie as tie
-use Rattle.rows.proofs.tests.some_row.Reads as reads
-use Rattle.rows.proofs.tests.some_row.Lts as lts
-use Rattle.rows.proofs.checks.row_fails.Reads as row-fails-reads
 
 abbrev Inv-loop : tie.InvT-loop
 Inv-loop s t n props m check some₀ i₀ some i = (i ≤ n) × (some ≡ someFails check s t i props m)

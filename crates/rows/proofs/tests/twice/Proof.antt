@@ -1,60 +1,59 @@
-use Rattle.rows.proofs.Loops.{twice-start, twice-more, twice-end}
-use Rattle.rows.specs.Checks.{twiceIn}
-use Prim.Native.Nat.{_-_, _≤_}
-use mathlib.Core.Path.{_≡_}
+use native.Mathlib.Omega.{arith}
+use borrow.Author.Tests.{not-false}
+use Rattle.rows.proofs.Counted.{twice-sorted}
 use borrow.Author.Needs.{needs}
 use Rattle.rows.proofs.tests.twice.Statement.{statement}
 use Rattle.rows.proofs.tests.twice.Tie as tie
-use Rattle.rows.proofs.tests.twice.Reads as reads
-use Rattle.rows.proofs.tests.twice.Lts as lts
-use Rattle.rows.proofs.hashes.fill_hashes.Reads as fill-hashes-reads
-use Rattle.rows.proofs.tests.repeats.Reads as repeats-reads
 
-abbrev Inv-loop : tie.InvT-loop
-Inv-loop s t rows m hashes some₀ k₀ some k = (k ≤ m) × (some ≡ twiceIn s t rows k)
+slice-aggregate-list-names : tie.Need-slice-aggregate-list-names
+slice-aggregate-list-names c = search needs
 
-abbrev μ-loop : tie.MeasureT-loop
-μ-loop s t rows m hashes some₀ k₀ some k = m - k
+slice-aggregate-list-names-2 : tie.Need-slice-aggregate-list-names-2
+slice-aggregate-list-names-2 c = search needs
 
-slice-aggregate-fill-hashes : tie.Need-slice-aggregate-fill-hashes Inv-loop μ-loop
-slice-aggregate-fill-hashes c = search needs
+list-names-requires : tie.Need-list-names-requires
+list-names-requires c κs = search needs
 
-fill-hashes-requires : tie.Need-fill-hashes-requires Inv-loop μ-loop
-fill-hashes-requires c κs = search needs
+twice-by-pairs-requires : tie.Need-twice-by-pairs-requires
+twice-by-pairs-requires c κs = search needs
 
-loop-holds : tie.Need-loop-holds Inv-loop μ-loop
-loop-holds c = twice-start _ _
+returns : tie.Need-returns
+returns c = search needs
 
-slice-aggregate-repeats : tie.Need-slice-aggregate-repeats Inv-loop μ-loop
-slice-aggregate-repeats c = search needs
+slice-aggregate-build : tie.Need-slice-aggregate-build
+slice-aggregate-build c = search needs
 
-repeats-requires : tie.Need-repeats-requires Inv-loop μ-loop
-repeats-requires c κs = search needs
+slice-aggregate-build-2 : tie.Need-slice-aggregate-build-2
+slice-aggregate-build-2 c = search needs
 
-add-k : tie.Need-add-k Inv-loop μ-loop
-add-k c = search needs
+cast-build : tie.Need-cast-build
+cast-build c = omega (arith, c .before .before .before .before .before .list-names .ensures (not-false _ (c .before .before .if1 .left)) .room, c .before .before .before .before .starts2 .given)
 
-loop-less : tie.Need-loop-less Inv-loop μ-loop
-loop-less c = search needs
+slice-aggregate-build-3 : tie.Need-slice-aggregate-build-3
+slice-aggregate-build-3 c = search needs
 
-loop-again : tie.Need-loop-again Inv-loop μ-loop
-loop-again c = twice-more _ _ _ _ (c .before .before .before .loop .inv) (c .before .before .loop-test .taken) _ (c .repeats .ensures _ (c .before .before .before .before .before .fill-hashes .ensures) (c .before .before .loop-test .taken))
+slice-aggregate-build-4 : tie.Need-slice-aggregate-build-4
+slice-aggregate-build-4 c = search needs
 
-returns : tie.Need-returns Inv-loop μ-loop
-returns c = twice-end _ _ _ _ (c .before .loop .inv) (c .loop-test .left)
+build-requires : tie.Need-build-requires
+build-requires c κs = search needs
+
+returns-2 : tie.Need-returns-2
+returns-2 c = let few = c .before .before .before .before .before .before .before .before .before .before .list-names .ensures (not-false _ (c .before .before .before .before .before .before .before .if1 .left)) .room in let size = c .before .before .before .before .before .before .before .before .before .starts2 .given in twice-sorted _ _ _ _ _ _ _ _ _ _ _ (c .before .before .before .before .before .before .before .before .before .before .list-names .ensures (not-false _ (c .before .before .before .before .before .before .before .if1 .left))) (c .before .before .build .ensures) (omega arith) (omega arith)
 
 pub twice-spec : {M : Type 1} → statement M
 twice-spec =
     tie.close
     (tie.spec
-    Inv-loop
-    μ-loop
-    slice-aggregate-fill-hashes
-    fill-hashes-requires
-    loop-holds
-    slice-aggregate-repeats
-    repeats-requires
-    add-k
-    loop-less
-    loop-again
-    returns)
+    slice-aggregate-list-names
+    slice-aggregate-list-names-2
+    list-names-requires
+    twice-by-pairs-requires
+    returns
+    slice-aggregate-build
+    slice-aggregate-build-2
+    cast-build
+    slice-aggregate-build-3
+    slice-aggregate-build-4
+    build-requires
+    returns-2)

@@ -2,12 +2,6 @@ use Rattle.slots.proofs.Bodies.{category-is}
 use borrow.Author.Needs.{needs}
 use Rattle.slots.proofs.plain.category.Statement.{statement}
 use Rattle.slots.proofs.plain.category.Tie as tie
-use Rattle.slots.proofs.plain.category.Reads as reads
-use Rattle.slots.proofs.plain.category.Lts as lts
-use Rattle.slots.proofs.rows.add.Reads as add-reads
-use Rattle.slots.proofs.rows.flag.Reads as flag-reads
-use Rattle.text.proofs.part.Reads as part-reads
-use Rattle.values.proofs.is_name.Reads as is-name-reads
 
 add-requires : tie.Need-add-requires
 add-requires c κs = search needs

@@ -2,12 +2,6 @@ use Rattle.slots.proofs.Bodies.{identifier-is}
 use borrow.Author.Needs.{needs}
 use Rattle.slots.proofs.plain.identifier.Statement.{statement}
 use Rattle.slots.proofs.plain.identifier.Tie as tie
-use Rattle.slots.proofs.plain.identifier.Reads as reads
-use Rattle.slots.proofs.plain.identifier.Lts as lts
-use Rattle.pieces.proofs.read_piece.Reads as read-piece-reads
-use Rattle.slots.proofs.plain.put_read.Reads as put-read-reads
-use Rattle.slots.proofs.rows.flag.Reads as flag-reads
-use Rattle.slots.proofs.rows.one_more.Reads as one-more-reads
 
 read-piece-requires : tie.Need-read-piece-requires
 read-piece-requires c κs = search needs

@@ -2,8 +2,6 @@ use borrow.Author.Tests.{lt-ltb, le-ltb}
 use borrow.Author.Needs.{needs}
 use Rattle.slots.proofs.plain.one_deeper.Statement.{statement}
 use Rattle.slots.proofs.plain.one_deeper.Tie as tie
-use Rattle.slots.proofs.plain.one_deeper.Reads as reads
-use Rattle.slots.proofs.plain.one_deeper.Lts as lts
 
 add-result : tie.Need-add-result
 add-result c = search needs

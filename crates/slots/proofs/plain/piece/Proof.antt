@@ -2,11 +2,6 @@ use Rattle.slots.proofs.Bodies.{piece-category, piece-identifier}
 use borrow.Author.Needs.{needs}
 use Rattle.slots.proofs.plain.piece.Statement.{statement}
 use Rattle.slots.proofs.plain.piece.Tie as tie
-use Rattle.slots.proofs.plain.piece.Reads as reads
-use Rattle.slots.proofs.plain.piece.Lts as lts
-use Rattle.pieces.proofs.is_bare.Reads as is-bare-reads
-use Rattle.slots.proofs.plain.category.Reads as category-reads
-use Rattle.slots.proofs.plain.identifier.Reads as identifier-reads
 
 is-bare-requires : tie.Need-is-bare-requires
 is-bare-requires c κs = search needs

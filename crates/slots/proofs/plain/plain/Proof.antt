@@ -2,14 +2,6 @@ use Rattle.slots.proofs.Bodies.{plain-categories, plain-identifiers}
 use borrow.Author.Needs.{needs}
 use Rattle.slots.proofs.plain.plain.Statement.{statement}
 use Rattle.slots.proofs.plain.plain.Tie as tie
-use Rattle.slots.proofs.plain.plain.Reads as reads
-use Rattle.slots.proofs.plain.plain.Lts as lts
-use Rattle.pieces.proofs.category_of.Reads as category-of-reads
-use Rattle.pieces.proofs.piece_at.Reads as piece-at-reads
-use Rattle.slots.proofs.plain.category.Reads as category-reads
-use Rattle.slots.proofs.plain.identifier.Reads as identifier-reads
-use Rattle.slots.proofs.plain.more_pieces.Reads as more-pieces-reads
-use Rattle.slots.proofs.rows.flag.Reads as flag-reads
 
 piece-at-requires : tie.Need-piece-at-requires
 piece-at-requires c κs = search needs

@@ -2,10 +2,6 @@ use Rattle.slots.proofs.Bodies.{read-left, put-namespace, put-reference
 use borrow.Author.Needs.{needs}
 use Rattle.slots.proofs.plain.put_read.Statement.{statement}
 use Rattle.slots.proofs.plain.put_read.Tie as tie
-use Rattle.slots.proofs.plain.put_read.Reads as reads
-use Rattle.slots.proofs.plain.put_read.Lts as lts
-use Rattle.slots.proofs.rows.code_of.Reads as code-of-reads
-use Rattle.slots.proofs.rows.put.Reads as put-reads
 
 enum-known-piece : tie.Need-enum-known-piece
 enum-known-piece c = search needs

@@ -2,14 +2,6 @@ use Rattle.slots.proofs.Bodies.{value-is}
 use borrow.Author.Needs.{needs}
 use Rattle.slots.proofs.plain.value_piece.Statement.{statement}
 use Rattle.slots.proofs.plain.value_piece.Tie as tie
-use Rattle.slots.proofs.plain.value_piece.Reads as reads
-use Rattle.slots.proofs.plain.value_piece.Lts as lts
-use Rattle.pieces.proofs.is_existence.Reads as is-existence-reads
-use Rattle.slots.proofs.plain.value_row.Reads as value-row-reads
-use Rattle.slots.proofs.rows.add.Reads as add-reads
-use Rattle.slots.proofs.rows.flag.Reads as flag-reads
-use Rattle.text.proofs.part.Reads as part-reads
-use Rattle.values.proofs.is_value.Reads as is-value-reads
 
 is-existence-requires : tie.Need-is-existence-requires
 is-existence-requires c κs = search needs

@@ -2,9 +2,6 @@ use Rattle.slots.specs.Trees.{valueRow}
 use borrow.Author.Needs.{needs}
 use Rattle.slots.proofs.plain.value_row.Statement.{statement}
 use Rattle.slots.proofs.plain.value_row.Tie as tie
-use Rattle.slots.proofs.plain.value_row.Reads as reads
-use Rattle.slots.proofs.plain.value_row.Lts as lts
-use Rattle.slots.proofs.rows.code_of.Reads as code-of-reads
 
 returns : tie.Need-returns
 unfolding valueRow

@@ -2,10 +2,6 @@ use Rattle.slots.proofs.Table.{adds-is}
 use borrow.Author.Needs.{needs}
 use Rattle.slots.proofs.rows.add.Statement.{statement}
 use Rattle.slots.proofs.rows.add.Tie as tie
-use Rattle.slots.proofs.rows.add.Reads as reads
-use Rattle.slots.proofs.rows.add.Lts as lts
-use Rattle.slots.proofs.rows.one_more.Reads as one-more-reads
-use Rattle.slots.proofs.rows.put.Reads as put-reads
 
 put-requires : tie.Need-put-requires
 put-requires c κs = search needs

@@ -2,8 +2,6 @@ use mathlib.Core.Path.{refl}
 use Rattle.slots.specs.Effects.{flagged}
 use Rattle.slots.proofs.rows.flag.Statement.{statement}
 use Rattle.slots.proofs.rows.flag.Tie as tie
-use Rattle.slots.proofs.rows.flag.Reads as reads
-use Rattle.slots.proofs.rows.flag.Lts as lts
 
 returns : tie.Need-returns
 unfolding flagged

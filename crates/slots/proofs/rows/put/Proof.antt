@@ -5,9 +5,6 @@ use Rattle.slots.proofs.Table.{unwritten, written}
 use borrow.Author.Needs.{needs}
 use Rattle.slots.proofs.rows.put.Statement.{statement}
 use Rattle.slots.proofs.rows.put.Tie as tie
-use Rattle.slots.proofs.rows.put.Reads as reads
-use Rattle.slots.proofs.rows.put.Lts as lts
-use Rattle.slots.proofs.rows.small.Reads as small-reads
 
 returns : tie.Need-returns
 returns c = unwritten _ _ _ (c .if1 .taken)

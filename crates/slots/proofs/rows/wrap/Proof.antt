@@ -2,9 +2,6 @@ use Rattle.slots.proofs.Table.{wraps-is}
 use borrow.Author.Needs.{needs}
 use Rattle.slots.proofs.rows.wrap.Statement.{statement}
 use Rattle.slots.proofs.rows.wrap.Tie as tie
-use Rattle.slots.proofs.rows.wrap.Reads as reads
-use Rattle.slots.proofs.rows.wrap.Lts as lts
-use Rattle.slots.proofs.rows.add.Reads as add-reads
 
 add-requires : tie.Need-add-requires
 add-requires c κs = search needs
