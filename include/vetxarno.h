@@ -1,18 +1,21 @@
 /* Vetxarno: ask queries over a register of pages.
  *
- * A register text becomes a held register, a query text becomes a held query for a register's properties, and asking
- * marks the pages that the query selects. Held forms are plain bytes of a fixed size: they may be copied, kept in a file
- * and lent to a later call. docs/LAYOUT.md says how they lie.
+ * A register text becomes a held register, two held registers become one, a query text becomes a held query for a
+ * register's properties, and asking marks the pages that the query selects. Held forms are plain bytes of a fixed size: they
+ * may be copied, kept in a file and lent to a later call. docs/LAYOUT.md says how they lie. A register has one form: the same
+ * properties, pages, categories and values in the same orders give the same bytes, however they were written.
  *
- * What holds of all three calls:
+ * What holds of all four calls:
  * - A negative number is a refusal: its number in the tables below, made negative. If several conditions hold, the
- *   lowest number is returned. A refused call has changed no byte of any buffer.
- * - Any bytes may be lent: a buffer that is no held form is refused, not trusted.
+ *   lowest number is returned, save by vetxarno_join, which goes by the order of its table. A refused call has changed no
+ *   byte of any buffer.
+ * - Any bytes may be lent: a buffer that is no held form is refused, not trusted. A held register is the form of any register
+ *   that keeps the rules of names, values and kinds and the limits of vetxarno_join, whether or not one text gives it.
  * - The buffers of one call must not overlap. A buffer of length 0 still needs a pointer that is not null.
  * - No state is kept and no memory is allocated. Calls from several threads are fine as long as they share no buffer
  *   that one of them writes.
- * - Stack: vetxarno_ask needs up to 0.7 MB, for 256 nodes nested in one another; vetxarno_query 0.35 MB and vetxarno_register
- *   0.09 MB (docs/BENCHMARKS.md). */
+ * - Stack: vetxarno_ask needs up to 0.55 MB, for 256 nodes nested in one another; vetxarno_join 0.35 MB, vetxarno_register
+ *   and vetxarno_query 0.3 MB (docs/BENCHMARKS.md). */
 #ifndef VETXARNO_H
 #define VETXARNO_H
 
@@ -24,7 +27,7 @@ extern "C" {
 #endif
 
 /* The size of a held register and of a held query. A longer buffer may be lent; only its first bytes count. */
-#define VETXARNO_REGISTER_BYTES 32770
+#define VETXARNO_REGISTER_BYTES 63628
 #define VETXARNO_QUERY_BYTES 6148
 
 /* Reads a register text and writes the held register into the first VETXARNO_REGISTER_BYTES bytes of `held`; later bytes
@@ -36,14 +39,30 @@ extern "C" {
  *   -4  a property, or a page (namespace and name), is declared twice
  *   -5  a val form names a property that no prop line declares
  *   -6  a value does not fit its property's kind
- *   -7  more than 64 properties, 256 pages, or 2,048 cat and val forms together
+ *   -7  more than 64 properties, 256 pages, or 2,048 cat and val forms together, repeats counted
  *   -8  held_len is less than VETXARNO_REGISTER_BYTES */
 int32_t vetxarno_register(const uint8_t *text, size_t text_len, uint8_t *held, size_t held_len);
+
+/* Joins two held registers and writes the held register of both into the first VETXARNO_REGISTER_BYTES bytes of `held`; later
+ * bytes stay as they are. The properties are those of the first, then those that only the second has. The pages of the first
+ * keep their places, and those that only the second has follow in its order. A page of both has the categories of both and the
+ * values of both, each once: those of the first, then those that only the second has. Returns 0, or the first of these that
+ * holds, in this order:
+ *
+ *   -22  first or second is no held register, or is too short for one
+ *   -32  a property is declared with two kinds
+ *    -7  both together have more than 64 properties, 256 pages, 2,048 categories and values, or 32,768 bytes of names and
+ *        values. What both have counts once. A property's name counts once, and a page's namespace and name, its categories
+ *        and its values for each page: numbers at their shortest, booleans as true and false, links without blanks at their
+ *        colon and those to the main namespace without the colon
+ *    -8  held_len is less than VETXARNO_REGISTER_BYTES */
+int32_t vetxarno_join(const uint8_t *first, size_t first_len, const uint8_t *second, size_t second_len, uint8_t *held,
+                      size_t held_len);
 
 /* Reads a query text, fits it to the properties of a held register, and writes the held query into the first
  * VETXARNO_QUERY_BYTES bytes of `held_query`; later bytes stay as they are. Returns 0, or:
  *
- *   -11  held_register is not what vetxarno_register wrote for some text, or is too short for it
+ *   -11  held_register is no held register, or is too short for one
  *   -12  the text is longer than 1,024 bytes
  *   -13  the text does not read as a query
  *   -14  <q> is nested deeper than 8, or a property chain has more than 8 names
@@ -57,11 +76,11 @@ int32_t vetxarno_query(const uint8_t *held_register, size_t held_register_len, c
                        uint8_t *held_query, size_t held_query_len);
 
 /* Runs a held query on a held register, which need not be the one that the query was made with. Writes one byte for each
- * page of the register, in the order of the page lines: 1 for a page that the query selects, 0 for any other. Later bytes
+ * page of the register, in place order: 1 for a page that the query selects, 0 for any other. Later bytes
  * stay as they are. 256 bytes are enough for any register. Returns the number of pages marked 1, or:
  *
  *   -21  held_query is no held query, or is too short for one
- *   -22  held_register is not what vetxarno_register wrote for some text, or is too short for it
+ *   -22  held_register is no held register, or is too short for one
  *   -23  the query compares values of two kinds: a property has values of another kind in this register
  *   -24  marks_len is less than the number of pages */
 int32_t vetxarno_ask(const uint8_t *held_query, size_t held_query_len, const uint8_t *held_register,

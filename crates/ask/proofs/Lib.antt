@@ -1,3 +1,2 @@
-pub mod Mixing
 pub mod Writing
 pub mod Calls

@@ -18,9 +18,9 @@ use Rattle.language.specs.Core.{Core}
 use Rattle.language.specs.Register.{Register}
 use Rattle.language.specs.RegisterText.{emptyPage}
 use Rattle.language.specs.Semantics.{selects}
-use Rattle.lookup.specs.View.{pageAt}
-use Rattle.evaluation.specs.Meaning.{Capped, marksOf}
-use Rattle.ask.specs.Call.{marked}
+use Rattle.register_form.specs.Opened.{pageIn}
+use Rattle.ask_evaluation.specs.Meaning.{Capped, marksOf}
+use Rattle.calls.specs.Calls.{marked}
 use Rattle.ask.specs.Running.{Written}
 
 -- After i bytes: out is the buffer, and b what it was.
@@ -44,15 +44,15 @@ module _ (marks : List Bool) (end : ℕ) (b out : Bytes) (i : ℕ) (w : Writing 
             rw (w .bytes, e, drop-cons b i 0 (omega arith), set-at (tabulate i (λ k. bit (getD marks k false))) (getD b i 0) (drop (suc i) b) (bit (getD marks i false)) i (length-tabulate i _), add-one i, append-assoc);
       }
 
-  pub writing-all : (n : ℕ) → Capped n end → end ≤ i → Written marks n b out
+  pub writing-all : (n c : ℕ) → Capped n c → end ≡ c → end ≤ i → Written marks n b out
   unfolding Written
-  writing-all n few l small room =
+  writing-all n c few k l small room =
       let e : i ≡ n = omega (arith, w .below, few .is small) in
       rw e at (w .bytes)
 
-pub no-room : (marks : List Bool) (n end : ℕ) (b : Bytes) → Capped n end → length b < end → Written marks n b b
+pub no-room : (marks : List Bool) (n end c : ℕ) (b : Bytes) → Capped n c → end ≡ c → length b < end → Written marks n b b
 unfolding Written
-no-room marks n end b few l small room = absurd (omega (arith, few .below))
+no-room marks n end c b few k l small room = absurd (omega (arith, few .below))
 
 -- how many are marked
 marked-more : (l : List Bool) (m : Bool) → marked (l ++ (m ∷ [])) ≡ marked l + bit m
@@ -81,20 +81,20 @@ count-below (suc m) n f l = go (leb n m) refl (count-below m n f)
 -- the marks of a core query
 module _ (R : Register) (q : Core) (n : ℕ) (all : n ≡ length (R .pages)) (few : n ≤ 256) (marks : List Bool) (are : marks ≡ marksOf R n q) where
   pub marks-bytes : tabulate n (λ i. bit (getD marks i false)) ≡ map bit (map (selects q R) (R .pages))
-  unfolding marksOf pageAt
+  unfolding marksOf pageIn
   marks-bytes =
       sym (is-tabulate n _ (bit (selects q R (emptyPage [] []))) _ (length-map (map (selects q R) (R .pages)) bit ∙ length-map (R .pages) (selects q R) ∙ sym all) (λ i h. at i h))
     where
       at : (i : ℕ) → i < n → getD (map bit (map (selects q R) (R .pages))) i (bit (selects q R (emptyPage [] []))) ≡ bit (getD marks i false)
       at i h =
-          let w : getD marks i false ≡ selects q R (getD (R .pages) i (emptyPage [] [])) = rw (are, getD-tabulate 256 (λ i. ltb i n && selects q R (pageAt R i)) false i (omega arith), lt-ltb i n h) in
+          let w : getD marks i false ≡ selects q R (getD (R .pages) i (emptyPage [] [])) = rw (are, getD-tabulate 256 (λ i. ltb i n && selects q R (pageIn R i)) false i (omega arith), lt-ltb i n h) in
           List·getD-map bit (map (selects q R) (R .pages)) i (selects q R (emptyPage [] []))
           ∙ ap bit (List·getD-map (selects q R) (R .pages) i (emptyPage [] []) ∙ sym w)
 
   pub marks-count : countTo 256 (λ i. getD marks i false) ≡ marked (map (selects q R) (R .pages))
-  unfolding marksOf pageAt
+  unfolding marksOf pageIn
   marks-count =
-      count-tabulate 256 (λ i. ltb i n && selects q R (pageAt R i)) marks are
-      ∙ count-below 256 n (λ i. selects q R (pageAt R i)) few
-      ∙ sym (marked-tabulate n (λ i. selects q R (pageAt R i)))
+      count-tabulate 256 (λ i. ltb i n && selects q R (pageIn R i)) marks are
+      ∙ count-below 256 n (λ i. selects q R (pageIn R i)) few
+      ∙ sym (marked-tabulate n (λ i. selects q R (pageIn R i)))
       ∙ ap marked (sym (is-tabulate n _ (selects q R (emptyPage [] [])) _ (length-map (R .pages) (selects q R) ∙ sym all) (λ i h. List·getD-map (selects q R) (R .pages) i (emptyPage [] []))))

@@ -5,33 +5,21 @@ ghost use Prim.Native.Nat.{ℕ};
 ghost use Rattle.text.specs.Table.{bit};
 ghost use Rattle.ask.specs.Call.{Asks};
 ghost use Rattle.ask.specs.Running.{Written, Selected, Runs};
-
-pub mod mismatch; // mismatch.rt: number 23's test
-
-use evaluation::capped;
-use evaluation::eval;
-use held::text_in;
-use lookup::link_table;
-use mismatch::has_mismatch;
-use nodes::follows_at;
+use ask_evaluation::capped;
+use ask_evaluation::eval;
+use ask_evaluation::mismatch::has_mismatch;
 use nodes::is_query;
 use nodes::two_at;
 use pageset::PageSet;
-use register::open_register;
-use rows::Judged;
-use text::Span;
-use values::Kind;
+use register_form::REGISTER_BYTES;
+use register_form::page_count;
+use tables::widen;
+use text::part;
 
 // What the ask call answers: the number that refuses it, or how many pages are marked.
 pub enum Asked {
     Refused(usize),
     Marked(usize),
-}
-
-// The kind that is wanted of the values under a property, or none.
-pub enum Wanted {
-    Kind(Span, Kind),
-    Nothing,
 }
 
 // A mark as a byte.
@@ -42,10 +30,10 @@ fn byte_of(b: bool) -> u8
 }
 
 // Writes the first n marks, a byte each, where there is room.
-fn write_marks(set: PageSet, n: usize, out: &mut [u8])
+fn write_marks(set: PageSet, n: u16, out: &mut [u8])
     ensures { λ _. ⌜ Written (set .marks) n (now (out .entry)) (now (out .exit)) ⌝ }
 {
-    let end = capped(n);
+    let end = widen(capped(n));
     if out.len() < end {
         return;
     }
@@ -57,54 +45,27 @@ fn write_marks(set: PageSet, n: usize, out: &mut [u8])
     }
 }
 
-// Whether a node of a held query follows links. Nothing but time hangs on it.
-fn follows_links(h: &[u8]) -> bool {
-    let n = two_at(h, 2);
-    let mut i: usize = 0;
-    while i < n {
-        if follows_at(h, i) {
-            return true;
-        }
-        i += 1;
-    }
-    false
+// The pages that a held query selects.
+fn select(q: &[u8], h: &[u8], places: &[u16]) -> PageSet
+    ensures { λ r. ⌜ Selected (now (h .entry)) (now (places .entry)) (now (q .entry)) (r .marks) ⌝ }
+{
+    let n = two_at(q, 2);
+    let found = eval(q, n, h, places);
+    found.set
 }
 
-// The pages that a held query selects. The table of links is made where a node follows links; an empty one is as true.
-fn select(h: &[u8], s: &[u8], t: &[u16], props: &[u16], pages: &[u16], c: Judged) -> PageSet
-    ensures { λ r. ⌜ Selected (now (s .entry)) (now (t .entry)) (now (props .entry)) (now (pages .entry)) c (now (h .entry)) (r .marks) ⌝ }
+// Runs a held query on a register that was opened: 23, 24, or the marks.
+fn run(q: &[u8], h: &[u8], places: &[u16], out: &mut [u8]) -> Asked
+    ensures { λ r. ⌜ Runs (now (h .entry)) (now (places .entry)) (now (q .entry)) (now (out .entry)) (now (out .exit)) r ⌝ }
 {
-    let n = two_at(h, 2);
-    if !follows_links(h) {
-        let plain = eval(h, n, s, t, props, pages, &pages[..0], c);
-        return plain.set;
-    }
-    let mut links = [0u16; 5500];
-    link_table(s, t, pages, c, &mut links);
-    let linked = eval(h, n, s, t, props, pages, &links, c);
-    linked.set
-}
-
-// Runs a held query on the register in the tables: 23, 24, or the marks.
-fn run(
-    h: &[u8],
-    s: &[u8],
-    t: &[u16],
-    props: &[u16],
-    pages: &[u16],
-    c: Judged,
-    out: &mut [u8],
-) -> Asked
-    ensures { λ r. ⌜ Runs (now (s .entry)) (now (t .entry)) (now (props .entry)) (now (pages .entry)) c (now (h .entry)) (now (out .entry)) (now (out .exit)) r ⌝ }
-{
-    if has_mismatch(h, s, t, props, pages, c) {
+    if has_mismatch(q, h) {
         return Asked::Refused(23);
     }
-    let n = c.pages;
-    if out.len() < n {
+    let n = page_count(h);
+    if out.len() < widen(n) {
         return Asked::Refused(24);
     }
-    let set = select(h, s, t, props, pages, c);
+    let set = select(q, h, places);
     write_marks(set, n, out);
     Asked::Marked(set.count())
 }
@@ -116,14 +77,10 @@ pub fn ask(query: &[u8], register: &[u8], marks: &mut [u8]) -> Asked
     if !is_query(query) {
         return Asked::Refused(21);
     }
-    let mut t = [0u16; 27500];
-    let mut props = [0u16; 5500];
-    let mut pages = [0u16; 5500];
-    let opened = open_register(register, &mut t, &mut props, &mut pages);
-    let number = opened.number;
-    if number != 0 {
+    let h = part(register, 0, REGISTER_BYTES);
+    let mut places = [0u16; 2368];
+    if !register_test::open(h, &mut places) {
         return Asked::Refused(22);
     }
-    let s = text_in(register);
-    run(query, s, &t, &props, &pages, opened, marks)
+    run(query, h, &places, marks)
 }

@@ -2,12 +2,13 @@
 use files::Read;
 use files::read_file;
 use libc::STDOUT_FILENO;
+use listing::ANSWER_BYTES;
 use listing::answer;
 use text::part;
 
-// Writes the answer in one piece: a list has at most 256 lines of 134 bytes behind its first.
+// Writes the answer in one piece: no answer is longer than the buffer (`asklist-most` in listing).
 fn write_answer(register: &[u8], query: &[u8]) {
-    let mut out = [0u8; 40960];
+    let mut out = [0u8; ANSWER_BYTES];
     let n = answer(register, query, &mut out);
     io::write_all(STDOUT_FILENO, part(&out, 0, n));
 }

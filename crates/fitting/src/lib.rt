@@ -1,6 +1,7 @@
 // Fitting a surface query to the kinds of a register: slot by slot, to nodes of the core.
 ghost use Rattle.slots.specs.Slots.{slotsIn};
-ghost use Rattle.rows.specs.Checks.{kindsIn};
+ghost use Rattle.language.specs.Register.{kindsOf};
+ghost use Rattle.register_form.specs.Form.{registerIn};
 ghost use Rattle.fitting.specs.Reading.{Fits};
 use emitting::Emitted;
 use language::SurfaceComparator;
@@ -31,22 +32,13 @@ pub enum Fit {
 }
 
 // Fits the first count slots of a table to the kinds that a register's text declares, with nodes from place 0 on.
-pub fn fit_slots(
-    text: &[u8],
-    slots: &[u16],
-    count: usize,
-    register: &[u8],
-    rows: &[u16],
-    props: &[u16],
-    np: usize,
-    held: &mut [u8],
-) -> Fit
-    ensures { λ r. ⌜ Fits (now (text .entry)) (kindsIn (now (register .entry)) (now (rows .entry)) (now (props .entry)) np) (slotsIn (now (text .entry)) (now (slots .entry)) count) (now (held .entry)) r (now (held .exit)) ⌝ }
+pub fn fit_slots(text: &[u8], slots: &[u16], count: usize, register: &[u8], held: &mut [u8]) -> Fit
+    ensures { λ r. ⌜ Fits (now (text .entry)) (kindsOf (registerIn (now (register .entry)))) (slotsIn (now (text .entry)) (now (slots .entry)) count) (now (held .entry)) r (now (held .exit)) ⌝ }
 {
-    if some_undeclared(text, slots, count, register, rows, props, np) {
+    if some_undeclared(text, slots, count, register) {
         return Fit::Undeclared;
     }
-    match put_slots(text, slots, count, register, rows, props, np, held) {
+    match put_slots(text, slots, count, register, held) {
         Emitted::Count(n) => Fit::Fine(n),
         Emitted::Unfit => Fit::Unfit,
     }

@@ -4,7 +4,8 @@ ghost use Rattle.text.specs.Bytes.{any};
 ghost use Rattle.text.specs.Parts.{partOf};
 ghost use Rattle.values.specs.Answers.{kindRead};
 ghost use Rattle.slots.specs.Slots.{slotsIn};
-ghost use Rattle.rows.specs.Checks.{kindsIn};
+ghost use Rattle.language.specs.Register.{kindsOf};
+ghost use Rattle.register_form.specs.Form.{registerIn};
 ghost use Rattle.emitting.specs.Emission.{Emits};
 ghost use Rattle.fitting.specs.declared.SlotRead.the-variants.{Value, Subquery};
 ghost use Rattle.fitting.specs.Fitting.{slotUndeclared, emit, emits};
@@ -19,24 +20,17 @@ use emitting::writing::put_value;
 use language::SurfaceComparator;
 use nodes::Connective;
 use nodes::Selector;
-use rows::checks::property_kind;
+use register_view::kind_of;
 use text::Span;
 use text::part;
 use values::Kind;
 use values::KindRead;
 
 // The kind of the property whose name lies at p.
-fn kind_at(
-    text: &[u8],
-    p: Span,
-    register: &[u8],
-    rows: &[u16],
-    props: &[u16],
-    np: usize,
-) -> KindRead
-    ensures { λ r. ⌜ r ≡ kindRead (kindsIn (now (register .entry)) (now (rows .entry)) (now (props .entry)) np (partOf (now (text .entry)) p)) ⌝ }
+fn kind_at(text: &[u8], p: Span, register: &[u8]) -> KindRead
+    ensures { λ r. ⌜ r ≡ kindRead (kindsOf (registerIn (now (register .entry))) (partOf (now (text .entry)) p)) ⌝ }
 {
-    property_kind(register, rows, props, np, part(text, p.start, p.len))
+    kind_of(register, part(text, p.start, p.len))
 }
 
 // Whether no kind was found.
@@ -50,15 +44,8 @@ fn is_nothing(kind: KindRead) -> bool
 }
 
 // Whether a slot names a property that is not declared (17).
-fn is_undeclared(
-    text: &[u8],
-    slot: SlotRead,
-    register: &[u8],
-    rows: &[u16],
-    props: &[u16],
-    np: usize,
-) -> bool
-    ensures { λ r. ⌜ r ≡ slotUndeclared (kindsIn (now (register .entry)) (now (rows .entry)) (now (props .entry)) np) (slotBy (now (text .entry)) slot) ⌝ }
+fn is_undeclared(text: &[u8], slot: SlotRead, register: &[u8]) -> bool
+    ensures { λ r. ⌜ r ≡ slotUndeclared (kindsOf (registerIn (now (register .entry)))) (slotBy (now (text .entry)) slot) ⌝ }
 {
     match slot {
         SlotRead::And => false,
@@ -66,28 +53,20 @@ fn is_undeclared(
         SlotRead::Category(_) => false,
         SlotRead::Namespace(_) => false,
         SlotRead::Reference(_, _) => false,
-        SlotRead::Existence(x) => is_nothing(kind_at(text, x, register, rows, props, np)),
-        SlotRead::Value(x, _, _) => is_nothing(kind_at(text, x, register, rows, props, np)),
-        SlotRead::Subquery(x) => is_nothing(kind_at(text, x, register, rows, props, np)),
+        SlotRead::Existence(x) => is_nothing(kind_at(text, x, register)),
+        SlotRead::Value(x, _, _) => is_nothing(kind_at(text, x, register)),
+        SlotRead::Subquery(x) => is_nothing(kind_at(text, x, register)),
     }
 }
 
 // Whether one of the first count slots names a property that is not declared.
-pub fn some_undeclared(
-    text: &[u8],
-    slots: &[u16],
-    count: usize,
-    register: &[u8],
-    rows: &[u16],
-    props: &[u16],
-    np: usize,
-) -> bool
-    ensures { λ r. ⌜ r ≡ any (slotUndeclared (kindsIn (now (register .entry)) (now (rows .entry)) (now (props .entry)) np)) (slotsIn (now (text .entry)) (now (slots .entry)) count) ⌝ }
+pub fn some_undeclared(text: &[u8], slots: &[u16], count: usize, register: &[u8]) -> bool
+    ensures { λ r. ⌜ r ≡ any (slotUndeclared (kindsOf (registerIn (now (register .entry))))) (slotsIn (now (text .entry)) (now (slots .entry)) count) ⌝ }
 {
     let mut i: usize = 0;
     while i < count {
         let slot = slot_at(slots, i);
-        if is_undeclared(text, slot, register, rows, props, np) {
+        if is_undeclared(text, slot, register) {
             return true;
         }
         i += 1;
@@ -129,17 +108,8 @@ fn put_subquery(text: &[u8], held: &mut [u8], n: usize, x: Span, kind: KindRead)
 }
 
 // The nodes of a slot.
-fn put_slot(
-    text: &[u8],
-    held: &mut [u8],
-    n: usize,
-    slot: SlotRead,
-    register: &[u8],
-    rows: &[u16],
-    props: &[u16],
-    np: usize,
-) -> Emitted
-    ensures { λ r. ⌜ Emits (now (text .entry)) (KeepsRead (now (text .entry)) slot) (emit (kindsIn (now (register .entry)) (now (rows .entry)) (now (props .entry)) np) (slotBy (now (text .entry)) slot)) (now (held .entry)) n r (now (held .exit)) ⌝ }
+fn put_slot(text: &[u8], held: &mut [u8], n: usize, slot: SlotRead, register: &[u8]) -> Emitted
+    ensures { λ r. ⌜ Emits (now (text .entry)) (KeepsRead (now (text .entry)) slot) (emit (kindsOf (registerIn (now (register .entry)))) (slotBy (now (text .entry)) slot)) (now (held .entry)) n r (now (held .exit)) ⌝ }
 {
     match slot {
         SlotRead::And => Emitted::Count(put_join(held, n, Connective::And)),
@@ -149,11 +119,11 @@ fn put_slot(
         SlotRead::Reference(c, p) => Emitted::Count(put_reference(text, held, n, c, p)),
         SlotRead::Existence(x) => Emitted::Count(put_select(held, n, Selector::Existence(x))),
         SlotRead::Value(x, c, p) => {
-            let kind = kind_at(text, x, register, rows, props, np);
+            let kind = kind_at(text, x, register);
             put_piece(text, held, n, x, c, p, kind)
         }
         SlotRead::Subquery(x) => {
-            let kind = kind_at(text, x, register, rows, props, np);
+            let kind = kind_at(text, x, register);
             put_subquery(text, held, n, x, kind)
         }
     }
@@ -165,18 +135,15 @@ pub fn put_slots(
     slots: &[u16],
     count: usize,
     register: &[u8],
-    rows: &[u16],
-    props: &[u16],
-    np: usize,
     held: &mut [u8],
 ) -> Emitted
-    ensures { λ r. ⌜ Emits (now (text .entry)) (KeepsSlots (now (text .entry)) (slotsIn (now (text .entry)) (now (slots .entry)) count)) (emits (kindsIn (now (register .entry)) (now (rows .entry)) (now (props .entry)) np) (slotsIn (now (text .entry)) (now (slots .entry)) count)) (now (held .entry)) 0 r (now (held .exit)) ⌝ }
+    ensures { λ r. ⌜ Emits (now (text .entry)) (KeepsSlots (now (text .entry)) (slotsIn (now (text .entry)) (now (slots .entry)) count)) (emits (kindsOf (registerIn (now (register .entry)))) (slotsIn (now (text .entry)) (now (slots .entry)) count)) (now (held .entry)) 0 r (now (held .exit)) ⌝ }
 {
     let mut n: usize = 0;
     let mut i: usize = 0;
     while i < count {
         let slot = slot_at(slots, i);
-        let put = put_slot(text, held, n, slot, register, rows, props, np);
+        let put = put_slot(text, held, n, slot, register);
         let Emitted::Count(m) = put else {
             return Emitted::Unfit;
         };

@@ -3,22 +3,22 @@ use Prim.Native.Nat.{ℕ, zero, suc, _+_, _≤_, _<_}
 use mathlib.Core.Path.{_≡_, refl, sym, ap, ap₂, _∙_, subst}
 use mathlib.Core.Bool.{Bool, true, false, cond}
 use mathlib.Core.List.{List, [], _∷_, _++_}
-use mathlib.Core.Option.{some, Option·some-injective}
+use mathlib.Core.Option.{some}
 use native.Mathlib.Omega.{arith}
 use borrow.Author.Tests.{eq-eqb, ne-eqb}
 use lib.Dec.{eqb}
-use lib.ListN.{length, getD}
-use Rattle.text.specs.Bytes.{Bytes, bytes}
+use lib.ListN.{length, getD, take, length-map}
+use Rattle.text.specs.Bytes.{Bytes, bytes, part}
+use Rattle.text.specs.Table.{tabulate}
+use Rattle.text.proofs.Tables.{length-tabulate}
+use Rattle.language.specs.Answer.{onlyIf}
 use Rattle.language.specs.Register.{Page, Register}
-use Rattle.language.specs.RegisterText.{registerOf}
-use Rattle.language.proofs.Registers.{accepted-sound}
-use Rattle.entries.specs.Table.{entriesIn}
-use Rattle.rows.specs.declared.Judged.{Judged}
-use Rattle.held.specs.Form.{textIn}
-use Rattle.register.specs.Held.{heldRegister, Opens}
-use Rattle.register.proofs.Forms.{held-by}
-use Rattle.lookup.specs.View.{pageAt, View}
-use Rattle.lookup.proofs.View.{view-count, view-few}
+use Rattle.language.proofs.Rules.{register-rules}
+use Rattle.register_form.specs.Dictionary.{decodePage, decode}
+use Rattle.register_form.specs.Form.{pageCount, registerSize, pageAt, dictionaryIn, registerIn, isForm, heldRegister}
+use Rattle.register_form.specs.Opened.{pageIn}
+use Rattle.register_form.proofs.Forms.{held-is}
+use Rattle.register_form.proofs.Rules.{within}
 use Rattle.listing.specs.Listing.{decimal, nameLine, lineOf, linesTo}
 use Rattle.listing.specs.Appends.{Appends}
 use Rattle.listing.specs.Answering.{isMarked, AppendsPage, AppendsLines, AppendsList, AppendsRefusal}
@@ -31,60 +31,64 @@ lines-same (suc n) f g page h =
     ap₂ (λ x b. x ++ cond b (lineOf n (page n)) []) (lines-same n f g page (λ i l. h i (omega (arith, l)))) (h n (omega arith))
 
 -- put_page
-module _ (s : Bytes) (t pages : List ℕ) (i mark : ℕ) (b : Bytes) (at : ℕ) where
-  pub page-unmarked : (mark ≡ 1 → ⊥) → AppendsPage s t pages i mark b at b at
+module _ (h : Bytes) (i mark : ℕ) (b : Bytes) (at : ℕ) where
+  pub page-unmarked : (mark ≡ 1 → ⊥) → AppendsPage h i mark b at b at
   unfolding AppendsPage
-  page-unmarked f R props c v l = rw (ne-eqb mark 1 f) (appends-none b at)
+  page-unmarked f l = rw (ne-eqb mark 1 f) (appends-none b at)
 
-  pub page-marked : (x y after : Bytes) (r : ℕ) → mark ≡ 1
-      → ((R : Register) (props : List ℕ) (c : Judged) → View R s t props pages c → i < c .pages → x ≡ pageAt R i .identifier .namespace)
-      → ((R : Register) (props : List ℕ) (c : Judged) → View R s t props pages c → i < c .pages → y ≡ pageAt R i .identifier .article)
-      → (i < 1000 → Appends b at (nameLine i x y) after r) → AppendsPage s t pages i mark b at after r
+  pub page-marked : (x y after : Bytes) (w r : ℕ) → mark ≡ 1 → x ≡ pageIn (registerIn h) i .identifier .namespace → y ≡ pageIn (registerIn h) i .identifier .article → w ≡ i → (w < 1000 → Appends b at (nameLine w x y) after r) → AppendsPage h i mark b at after r
   unfolding AppendsPage
-  page-marked x y after r e f g w R props c v l =
-      let few = view-few v in
-      rw (eq-eqb mark 1 e, ← f R props c v l, ← g R props c v l) (w (omega (arith, few, l)))
+  page-marked x y after w r e f g j p l = rw (eq-eqb mark 1 e, ← f, ← g, ← j) (p (omega arith))
 
 -- put_lines
-module _ (s : Bytes) (t pages : List ℕ) (marks : Bytes) (b : Bytes) (at : ℕ) where
-  pub lines-none : AppendsLines s t pages marks 0 b at b at
+module _ (h marks : Bytes) (b : Bytes) (at : ℕ) where
+  pub lines-none : AppendsLines h marks 0 b at b at
   unfolding AppendsLines linesTo
-  lines-none R props c v l = appends-none b at
+  lines-none l = appends-none b at
 
-  pub lines-more : (i x m n : ℕ) (g k : Bytes) → AppendsLines s t pages marks i b at g m → x ≡ getD marks i 0 → AppendsPage s t pages i x g m k n → AppendsLines s t pages marks (i + 1) b at k n
+  pub lines-more : (i w x m n : ℕ) (g k : Bytes) → AppendsLines h marks i b at g m → w ≡ i → x ≡ getD marks w 0 → AppendsPage h i x g m k n → AppendsLines h marks (i + 1) b at k n
   unfolding AppendsLines AppendsPage linesTo
-  lines-more i x m n g k p e w R props c v l =
+  lines-more i w x m n g k p j e q l =
       let next : i + 1 ≡ suc i = omega arith in
-      let q : Appends g m (cond (isMarked marks i) (lineOf i (pageAt R i)) []) k n = subst (λ y. Appends g m (cond (eqb y 1) (lineOf i (pageAt R i)) []) k n) e (w R props c v (omega (arith, l))) in
-      subst (λ j. Appends b at (linesTo j (isMarked marks) (pageAt R)) k n) (sym next) (appends-then b g k (linesTo i (isMarked marks) (pageAt R)) (cond (isMarked marks i) (lineOf i (pageAt R i)) []) at m n (p R props c v (omega (arith, l))) q)
+      let byte : x ≡ getD marks i 0 = e ∙ ap (λ (y : ℕ). getD marks y 0) j in
+      let line : Appends g m (cond (isMarked marks i) (lineOf i (pageIn (registerIn h) i)) []) k n = subst (λ y. Appends g m (cond (eqb y 1) (lineOf i (pageIn (registerIn h) i)) []) k n) byte (q (omega arith)) in
+      subst (λ j. Appends b at (linesTo j (isMarked marks) (pageIn (registerIn h))) k n) (sym next) (appends-then b g k (linesTo i (isMarked marks) (pageIn (registerIn h))) (cond (isMarked marks i) (lineOf i (pageIn (registerIn h) i)) []) at m n (p (omega arith)) line)
 
-  pub lines-all : (i m n : ℕ) (g : Bytes) → AppendsLines s t pages marks i b at g m → i ≤ n → n ≤ i → AppendsLines s t pages marks n b at g m
+  pub lines-all : (i m n : ℕ) (g : Bytes) → AppendsLines h marks i b at g m → i ≤ n → n ≤ i → AppendsLines h marks n b at g m
   lines-all i m n g p l f =
       let e : i ≡ n = omega (arith, l, f) in
-      subst (λ j. AppendsLines s t pages marks j b at g m) e p
+      subst (λ j. AppendsLines h marks j b at g m) e p
 
 pub ruleset line-ways = (lines-none, lines-more, lines-all)
 
--- put_list
-pub list-done : (h s : Bytes) (t props pages : List ℕ) (o : Judged) (marks out a b c after : Bytes) (count k m n r : ℕ)
-    → Opens h t props pages o → s ≡ textIn h
-    → Appends out 0 (bytes "pages ") a k → (count < 1000 → Appends a k (decimal count) b m) → Appends b m (10 ∷ []) c n → AppendsLines s t pages marks (o .pages) c n after r
-    → AppendsList h count marks out after r
-unfolding AppendsList AppendsLines
-list-done h s t props pages o marks out a b c after count k m n r O is one two three four R p few =
-    subst (λ j. Appends out 0 (bytes "pages " ++ decimal count ++ (10 ∷ []) ++ linesTo j (isMarked marks) (pageAt R)) after r) (view-count view)
-    (appends-then out c after _ (linesTo (o .pages) (isMarked marks) (pageAt R)) 0 n r
-    (appends-then out b c _ (10 ∷ []) 0 m n
-    (appends-then out a b (bytes "pages ") (decimal count) 0 k m one (two few)) three) (four R props o view (omega arith)))
+-- how many pages the bytes describe
+pages-count : (h : Bytes) → length (registerIn h .pages) ≡ pageCount h
+unfolding registerIn decode dictionaryIn
+pages-count h = length-map (tabulate (pageCount h) (pageAt h)) (decodePage (dictionaryIn h)) ∙ length-tabulate (pageCount h) (pageAt h)
+
+-- what is held is what the first bytes describe
+held-reads : (h : Bytes) (R : Register) → heldRegister h ≡ some R → registerIn (take registerSize h) ≡ R
+unfolding heldRegister
+held-reads h R e = go (isForm (take registerSize h)) e
   where
-    zero-is : o .number ≡ 0
-    zero-is = O .is R p
+    go : (b : Bool) → onlyIf b (some (registerIn (take registerSize h))) ≡ some R → registerIn (take registerSize h) ≡ R
+    go true e = cc
+    go false e = absurd (let y : _≡_ {A = ℕ} 0 1 = cc in omega arith)
 
-    held : View R (textIn h) t props pages o
-    held = record { register = Option·some-injective _ _ (sym p ∙ O .register zero-is); index = O .index zero-is; sound = accepted-sound (textIn h) R (held-by h R p .text) }
-
-    view : View R s t props pages o
-    view = subst (λ x. View R x t props pages o) (sym is) held
+-- put_list
+pub list-done : (held h marks out a b c after : Bytes) (count k m n p r : ℕ)
+    → h ≡ part held 0 registerSize → p ≡ pageCount h
+    → Appends out 0 (bytes "pages ") a k → (count < 1000 → Appends a k (decimal count) b m) → Appends b m (10 ∷ []) c n → AppendsLines h marks p c n after r
+    → AppendsList held count marks out after r
+unfolding AppendsList AppendsLines
+list-done held h marks out a b c after count k m n p r is pages one two three four R e few =
+    let reads : registerIn h ≡ R = ap registerIn is ∙ held-reads held R e in
+    let size : p ≡ length (R .pages) = pages ∙ sym (pages-count h) ∙ ap (λ (x : Register). length (x .pages)) reads in
+    let most = within R (register-rules R (held-is held R e .0) .limits) .pages in
+    let lines : Appends c n (linesTo (length (R .pages)) (isMarked marks) (pageIn R)) after r = subst (λ j. Appends c n (linesTo j (isMarked marks) (pageIn R)) after r) size (subst (λ (x : Register). Appends c n (linesTo p (isMarked marks) (pageIn x)) after r) reads (four (omega arith))) in
+    appends-then out c after _ (linesTo (length (R .pages)) (isMarked marks) (pageIn R)) 0 n r
+    (appends-then out b c _ (10 ∷ []) 0 m n
+    (appends-then out a b (bytes "pages ") (decimal count) 0 k m one (two few)) three) lines
 
 -- put_refusal
 pub refusal-done : (n : ℕ) (out a b after : Bytes) (k m r : ℕ) → Appends out 0 (bytes "refused ") a k → (n < 1000 → Appends a k (decimal n) b m) → Appends b m (10 ∷ []) after r → AppendsRefusal n out after r

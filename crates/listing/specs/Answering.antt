@@ -12,10 +12,9 @@ use Rattle.language.specs.Register.{Register}
 use Rattle.language.specs.Core.{Core}
 use Rattle.language.specs.Semantics.{run}
 use Rattle.language.specs.Calls.{coreOf}
-use Rattle.rows.specs.declared.Judged.{Judged}
-use Rattle.register.specs.Held.{heldRegister}
+use Rattle.register_form.specs.Form.{registerIn, heldRegister}
+use Rattle.register_form.specs.Opened.{pageIn}
 use Rattle.nodes.specs.Held.{heldQuery}
-use Rattle.lookup.specs.View.{pageAt, View}
 use Rattle.listing.specs.Listing.{decimal, lineOf, linesTo, listing, outcome}
 use Rattle.listing.specs.Appends.{Appends}
 
@@ -30,21 +29,19 @@ ofText R s = outcome (andThen (coreOf R s) (λ c. andThen (run c R) (λ m. accep
 abbrev pub isMarked : Bytes → ℕ → Bool
 isMarked marks i = eqb (getD marks i 0) 1
 
--- The line of a page whose byte is `mark`; the tables hold the register.
-unfoldable pub AppendsPage : Bytes → List ℕ → List ℕ → ℕ → ℕ → Bytes → ℕ → Bytes → ℕ → Type 0
-AppendsPage s t pages i mark b at after r =
-    (R : Register) (props : List ℕ) (c : Judged) → View R s t props pages c → i < c .pages → Appends b at (cond (eqb mark 1) (lineOf i (pageAt R i)) []) after r
+-- The line of the page in place i whose byte is `mark`, of the register that the bytes h describe.
+unfoldable pub AppendsPage : Bytes → ℕ → ℕ → Bytes → ℕ → Bytes → ℕ → Type 0
+AppendsPage h i mark b at after r = i < 1000 → Appends b at (cond (eqb mark 1) (lineOf i (pageIn (registerIn h) i)) []) after r
 
 -- The lines of the first n pages.
-unfoldable pub AppendsLines : Bytes → List ℕ → List ℕ → Bytes → ℕ → Bytes → ℕ → Bytes → ℕ → Type 0
-AppendsLines s t pages marks n b at after r =
-    (R : Register) (props : List ℕ) (c : Judged) → View R s t props pages c → n ≤ c .pages → Appends b at (linesTo n (isMarked marks) (pageAt R)) after r
+unfoldable pub AppendsLines : Bytes → Bytes → ℕ → Bytes → ℕ → Bytes → ℕ → Type 0
+AppendsLines h marks n b at after r = n ≤ 1000 → Appends b at (linesTo n (isMarked marks) (pageIn (registerIn h))) after r
 
 -- The list of the register in h, with a count of marked pages.
 unfoldable pub AppendsList : Bytes → ℕ → Bytes → Bytes → Bytes → ℕ → Type 0
 AppendsList h count marks b after r =
     (R : Register) → heldRegister h ≡ some R → count < 1000
-    → Appends b 0 (bytes "pages " ++ decimal count ++ (10 ∷ []) ++ linesTo (length (R .pages)) (isMarked marks) (pageAt R)) after r
+    → Appends b 0 (bytes "pages " ++ decimal count ++ (10 ∷ []) ++ linesTo (length (R .pages)) (isMarked marks) (pageIn R)) after r
 
 unfoldable pub AppendsRefusal : ℕ → Bytes → Bytes → ℕ → Type 0
 AppendsRefusal n b after r = n < 1000 → Appends b 0 (outcome (refused n)) after r

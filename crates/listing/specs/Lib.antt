@@ -1,3 +1,3 @@
-pub mod Listing
 pub mod Appends
+pub mod Listing
 pub mod Answering

@@ -1,17 +1,19 @@
 -- What asklist writes. Document 01, "The sample register and its lists".
-use Prim.Native.Nat.{ℕ, zero, suc, _+_, _/_, _%_}
+use Prim.Native.Nat.{ℕ, zero, suc, _+_, _/_, _%_, _≤_}
+use mathlib.Core.Path.{_≡_}
 use mathlib.Core.Bool.{Bool, false, cond}
 use mathlib.Core.List.{List, [], _∷_, _++_}
 use lib.Dec.{ltb}
-use lib.ListN.{length, getD}
+use lib.ListN.{length, getD, take}
 use Rattle.text.specs.Bytes.{Bytes, bytes}
 use Rattle.language.specs.Answer.{Answer, refused, accepted, andThen}
 use Rattle.language.specs.Register.{Page, Register}
 use Rattle.language.specs.RegisterText.{readRegister}
 use Rattle.language.specs.Semantics.{run}
 use Rattle.language.specs.Calls.{coreOf}
-use Rattle.lookup.specs.View.{pageAt}
-use Rattle.ask.specs.Call.{marked}
+use Rattle.register_form.specs.Opened.{pageIn}
+use Rattle.calls.specs.Calls.{marked}
+use Rattle.listing.specs.Appends.{Appends}
 
 -- A number below 1,000 in decimal: places, counts and refusals are.
 unfoldable pub decimal : ℕ → Bytes
@@ -33,7 +35,7 @@ linesTo (suc n) mark page = linesTo n mark page ++ cond (mark n) (lineOf n (page
 
 -- "First line: the word and the count."
 unfoldable pub listing : Register → List Bool → Bytes
-listing R m = bytes "pages " ++ decimal (marked m) ++ (10 ∷ []) ++ linesTo (length (R .pages)) (λ i. getD m i false) (pageAt R)
+listing R m = bytes "pages " ++ decimal (marked m) ++ (10 ∷ []) ++ linesTo (length (R .pages)) (λ i. getD m i false) (pageIn R)
 
 -- "A refusal by the earliest call is one line, `refused 18`."
 abbrev pub outcome : Answer Bytes → Bytes
@@ -44,3 +46,8 @@ outcome (accepted b) = b
 unfoldable pub asklist : Bytes → Bytes → Bytes
 asklist t s =
     outcome (andThen (readRegister t) (λ R. andThen (coreOf R s) (λ c. andThen (run c R) (λ m. accepted (listing R m)))))
+
+-- What is written into a buffer: all of it where there are 34,314 bytes, else as much as there is room for. r is the place behind.
+pub record Lists (t s before after : Bytes) (r : ℕ) : Type 0 where
+  pub appends : Appends before 0 (asklist t s) after r
+  pub whole : 34314 ≤ length before → take r after ≡ asklist t s

@@ -1,7 +1,6 @@
 // What asklist writes for a register text and a query text.
 ghost use Prim.Native.Nat.{ℕ};
-ghost use Rattle.listing.specs.Listing.{asklist};
-ghost use Rattle.listing.specs.Appends.{Appends};
+ghost use Rattle.listing.specs.Listing.{Lists};
 ghost use Rattle.listing.specs.Answering.{AnswersCore, AnswersText};
 
 pub mod pagelist; // pagelist.rt: the list of the marked pages, and a refusal
@@ -38,11 +37,14 @@ fn answer_text(held: &[u8], question: &[u8], out: &mut [u8]) -> usize
     answer_core(&core, held, out)
 }
 
+// How many bytes are enough for any answer: 256 lines of 134 bytes behind a first one of 10.
+pub const ANSWER_BYTES: usize = 34314;
+
 // Writes the answer to a query text on a register text, as far as there is room, and answers the place behind it.
 pub fn answer(text: &[u8], question: &[u8], out: &mut [u8]) -> usize
-    ensures { λ r. ⌜ Appends (now (out .entry)) 0 (asklist (now (text .entry)) (now (question .entry))) (now (out .exit)) r ⌝ }
+    ensures { λ r. ⌜ Lists (now (text .entry)) (now (question .entry)) (now (out .entry)) (now (out .exit)) r ⌝ }
 {
-    let mut held = [0u8; 32770];
+    let mut held = [0u8; 63628];
     let number = register(text, &mut held);
     if number != 0 {
         return put_refusal(out, number);

@@ -6,68 +6,50 @@ use crate::parts::put;
 use crate::parts::put_byte;
 use crate::parts::put_decimal;
 use crate::parts::put_line;
-use held::text_in;
-use lookup::article_at;
-use lookup::namespace_at;
-use register::open_register;
+use register_form::REGISTER_BYTES;
+use register_form::page_count;
+use register_view::article_at;
+use register_view::namespace_at;
+use tables::widen;
 use text::byte_at;
+use text::part;
 
 // Writes the line of the page in place i where its mark is 1.
-fn put_page(
-    out: &mut [u8],
-    at: usize,
-    s: &[u8],
-    t: &[u16],
-    pages: &[u16],
-    i: usize,
-    mark: u8,
-) -> usize
-    ensures { λ r. ⌜ AppendsPage (now (s .entry)) (now (t .entry)) (now (pages .entry)) i mark (now (out .entry)) at (now (out .exit)) r ⌝ }
+fn put_page(out: &mut [u8], at: usize, h: &[u8], i: u16, mark: u8) -> usize
+    ensures { λ r. ⌜ AppendsPage (now (h .entry)) i mark (now (out .entry)) at (now (out .exit)) r ⌝ }
 {
     if mark != 1 {
         return at;
     }
-    let namespace = namespace_at(s, t, pages, i);
-    let article = article_at(s, t, pages, i);
-    put_line(out, at, i, namespace, article)
+    let namespace = namespace_at(h, i);
+    let article = article_at(h, i);
+    put_line(out, at, widen(i), namespace, article)
 }
 
 // Writes the lines of the marked pages among the first n.
-fn put_lines(
-    out: &mut [u8],
-    at: usize,
-    s: &[u8],
-    t: &[u16],
-    pages: &[u16],
-    marks: &[u8],
-    n: usize,
-) -> usize
-    ensures { λ r. ⌜ AppendsLines (now (s .entry)) (now (t .entry)) (now (pages .entry)) (now (marks .entry)) n (now (out .entry)) at (now (out .exit)) r ⌝ }
+fn put_lines(out: &mut [u8], at: usize, h: &[u8], marks: &[u8], n: u16) -> usize
+    ensures { λ r. ⌜ AppendsLines (now (h .entry)) (now (marks .entry)) n (now (out .entry)) at (now (out .exit)) r ⌝ }
 {
     let mut to = at;
-    let mut i: usize = 0;
+    let mut i: u16 = 0;
     while i < n {
-        let mark = byte_at(marks, i);
-        to = put_page(out, to, s, t, pages, i, mark);
+        let mark = byte_at(marks, widen(i));
+        to = put_page(out, to, h, i, mark);
         i += 1;
     }
     to
 }
 
 // Writes the word, the count and the lines of the marked pages of a held register.
-pub fn put_list(out: &mut [u8], h: &[u8], count: usize, marks: &[u8]) -> usize
-    ensures { λ r. ⌜ AppendsList (now (h .entry)) count (now (marks .entry)) (now (out .entry)) (now (out .exit)) r ⌝ }
+pub fn put_list(out: &mut [u8], held: &[u8], count: usize, marks: &[u8]) -> usize
+    ensures { λ r. ⌜ AppendsList (now (held .entry)) count (now (marks .entry)) (now (out .entry)) (now (out .exit)) r ⌝ }
 {
-    let mut t = [0u16; 27500];
-    let mut props = [0u16; 5500];
-    let mut pages = [0u16; 5500];
-    let opened = open_register(h, &mut t, &mut props, &mut pages);
-    let n = opened.pages;
-    let s = text_in(h);
+    let h = part(held, 0, REGISTER_BYTES);
+    let n = page_count(h);
     let a = put(out, 0, b"pages ");
     let b = put_decimal(out, a, count);
     let c = put_byte(out, b, 10);
-    put_lines(out, c, s, &t, &pages, marks, n)
+    put_lines(out, c, h, marks, n)
 }
 
 // Writes the word and the number of a refusal.

@@ -1,6 +1,6 @@
 -- The ways through the stages of the query call.
 use Prim.Native.Nat.{ℕ, _≤_, _<_, max}
-use mathlib.Core.Path.{_≡_, refl, sym, ap, _∙_, fun-ext}
+use mathlib.Core.Path.{_≡_, refl, sym, ap, _∙_}
 use mathlib.Core.Bool.{Bool, true, false, cond}
 use mathlib.Core.List.{List, [], _∷_}
 use mathlib.Core.Option.{Option, some, none}
@@ -11,7 +11,6 @@ use lib.ListN.{length, drop}
 use Rattle.text.specs.Bytes.{Bytes, any}
 use Rattle.language.specs.Answer.{Answer, refused, accepted, numberOf, orRefuse, andThen, judge, _if_, found}
 use Rattle.language.specs.Register.{Register, Typing, kindsOf}
-use Rattle.language.specs.RegisterText.{registerOf}
 use Rattle.language.specs.RawQuery.{RawQuery, readWhole}
 use Rattle.language.specs.Surface.{Query, propertiesOf}
 use Rattle.language.specs.QueryText.{depth, longest, breaks, breaksValue, surface, checks, readText}
@@ -21,12 +20,7 @@ use Rattle.language.specs.Calls.{coreOf}
 use Rattle.slots.specs.Slots.{flat, slotsIn}
 use Rattle.reader.specs.Answers.{ReadsText}
 use Rattle.reader.specs.declared.Reading.{Reading}
-use Rattle.entries.specs.Table.{entriesIn}
-use Rattle.held.specs.Form.{textIn as registerText}
-use Rattle.rows.specs.Checks.{kindsIn}
-use Rattle.rows.specs.declared.Judged.{Judged}
-use Rattle.rows.proofs.Verdict.{kinds-rows}
-use Rattle.register.specs.Held.{heldRegister, Opens}
+use Rattle.register_form.specs.Form.{heldRegister}
 use Rattle.nodes.specs.Held.{querySize, twoAt, countIn, nodesTo, heldQuery}
 use Rattle.nodes.specs.Postfix.{post}
 use Rattle.nodes.specs.Writing.{written, twoBytes}
@@ -37,7 +31,8 @@ use Rattle.fitting.specs.Reading.{fitNumber, Fits}
 use Rattle.fitting.specs.declared.Fit.{Fit}
 use Rattle.fitting.proofs.Keeping.{accepted-keeps}
 use Rattle.fitting.proofs.Fitted.{Fitted, fitted-number, fitted-nodes}
-use Rattle.query.specs.Call.{queryCall, Stores, Queries}
+use Rattle.calls.specs.Calls.{queryCall, Stores}
+use Rattle.query.specs.Call.{Queries}
 use Rattle.query.specs.Stages.{Lays, Finishes, Answers, textCall, FitsText, coreCall, CoreIn, decided}
 use Rattle.query.proofs.Buffers.{copy-held, copy-behind}
 
@@ -176,21 +171,14 @@ module _ (s : Bytes) (Γ : Typing) where
           })
 
 -- A text fitted to a held register.
-module _ (h s b : Bytes) (t props pages : List ℕ) (r : Judged) (O : Opens h t props pages r) where
-  pub core-refused : (r .number ≡ 0 → ⊥) → CoreIn h s b b 11
+module _ (h s b : Bytes) where
+  pub core-refused : heldRegister h ≡ none → CoreIn h s b b 11
   unfolding CoreIn coreCall
-  core-refused f = go (heldRegister h) refl
-    where
-      go : (o : Option Register) → heldRegister h ≡ o → Answers (andThen (orRefuse 11 o) (λ R. coreOf R s)) b b 11
-      go none e = record { number = refl; held = λ c g. absurd (let y : _≡_ {A = ℕ} 0 1 = cc in omega arith) }
-      go (some R) e = absurd (f (O .is R e))
+  core-refused e = rw e (record { number = refl; held = λ c g. absurd (let y : _≡_ {A = ℕ} 0 1 = cc in omega arith) })
 
-  pub core-fits : (d b′ : Bytes) (n : ℕ) → r .number ≡ 0 → d ≡ registerText h → FitsText s (kindsIn d t props (r .props)) b b′ n → CoreIn h s b b′ n
-  unfolding CoreIn coreCall coreOf FitsText textCall registerOf
-  core-fits d b′ n e f F =
-      let I = O .index e in
-      let same : kindsIn (registerText h) t props (r .props) ≡ kindsOf (registerOf (entriesIn (registerText h) t (r .rows))) = fun-ext (kinds-rows (registerText h) t props pages (r .rows) (r .props) (r .pages) (I .properties) (I .places)) in
-      rw (O .register e, ← same, ← f) F
+  pub core-fits : (R : Register) (b′ : Bytes) (n : ℕ) → heldRegister h ≡ some R → FitsText s (kindsOf R) b b′ n → CoreIn h s b b′ n
+  unfolding CoreIn coreCall coreOf FitsText textCall
+  core-fits R b′ n e F = rw e F
 
 -- The buffer, by the answer.
 store-refused : (a : Answer Core) (n : ℕ) (b : Bytes) → a ≡ refused n → Stores a b b

@@ -12,7 +12,7 @@ use Rattle.language.specs.QueryText.{readText}
 use Rattle.language.specs.Core.{Core}
 use Rattle.language.specs.Elaboration.{fit}
 use Rattle.language.specs.Calls.{coreOf}
-use Rattle.register.specs.Held.{heldRegister}
+use Rattle.register_form.specs.Form.{heldRegister}
 use Rattle.nodes.specs.Held.{querySize, heldQuery}
 use Rattle.nodes.specs.Writing.{written, twoBytes}
 use Rattle.emitting.specs.Emission.{Ready}

@@ -3,10 +3,10 @@ ghost use mathlib.Core.Path.{_≡_};
 ghost use Prim.Native.Nat.{ℕ};
 ghost use Rattle.query.specs.Call.{Queries};
 ghost use Rattle.query.specs.Stages.{CoreIn, decided};
-use held::text_in;
-use register::open_register;
+use register_form::REGISTER_BYTES;
 use stages::fit_text;
 use stages::write_at;
+use text::part;
 
 mod stages; // stages.rt: from a text and kinds to the bytes of a query
 
@@ -17,17 +17,12 @@ pub const QUERY_BYTES: usize = 6148;
 fn core_in(register: &[u8], text: &[u8], scratch: &mut [u8]) -> usize
     ensures { λ r. ⌜ CoreIn (now (register .entry)) (now (text .entry)) (now (scratch .entry)) (now (scratch .exit)) r ⌝ }
 {
-    let mut rows = [0u16; 27500];
-    let mut props = [0u16; 5500];
-    let mut pages = [0u16; 5500];
-    let opened = open_register(register, &mut rows, &mut props, &mut pages);
-    let refusal = opened.number;
-    if refusal != 0 {
+    let h = part(register, 0, REGISTER_BYTES);
+    let mut places = [0u16; 2368];
+    if !register_test::open(h, &mut places) {
         return 11;
     }
-    let np = opened.props;
-    let declared = text_in(register);
-    fit_text(text, declared, &rows, &props, np, scratch)
+    fit_text(text, h, scratch)
 }
 
 // The number that the call answers, by the lowest of 11 to 19 and the length of the buffer.

@@ -1,6 +1,7 @@
 // From a text and the kinds of properties to the bytes of a held query.
 ghost use mathlib.Core.Path.{_≡_};
-ghost use Rattle.rows.specs.Checks.{kindsIn};
+ghost use Rattle.language.specs.Register.{kindsOf};
+ghost use Rattle.register_form.specs.Form.{registerIn};
 ghost use Rattle.nodes.specs.Writing.{written};
 ghost use Rattle.query.specs.Stages.{Lays, Finishes, FitsText};
 use fitting::Fit;
@@ -49,16 +50,9 @@ fn finish(fit: Fit, held: &mut [u8]) -> usize
     }
 }
 
-// The core query of a text by the kinds that a register's text declares, in the buffer's bytes; 0 or the lowest of 12 to 19.
-pub fn fit_text(
-    text: &[u8],
-    register: &[u8],
-    rows: &[u16],
-    props: &[u16],
-    np: usize,
-    held: &mut [u8],
-) -> usize
-    ensures { λ r. ⌜ FitsText (now (text .entry)) (kindsIn (now (register .entry)) (now (rows .entry)) (now (props .entry)) np) (now (held .entry)) (now (held .exit)) r ⌝ }
+// The core query of a text by the kinds that a register declares, in the buffer's bytes; 0 or the lowest of 12 to 19.
+pub fn fit_text(text: &[u8], register: &[u8], held: &mut [u8]) -> usize
+    ensures { λ r. ⌜ FitsText (now (text .entry)) (kindsOf (registerIn (now (register .entry)))) (now (held .entry)) (now (held .exit)) r ⌝ }
 {
     let mut slots = [0u16; 6144];
     let reading = read_text(text, &mut slots);
@@ -68,6 +62,6 @@ pub fn fit_text(
     }
     let count = reading.count;
     lay_text(text, held);
-    let fit = fit_slots(text, &slots, count, register, rows, props, np, held);
+    let fit = fit_slots(text, &slots, count, register, held);
     finish(fit, held)
 }

@@ -1,50 +1,68 @@
-// The held register and the register call.
-ghost use mathlib.Core.Path.{_≡_};
-ghost use mathlib.Core.Bool.{Bool};
-ghost use Prim.Native.Nat.{ℕ};
-ghost use Rattle.register.specs.Held.{Registers, Opens};
-ghost use Rattle.rows.specs.Checks.{Room};
-use held::is_form;
-use held::text_in;
-use held::write_form;
-use rows::Judged;
+// The register call: judges a register text, and writes the held register.
+ghost use Rattle.language.specs.Answer.{Answered};
+ghost use Rattle.calls.specs.Calls.{registerCall};
+ghost use Rattle.register.specs.Writing.{Writes};
+use register_draft::draft_text;
+use register_write::write_draft;
 use rows::judge;
 
-// How many bytes a held register has.
-pub const REGISTER_BYTES: usize = 32770;
+// Writes the register of an accepted text: 0, or 8 where the buffer is too short.
+fn write_text(text: &[u8], t: &[u16], n: usize, props: &[u16], np: usize, held: &mut [u8]) -> usize
+    ensures { λ r. ⌜ Writes (now (text .entry)) (now (t .entry)) (now (props .entry)) n np (now (held .entry)) r (now (held .exit)) ⌝ }
+{
+    let mut heap = [0u8; 35136];
+    let mut starts = [0u32; 2368];
+    let mut lens = [0u16; 2368];
+    let mut kinds = [0u8; 64];
+    let mut names = [0u16; 64];
+    let mut identifiers = [0u16; 256];
+    let mut firsts = [0u16; 257];
+    let mut groups = [0u8; 2048];
+    let mut codes = [0u64; 2048];
+    let c = draft_text(
+        text,
+        t,
+        n,
+        props,
+        np,
+        &mut heap,
+        &mut starts,
+        &mut lens,
+        &mut kinds,
+        &mut names,
+        &mut identifiers,
+        &mut firsts,
+        &mut groups,
+        &mut codes,
+    );
+    write_draft(
+        &heap,
+        &starts,
+        &lens,
+        c.texts,
+        &kinds,
+        &names,
+        c.properties,
+        &identifiers,
+        &firsts,
+        c.pages,
+        &groups,
+        &codes,
+        c.forms,
+        held,
+    )
+}
 
 // The register call: writes the held register of a text, or answers the number that refuses it.
 pub fn register(text: &[u8], held: &mut [u8]) -> usize
-    ensures { λ r. ⌜ Registers (now (text .entry)) (now (held .entry)) (now (held .exit)) r ⌝ }
+    ensures { λ r. ⌜ Answered (registerCall (now (text .entry)) (now (held .entry))) (now (held .entry)) r (now (held .exit)) ⌝ }
 {
     let mut t = [0u16; 27500];
     let mut props = [0u16; 5500];
     let mut pages = [0u16; 5500];
     let judged = judge(text, &mut t, &mut props, &mut pages);
-    let number = judged.number;
-    if number != 0 {
-        return number;
+    if judged.number != 0 {
+        return judged.number;
     }
-    if held.len() < 32770 {
-        return 8;
-    }
-    write_form(text, held);
-    number
-}
-
-// Whether bytes are the form of a register, whose entries are then in the tables: number 0, else not.
-pub fn open_register(h: &[u8], t: &mut [u16], props: &mut [u16], pages: &mut [u16]) -> Judged
-    ensures { λ r. ⌜ (Room (now (t .entry)) (now (props .entry)) (now (pages .entry)) → Opens (now (h .entry)) (now (t .exit)) (now (props .exit)) (now (pages .exit)) r) ⌝ }
-{
-    let text = text_in(h);
-    let judged = judge(text, t, props, pages);
-    if is_form(h, text) {
-        return judged;
-    }
-    Judged {
-        number: 1,
-        rows: 0,
-        props: 0,
-        pages: 0,
-    }
+    write_text(text, &t, judged.rows, &props, judged.props, held)
 }

@@ -13,10 +13,13 @@ use ask::ask;
 use files::Read;
 use files::read_file;
 use libc::STDOUT_FILENO;
+use query::QUERY_BYTES;
 use query::query;
-use register::open_register;
 use register::register;
+use register_form::REGISTER_BYTES;
+use register_form::page_count;
 use steps::step_at;
+use tables::widen;
 use text::part;
 
 // Writes a word, a number and the end of the line.
@@ -68,15 +71,6 @@ fn ask_step(held_query: &[u8], held_register: &[u8], room: usize) {
     }
 }
 
-// How many pages a held register has.
-fn pages_in(held: &[u8]) -> usize {
-    let mut t = [0u16; 27500];
-    let mut props = [0u16; 5500];
-    let mut pages = [0u16; 5500];
-    let opened = open_register(held, &mut t, &mut props, &mut pages);
-    opened.pages
-}
-
 // The register call, and the number of pages of what it accepts.
 fn register_step(words: &[u8], held: &mut [u8]) {
     let number = register(words, held);
@@ -84,17 +78,17 @@ fn register_step(words: &[u8], held: &mut [u8]) {
         write_line(b"register ", number);
         return;
     }
-    write_line(b"register 0 pages ", pages_in(held));
+    write_line(b"register 0 pages ", widen(page_count(held)));
 }
 
 // The register call and the query call, with buffers one byte short.
 fn register_short(words: &[u8]) -> usize {
-    let mut held = [0u8; 32769];
+    let mut held = [0u8; REGISTER_BYTES - 1];
     register(words, &mut held)
 }
 
 fn query_short(held: &[u8], words: &[u8]) -> usize {
-    let mut asked = [0u8; 6147];
+    let mut asked = [0u8; QUERY_BYTES - 1];
     query(held, words, &mut asked)
 }
 
@@ -125,8 +119,8 @@ fn perform_all(script: &[u8], held: &mut [u8], asked: &mut [u8]) {
 
 fn main() {
     let mut file = [0u8; 131072];
-    let mut held = [0u8; 32770];
-    let mut asked = [0u8; 6148];
+    let mut held = [0u8; REGISTER_BYTES];
+    let mut asked = [0u8; QUERY_BYTES];
     let read = read_file(b"script", &mut file);
     match read {
         Read::Bytes(n) => perform_all(part(&file, 0, n), &mut held, &mut asked),

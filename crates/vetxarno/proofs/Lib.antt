@@ -1,4 +1,1 @@
-pub mod Tables
-pub mod Demands
 pub mod Returned
-pub mod Nothing

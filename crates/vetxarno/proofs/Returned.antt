@@ -14,22 +14,20 @@ use mir.Val.{SFits, toZ, ofZ, hbits}
 use mir.ValLaws.{toZ-pos, toZ-ofZ}
 use Rattle.text.specs.Bytes.{Bytes}
 use Rattle.text.specs.Table.{bit}
-use Rattle.language.specs.Answer.{Answer, refused, accepted, numberOf, orRefuse, Check, andThen}
+use Rattle.language.specs.Answer.{Answer, refused, accepted, numberOf, Answered, Check}
 use Rattle.language.specs.Register.{Register}
 use Rattle.language.specs.Core.{Core}
 use Rattle.language.specs.Semantics.{selects, run}
-use Rattle.language.proofs.Registers.{accepted-sound}
-use Rattle.held.specs.Form.{textIn}
-use Rattle.register.specs.Held.{heldRegister, registerCall, Registers}
-use Rattle.register.proofs.Forms.{held-by}
-use Rattle.nodes.specs.Held.{heldQuery}
-use Rattle.query.specs.Call.{queryCall, Queries}
-use Rattle.ask.specs.Call.{askCall, marked, asked, marksIn, Asks}
+use Rattle.language.proofs.Rules.{register-rules}
+use Rattle.register_form.proofs.Forms.{held-is}
+use Rattle.register_form.proofs.Rules.{within}
+use Rattle.query.specs.Call.{Queries}
+use Rattle.ask.specs.Call.{asked, Asks}
 use Rattle.ask.specs.declared.Asked.{Asked}
-use Rattle.vetxarno.specs.Calls.{returned, RegisterCall, QueryCall, AskCall}
-use Rattle.vetxarno.specs.Demands.{lowest, rises, registerTable, queryTable, askTable}
-use Rattle.vetxarno.proofs.Tables.{refusalOf, register-refuses, register-rises, query-refuses, query-rises, ask-refuses, ask-rises, lowest-between}
-use Rattle.vetxarno.proofs.Demands.{run-is, ran}
+use Rattle.calls.specs.Calls.{registerCall, joinCall, queryCall, askCall, marked, marksIn, returned, RegisterCall, JoinCall, QueryCall, AskCall}
+use Rattle.calls.specs.Demands.{lowest, rises, registerTable, queryTable, askTable}
+use Rattle.calls.proofs.Tables.{refusalOf, register-refuses, register-rises, query-refuses, query-rises, ask-refuses, ask-rises, lowest-between, join-few}
+use Rattle.calls.proofs.First.{run-is, Ran, ran}
 
 -- a small number as 32 bits with a sign
 module _ (n : ℕ) (h : n ≤ 256) where
@@ -60,7 +58,7 @@ module _ (n : ℕ) (h : n ≤ 256) where
   count-passed z e = rw e (toZ-ofZ w32 (pos n) (record { sfits = let y : n < 2147483648 = omega (arith, h) in y }))
 
 module _ {A : Type 0} where
-  few : (table : List Check) (a : Answer A) → refusalOf a ≡ lowest table → rises 0 25 table ≡ true → numberOf a ≤ 24
+  few : (table : List Check) (a : Answer A) → refusalOf a ≡ lowest table → rises 0 25 table ≡ true → numberOf a ≤ 256
   few table (refused n) e h = let k = lowest-between 0 25 n table h (sym e) in omega (arith, k .1)
   few table (accepted a) e h = omega arith
 
@@ -68,25 +66,38 @@ module _ {A : Type 0} where
   returned-number (refused n) = refl
   returned-number (accepted a) = refl
 
-module _ (t h after : Bytes) (n : ℕ) (r : Registers t h after n) where
-  pub register-few : n ≤ 24
+module _ (t h after : Bytes) (n : ℕ) (r : Answered (registerCall t h) h n after) where
+  pub register-few : n ≤ 256
   register-few = rw (r .number) (few (registerTable t h) (registerCall t h) (register-refuses t h) (register-rises t h))
 
   pub register-call : RegisterCall t h after (negℤ (pos n))
-  register-call = record { number = ap (λ m. negℤ (pos m)) (r .number) ∙ returned-number (registerCall t h); buffer = r .buffer }
+  register-call = record { number = ap (λ m. negℤ (pos m)) (r .number) ∙ returned-number (registerCall t h); buffer = r .bytes }
 
-  pub register-returns : (z : ℤ) → (n ≤ 24 → z ≡ negℤ (pos n)) → RegisterCall t h after (toZ w32 (ofZ w32 z))
-  register-returns z e = subst (RegisterCall t h after) (sym (negative-passed n (omega (arith, register-few)) z (e register-few))) register-call
+  pub register-returns : (z : ℤ) → (n ≤ 256 → z ≡ negℤ (pos n)) → RegisterCall t h after (toZ w32 (ofZ w32 z))
+  register-returns z e = subst (RegisterCall t h after) (sym (negative-passed n register-few z (e register-few))) register-call
+
+module _ (h k b after : Bytes) (n : ℕ) (r : Answered (joinCall h k b) b n after) where
+  pub joins-few : n ≤ 256
+  joins-few = rw (r .number) (go (joinCall h k b) refl)
+    where
+      go : (a : Answer Bytes) → joinCall h k b ≡ a → numberOf a ≤ 256
+      go (refused m) e = omega (arith, join-few h k b m e .1)
+      go (accepted x) e = omega arith
+
+  pub join-returns : (z : ℤ) → (n ≤ 256 → z ≡ negℤ (pos n)) → JoinCall h k b after (toZ w32 (ofZ w32 z))
+  join-returns z e =
+      subst (JoinCall h k b after) (sym (negative-passed n joins-few z (e joins-few)))
+      (record { number = ap (λ m. negℤ (pos m)) (r .number) ∙ returned-number (joinCall h k b); buffer = r .bytes })
 
 module _ (h s b after : Bytes) (n : ℕ) (r : Queries h s b after n) where
-  pub query-few : n ≤ 24
+  pub query-few : n ≤ 256
   query-few = rw (r .number) (few (queryTable h s b) (queryCall h s b) (query-refuses h s b) (query-rises h s b))
 
   pub query-call : QueryCall h s b after (negℤ (pos n))
   query-call = record { number = ap (λ m. negℤ (pos m)) (r .number) ∙ returned-number (queryCall h s b); buffer = r .buffer }
 
-  pub query-returns : (z : ℤ) → (n ≤ 24 → z ≡ negℤ (pos n)) → QueryCall h s b after (toZ w32 (ofZ w32 z))
-  query-returns z e = subst (QueryCall h s b after) (sym (negative-passed n (omega (arith, query-few)) z (e query-few))) query-call
+  pub query-returns : (z : ℤ) → (n ≤ 256 → z ≡ negℤ (pos n)) → QueryCall h s b after (toZ w32 (ofZ w32 z))
+  query-returns z e = subst (QueryCall h s b after) (sym (negative-passed n query-few z (e query-few))) query-call
 
 -- no more pages are marked than there are
 marked-few : (l : List Bool) → marked l ≤ length l
@@ -96,18 +107,13 @@ marked-few (true ∷ l) = let y = marked-few l in omega (arith, y)
 marked-few (false ∷ l) = let y = marked-few l in omega (arith, y)
 
 asked-few : (q h b : Bytes) (m : List Bool) → askCall q h b ≡ accepted m → marked m ≤ 256
-unfolding askCall
-asked-few q h b m e = go (heldQuery q) (heldRegister h) refl e
-  where
-    go : (o : Option Core) (w : Option Register) → heldRegister h ≡ w → andThen (orRefuse 21 o) (λ c. andThen (orRefuse 22 w) (λ R. andThen (run c R) (λ l. cond (ltb (length b) (length (R .pages))) (refused 24) (accepted l)))) ≡ accepted m → marked m ≤ 256
-    go none w p e = absurd (let y : _≡_ {A = ℕ} 0 1 = cc in omega arith)
-    go (some c) none p e = absurd (let y : _≡_ {A = ℕ} 0 1 = cc in omega arith)
-    go (some c) (some W) p e =
-        let is : m ≡ map (selects c W) (W .pages) = run-is c W m (ran (ltb (length b) (length (W .pages))) (run c W) m e) .1 in
-        let long : length m ≡ length (W .pages) = ap length is ∙ length-map (W .pages) (selects c W) in
-        let few = accepted-sound (textIn h) W (held-by h W p .text) .fewPages in
-        let y = marked-few m in
-        omega (arith, y, long, few)
+asked-few q h b m e =
+    let r = ran q h b m e in
+    let is : m ≡ map (selects (r .core) (r .register)) (r .register .pages) = run-is (r .core) (r .register) m (r .runs) .1 in
+    let long : length m ≡ length (r .register .pages) = ap length is ∙ length-map (r .register .pages) (selects (r .core) (r .register)) in
+    let few = within (r .register) (register-rules (r .register) (held-is h (r .register) (r .holds) .0) .limits) .pages in
+    let y = marked-few m in
+    omega (arith, y, long, few)
 
 -- the enum's cases differ, and each holds its number
 held : Asked → ℕ
@@ -136,12 +142,12 @@ module _ (q h b after : Bytes) (a : Asked) (r : Asks q h b after a) where
       go (accepted l) p = (l, refl, sym (ap held p))
 
   module _ (n : ℕ) where
-    pub refusal-few : a ≡ Asked.Refused n → n ≤ 24
+    pub refusal-few : a ≡ Asked.Refused n → n ≤ 256
     refusal-few e = let k = few (askTable q h b) (askCall q h b) (ask-refuses q h b) (ask-rises q h b) in let i = ap numberOf (refused-by n e) in omega (arith, k, i)
 
-    pub refusal-returns : a ≡ Asked.Refused n → (z : ℤ) → (n ≤ 24 → z ≡ negℤ (pos n)) → AskCall q h b after (toZ w32 (ofZ w32 z))
+    pub refusal-returns : a ≡ Asked.Refused n → (z : ℤ) → (n ≤ 256 → z ≡ negℤ (pos n)) → AskCall q h b after (toZ w32 (ofZ w32 z))
     refusal-returns e z p =
-        record { number = negative-passed n (omega (arith, refusal-few e)) z (p (refusal-few e)) ∙ ap (returned marked) (sym (refused-by n e)); buffer = r .buffer }
+        record { number = negative-passed n (refusal-few e) z (p (refusal-few e)) ∙ ap (returned marked) (sym (refused-by n e)); buffer = r .buffer }
 
     pub marks-few : a ≡ Asked.Marked n → n ≤ 256
     marks-few e = let k = marked-by n e in rw (k .2) (asked-few q h b (k .0) (k .1))

@@ -1,8 +1,8 @@
-// The three calls for C. A slice is a pointer and a length there; include/vetxarno.h has the prototypes.
+// The calls for C. A slice is a pointer and a length there; include/vetxarno.h has the prototypes.
 ghost use mathlib.Core.Path.{_≡_};
 ghost use Prim.Native.Nat.{ℕ, _≤_};
 ghost use lib.IntN.{pos, negℤ};
-ghost use Rattle.vetxarno.specs.Calls.{RegisterCall, QueryCall, AskCall};
+ghost use Rattle.calls.specs.Calls.{RegisterCall, JoinCall, QueryCall, AskCall};
 use ask::Asked;
 use ask::ask;
 
@@ -13,9 +13,9 @@ fn count_of(n: usize) -> i32
     (n % 257) as i32
 }
 
-// A number that refuses, at most 24, made negative; 0 stays.
+// A number that refuses, at most 256, made negative; 0 stays.
 fn negative(n: usize) -> i32
-    ensures { λ r. ⌜ (n ≤ 24 → r ≡ negℤ (pos n)) ⌝ }
+    ensures { λ r. ⌜ (n ≤ 256 → r ≡ negℤ (pos n)) ⌝ }
 {
     let m = (n % 257) as i32;
     0 - m
@@ -28,6 +28,15 @@ pub extern "C" fn vetxarno_register(text: &[u8], held: &mut [u8]) -> i32
 {
     let number = register::register(text, held);
     negative(number)
+}
+
+// The join call.
+#[no_mangle]
+pub extern "C" fn vetxarno_join<'a>(first: &'a [u8], second: &'a [u8], held: &mut [u8]) -> i32
+    ensures { λ r. ⌜ JoinCall (now (first .entry)) (now (second .entry)) (now (held .entry)) (now (held .exit)) r ⌝ }
+{
+    let refused = join::join(first, second, held);
+    negative(refused)
 }
 
 // The query call.

@@ -14,14 +14,17 @@ abbrev μ-loop : tie.MeasureT-loop
 capped-requires : tie.Need-capped-requires Inv-loop μ-loop
 capped-requires c κs = search needs
 
+widen-requires : tie.Need-widen-requires Inv-loop μ-loop
+widen-requires c κs = search needs
+
 returns : tie.Need-returns Inv-loop μ-loop
-returns c = no-room _ _ _ _ (c .before .capped .ensures) (c .if1 .taken)
+returns c = no-room _ _ _ _ _ (c .before .before .capped .ensures) (c .before .widen .ensures) (c .if1 .taken)
 
 loop-holds : tie.Need-loop-holds Inv-loop μ-loop
 loop-holds c = writing-none _ _ _
 
 array-read-byte-of : tie.Need-array-read-byte-of Inv-loop μ-loop
-array-read-byte-of c = omega (arith, c .before .before .before .before .capped .ensures .places)
+array-read-byte-of c = omega (arith, c .before .before .before .before .before .capped .ensures .places, c .before .before .before .before .widen .ensures)
 
 byte-of-requires : tie.Need-byte-of-requires Inv-loop μ-loop
 byte-of-requires c κs = search needs
@@ -42,7 +45,7 @@ same-length : tie.Need-same-length Inv-loop μ-loop
 same-length c = c .before .loop .inv .size
 
 returns-2 : tie.Need-returns-2 Inv-loop μ-loop
-returns-2 c = writing-all _ _ _ _ _ (c .before .loop .inv) _ (c .before .before .before .before .capped .ensures) (c .loop-test .left)
+returns-2 c = writing-all _ _ _ _ _ (c .before .loop .inv) _ _ (c .before .before .before .before .before .capped .ensures) (c .before .before .before .before .widen .ensures) (c .loop-test .left)
 
 pub write-marks-spec : {M : Type 1} → statement M
 write-marks-spec =
@@ -51,6 +54,7 @@ write-marks-spec =
     Inv-loop
     μ-loop
     capped-requires
+    widen-requires
     returns
     loop-holds
     array-read-byte-of

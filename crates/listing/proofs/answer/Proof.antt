@@ -2,11 +2,6 @@ use Rattle.listing.proofs.Answering.{zeros-room, answer-refused, answer
 use borrow.Author.Needs.{needs}
 use Rattle.listing.proofs.answer.Statement.{statement}
 use Rattle.listing.proofs.answer.Tie as tie
-use Rattle.listing.proofs.answer.Reads as reads
-use Rattle.listing.proofs.answer.Lts as lts
-use Rattle.listing.proofs.answer_text.Reads as answer-text-reads
-use Rattle.listing.proofs.pagelist.put_refusal.Reads as put-refusal-reads
-use Rattle.register.proofs.register.Reads as register-reads
 
 slice-aggregate-register : tie.Need-slice-aggregate-register
 slice-aggregate-register c = search needs
@@ -21,7 +16,7 @@ same-length : tie.Need-same-length
 same-length c = search needs
 
 returns : tie.Need-returns
-returns c = answer-refused _ _ _ _ _ (zeros-room 32770) (c .before .before .before .before .before .before .register .ensures) _ _ _ (c .before .before .before .before .if1 .taken) (c .before .before .put-refusal .ensures)
+returns c = answer-refused _ _ _ _ _ (zeros-room 63628) (c .before .before .before .before .before .before .register .ensures) _ _ _ (c .before .before .before .before .if1 .taken) (c .before .before .put-refusal .ensures)
 
 slice-aggregate-answer-text : tie.Need-slice-aggregate-answer-text
 slice-aggregate-answer-text c = search needs
@@ -33,7 +28,7 @@ same-length-2 : tie.Need-same-length-2
 same-length-2 c = search needs
 
 returns-2 : tie.Need-returns-2
-returns-2 c = answer-held _ _ _ _ _ (zeros-room 32770) (c .before .before .before .before .before .before .before .register .ensures) _ _ _ (c .before .before .before .before .before .if1 .left) (c .before .before .answer-text .ensures)
+returns-2 c = answer-held _ _ _ _ _ (zeros-room 63628) (c .before .before .before .before .before .before .before .register .ensures) _ _ _ (c .before .before .before .before .before .if1 .left) (c .before .before .answer-text .ensures)
 
 pub answer-spec : {M : Type 1} → statement M
 answer-spec =

@@ -2,11 +2,6 @@ use Rattle.listing.proofs.Answering.{zeros-room, core-refused, core-mar
 use borrow.Author.Needs.{needs}
 use Rattle.listing.proofs.answer_core.Statement.{statement}
 use Rattle.listing.proofs.answer_core.Tie as tie
-use Rattle.listing.proofs.answer_core.Reads as reads
-use Rattle.listing.proofs.answer_core.Lts as lts
-use Rattle.ask.proofs.ask.Reads as ask-reads
-use Rattle.listing.proofs.pagelist.put_list.Reads as put-list-reads
-use Rattle.listing.proofs.pagelist.put_refusal.Reads as put-refusal-reads
 
 slice-aggregate-ask : tie.Need-slice-aggregate-ask
 slice-aggregate-ask c = search needs

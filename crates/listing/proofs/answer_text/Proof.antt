@@ -2,11 +2,6 @@ use Rattle.listing.proofs.Answering.{zeros-room, text-refused, text-cor
 use borrow.Author.Needs.{needs}
 use Rattle.listing.proofs.answer_text.Statement.{statement}
 use Rattle.listing.proofs.answer_text.Tie as tie
-use Rattle.listing.proofs.answer_text.Reads as reads
-use Rattle.listing.proofs.answer_text.Lts as lts
-use Rattle.listing.proofs.answer_core.Reads as answer-core-reads
-use Rattle.listing.proofs.pagelist.put_refusal.Reads as put-refusal-reads
-use Rattle.query.proofs.query.Reads as query-reads
 
 slice-aggregate-query : tie.Need-slice-aggregate-query
 slice-aggregate-query c = search needs

@@ -4,12 +4,6 @@ use lib.Seq.{length-take-le}
 use borrow.Author.Needs.{needs}
 use Rattle.vectors.proofs.ask_step.Statement.{statement}
 use Rattle.vectors.proofs.ask_step.Tie as tie
-use Rattle.vectors.proofs.ask_step.Reads as reads
-use Rattle.vectors.proofs.ask_step.Lts as lts
-use Rattle.ask.proofs.ask.Reads as ask-reads
-use Rattle.vectors.proofs.least.Reads as least-reads
-use Rattle.vectors.proofs.write_line.Reads as write-line-reads
-use Rattle.vectors.proofs.write_places.Reads as write-places-reads
 
 least-requires : tie.Need-least-requires
 least-requires c κs = search needs

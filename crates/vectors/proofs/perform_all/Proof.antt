@@ -5,11 +5,6 @@ use mathlib.Core.Path.{_≡_}
 use lib.ListN.{length}
 use Rattle.vectors.proofs.perform_all.Statement.{statement}
 use Rattle.vectors.proofs.perform_all.Tie as tie
-use Rattle.vectors.proofs.perform_all.Reads as reads
-use Rattle.vectors.proofs.perform_all.Lts as lts
-use Rattle.text.proofs.part.Reads as part-reads
-use Rattle.vectors.proofs.perform.Reads as perform-reads
-use Rattle.vectors.proofs.steps.step_at.Reads as step-at-reads
 
 abbrev Inv-loop : tie.InvT-loop
 Inv-loop script held₀ asked₀ at₀ held asked at = (length held ≡ length held₀) × (length asked ≡ length asked₀)

@@ -4,10 +4,6 @@ use mathlib.Core.Path.{_≡_}
 use lib.ListN.{length}
 use Rattle.vectors.proofs.write_places.Statement.{statement}
 use Rattle.vectors.proofs.write_places.Tie as tie
-use Rattle.vectors.proofs.write_places.Reads as reads
-use Rattle.vectors.proofs.write_places.Lts as lts
-use Rattle.io.proofs.print_decimal.Reads as print-decimal-reads
-use Rattle.io.proofs.write_all.Reads as write-all-reads
 
 abbrev Inv-loop : tie.InvT-loop
 Inv-loop count marks i₀ t5 t6 i = i ≤ length marks

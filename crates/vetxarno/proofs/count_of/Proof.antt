@@ -6,8 +6,6 @@ use lib.IntN.{pos}
 use Rattle.vetxarno.proofs.Returned.{small-is}
 use Rattle.vetxarno.proofs.count_of.Statement.{statement}
 use Rattle.vetxarno.proofs.count_of.Tie as tie
-use Rattle.vetxarno.proofs.count_of.Reads as reads
-use Rattle.vetxarno.proofs.count_of.Lts as lts
 
 cast-result : tie.Need-cast-result
 cast-result c = search needs

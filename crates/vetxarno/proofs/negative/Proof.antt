@@ -6,8 +6,6 @@ use lib.IntN.{pos, negℤ}
 use Rattle.vetxarno.proofs.Returned.{negated-fits, negated-is}
 use Rattle.vetxarno.proofs.negative.Statement.{statement}
 use Rattle.vetxarno.proofs.negative.Tie as tie
-use Rattle.vetxarno.proofs.negative.Reads as reads
-use Rattle.vetxarno.proofs.negative.Lts as lts
 
 cast-m : tie.Need-cast-m
 cast-m c = search needs

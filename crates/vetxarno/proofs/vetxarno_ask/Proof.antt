@@ -2,11 +2,6 @@ use Rattle.vetxarno.proofs.Returned.{refusal-returns, marks-return}
 use borrow.Author.Needs.{needs}
 use Rattle.vetxarno.proofs.vetxarno_ask.Statement.{statement}
 use Rattle.vetxarno.proofs.vetxarno_ask.Tie as tie
-use Rattle.vetxarno.proofs.vetxarno_ask.Reads as reads
-use Rattle.vetxarno.proofs.vetxarno_ask.Lts as lts
-use Rattle.ask.proofs.ask.Reads as ask-reads
-use Rattle.vetxarno.proofs.count_of.Reads as count-of-reads
-use Rattle.vetxarno.proofs.negative.Reads as negative-reads
 
 ask-requires : tie.Need-ask-requires
 ask-requires c κs = search needs

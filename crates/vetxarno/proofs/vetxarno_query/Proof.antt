@@ -2,10 +2,6 @@ use Rattle.vetxarno.proofs.Returned.{query-returns}
 use borrow.Author.Needs.{needs}
 use Rattle.vetxarno.proofs.vetxarno_query.Statement.{statement}
 use Rattle.vetxarno.proofs.vetxarno_query.Tie as tie
-use Rattle.vetxarno.proofs.vetxarno_query.Reads as reads
-use Rattle.vetxarno.proofs.vetxarno_query.Lts as lts
-use Rattle.query.proofs.query.Reads as query-reads
-use Rattle.vetxarno.proofs.negative.Reads as negative-reads
 
 query-requires : tie.Need-query-requires
 query-requires c κs = search needs

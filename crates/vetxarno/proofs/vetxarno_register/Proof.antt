@@ -2,10 +2,6 @@ use borrow.Author.Needs.{needs}
 use Rattle.vetxarno.proofs.Returned.{register-returns}
 use Rattle.vetxarno.proofs.vetxarno_register.Statement.{statement}
 use Rattle.vetxarno.proofs.vetxarno_register.Tie as tie
-use Rattle.vetxarno.proofs.vetxarno_register.Reads as reads
-use Rattle.vetxarno.proofs.vetxarno_register.Lts as lts
-use Rattle.register.proofs.register.Reads as register-reads
-use Rattle.vetxarno.proofs.negative.Reads as negative-reads
 
 register-requires : tie.Need-register-requires
 register-requires c κs = search needs

@@ -4,7 +4,8 @@ use native.Mathlib.Omega.{arith}
 use borrow.Author.Needs.{needs}
 use lib.ListN.{length}
 use Rattle.slots.specs.Slots.{slotsIn}
-use Rattle.rows.specs.Checks.{kindsIn}
+use Rattle.language.specs.Register.{kindsOf}
+use Rattle.register_form.specs.Form.{registerIn}
 use Rattle.emitting.specs.Emission.{Emits}
 use Rattle.emitting.specs.declared.Emitted.{Emitted}
 use Rattle.fitting.specs.Fitting.{emits}
@@ -14,11 +15,11 @@ use Rattle.fitting.proofs.slotwise.put_slots.Statement.{statement}
 use Rattle.fitting.proofs.slotwise.put_slots.Tie as tie
 
 abbrev Inv-loop : tie.InvT-loop
-Inv-loop text slots count register rows props np held₀ n₀ i₀ held n i =
-    (i ≤ count) × (length held ≡ length held₀) × Emits text (KeepsSlots text (slotsIn text slots i)) (emits (kindsIn register rows props np) (slotsIn text slots i)) held₀ 0 (Emitted.Count n) held
+Inv-loop text slots count register held₀ n₀ i₀ held n i =
+    (i ≤ count) × (length held ≡ length held₀) × Emits text (KeepsSlots text (slotsIn text slots i)) (emits (kindsOf (registerIn register)) (slotsIn text slots i)) held₀ 0 (Emitted.Count n) held
 
 abbrev μ-loop : tie.MeasureT-loop
-μ-loop text slots count register rows props np held₀ n₀ i₀ held n i = count - i
+μ-loop text slots count register held₀ n₀ i₀ held n i = count - i
 
 loop-holds : tie.Need-loop-holds Inv-loop μ-loop
 loop-holds c = (omega arith, refl, emits-none _ _ _ _)

@@ -5,17 +5,18 @@ use native.Mathlib.Omega.{arith}
 use borrow.Author.Needs.{needs}
 use Rattle.text.specs.Bytes.{any}
 use Rattle.slots.specs.Slots.{slotsIn}
-use Rattle.rows.specs.Checks.{kindsIn}
+use Rattle.language.specs.Register.{kindsOf}
+use Rattle.register_form.specs.Form.{registerIn}
 use Rattle.fitting.specs.Fitting.{slotUndeclared}
 use Rattle.fitting.proofs.Looping.{none-yet, none-more, some-here, none-all}
 use Rattle.fitting.proofs.slotwise.some_undeclared.Statement.{statement}
 use Rattle.fitting.proofs.slotwise.some_undeclared.Tie as tie
 
 abbrev Inv-loop : tie.InvT-loop
-Inv-loop text slots count register rows props np i₀ i = (i ≤ count) × (any (slotUndeclared (kindsIn register rows props np)) (slotsIn text slots i) ≡ false)
+Inv-loop text slots count register i₀ i = (i ≤ count) × (any (slotUndeclared (kindsOf (registerIn register))) (slotsIn text slots i) ≡ false)
 
 abbrev μ-loop : tie.MeasureT-loop
-μ-loop text slots count register rows props np i₀ i = count - i
+μ-loop text slots count register i₀ i = count - i
 
 loop-holds : tie.Need-loop-holds Inv-loop μ-loop
 loop-holds c = (omega arith, none-yet _ _ _)

@@ -6,19 +6,18 @@ use Rattle.listing.specs.Answering.{AppendsLines}
 use Rattle.listing.proofs.Lines.{line-ways}
 use Rattle.listing.proofs.pagelist.put_lines.Statement.{statement}
 use Rattle.listing.proofs.pagelist.put_lines.Tie as tie
-use Rattle.listing.proofs.pagelist.put_lines.Reads as reads
-use Rattle.listing.proofs.pagelist.put_lines.Lts as lts
-use Rattle.listing.proofs.pagelist.put_page.Reads as put-page-reads
-use Rattle.text.proofs.byte_at.Reads as byte-at-reads
 
 abbrev Inv-loop : tie.InvT-loop
-Inv-loop out₀ at s t pages marks n to₀ i₀ out to i = (length out ≡ length out₀) × (i ≤ n) × AppendsLines s t pages marks i out₀ at out to
+Inv-loop out₀ at h marks n to₀ i₀ out to i = (length out ≡ length out₀) × (i ≤ n) × AppendsLines h marks i out₀ at out to
 
 abbrev μ-loop : tie.MeasureT-loop
-μ-loop out₀ at s t pages marks n to₀ i₀ out to i = n - i
+μ-loop out₀ at h marks n to₀ i₀ out to i = n - i
 
 loop-holds : tie.Need-loop-holds Inv-loop μ-loop
 loop-holds c = search (line-ways, needs)
+
+widen-requires : tie.Need-widen-requires Inv-loop μ-loop
+widen-requires c κs = search (line-ways, needs)
 
 byte-at-requires : tie.Need-byte-at-requires Inv-loop μ-loop
 byte-at-requires c κs = search (line-ways, needs)
@@ -48,6 +47,7 @@ put-lines-spec =
     Inv-loop
     μ-loop
     loop-holds
+    widen-requires
     byte-at-requires
     put-page-requires
     add-i

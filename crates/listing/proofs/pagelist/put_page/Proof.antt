@@ -2,20 +2,18 @@ use Rattle.listing.proofs.Lines.{page-unmarked, page-marked}
 use borrow.Author.Needs.{needs}
 use Rattle.listing.proofs.pagelist.put_page.Statement.{statement}
 use Rattle.listing.proofs.pagelist.put_page.Tie as tie
-use Rattle.listing.proofs.pagelist.put_page.Reads as reads
-use Rattle.listing.proofs.pagelist.put_page.Lts as lts
-use Rattle.listing.proofs.parts.put_line.Reads as put-line-reads
-use Rattle.lookup.proofs.article_at.Reads as article-at-reads
-use Rattle.lookup.proofs.namespace_at.Reads as namespace-at-reads
 
 returns : tie.Need-returns
-returns c = page-unmarked _ _ _ _ _ _ _ (c .if1 .taken)
+returns c = page-unmarked _ _ _ _ _ (c .if1 .taken)
 
 namespace-at-requires : tie.Need-namespace-at-requires
 namespace-at-requires c κs = search needs
 
 article-at-requires : tie.Need-article-at-requires
 article-at-requires c κs = search needs
+
+widen-requires : tie.Need-widen-requires
+widen-requires c κs = search needs
 
 put-line-requires : tie.Need-put-line-requires
 put-line-requires c κs = search needs
@@ -24,7 +22,7 @@ same-length : tie.Need-same-length
 same-length c = search needs
 
 returns-2 : tie.Need-returns-2
-returns-2 c = page-marked _ _ _ _ _ _ _ _ _ _ _ (c .before .before .before .before .before .before .if1 .left) (c .before .before .before .before .before .namespace-at .ensures) (c .before .before .before .before .article-at .ensures) (c .before .before .put-line .ensures)
+returns-2 c = page-marked _ _ _ _ _ _ _ _ _ _ (c .before .before .before .before .before .before .before .if1 .left) (c .before .before .before .before .before .before .namespace-at .ensures) (c .before .before .before .before .before .article-at .ensures) (c .before .before .before .widen .ensures) (c .before .before .put-line .ensures)
 
 pub put-page-spec : {M : Type 1} → statement M
 put-page-spec =
@@ -33,6 +31,7 @@ put-page-spec =
     returns
     namespace-at-requires
     article-at-requires
+    widen-requires
     put-line-requires
     same-length
     returns-2)

@@ -2,11 +2,6 @@ use Rattle.listing.proofs.Lines.{refusal-done}
 use borrow.Author.Needs.{needs}
 use Rattle.listing.proofs.pagelist.put_refusal.Statement.{statement}
 use Rattle.listing.proofs.pagelist.put_refusal.Tie as tie
-use Rattle.listing.proofs.pagelist.put_refusal.Reads as reads
-use Rattle.listing.proofs.pagelist.put_refusal.Lts as lts
-use Rattle.listing.proofs.parts.put.Reads as put-reads
-use Rattle.listing.proofs.parts.put_byte.Reads as put-byte-reads
-use Rattle.listing.proofs.parts.put_decimal.Reads as put-decimal-reads
 
 slice-aggregate-put : tie.Need-slice-aggregate-put
 slice-aggregate-put c = search needs

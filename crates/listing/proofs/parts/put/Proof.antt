@@ -6,9 +6,6 @@ use Rattle.listing.specs.Appends.{Appends}
 use Rattle.listing.proofs.Appending.{append-ways}
 use Rattle.listing.proofs.parts.put.Statement.{statement}
 use Rattle.listing.proofs.parts.put.Tie as tie
-use Rattle.listing.proofs.parts.put.Reads as reads
-use Rattle.listing.proofs.parts.put.Lts as lts
-use Rattle.listing.proofs.parts.put_byte.Reads as put-byte-reads
 
 abbrev Inv-loop : tie.InvT-loop
 Inv-loop out₀ at part to₀ i₀ out to i = (length out ≡ length out₀) × Appends out₀ at (take i part) out to

@@ -2,8 +2,6 @@ use Rattle.listing.proofs.Appending.{byte-ways}
 use borrow.Author.Needs.{needs}
 use Rattle.listing.proofs.parts.put_byte.Statement.{statement}
 use Rattle.listing.proofs.parts.put_byte.Tie as tie
-use Rattle.listing.proofs.parts.put_byte.Reads as reads
-use Rattle.listing.proofs.parts.put_byte.Lts as lts
 
 returns : tie.Need-returns
 returns c = search (byte-ways, needs)

@@ -2,10 +2,6 @@ use Rattle.listing.proofs.Appending.{digits}
 use borrow.Author.Needs.{needs}
 use Rattle.listing.proofs.parts.put_decimal.Statement.{statement}
 use Rattle.listing.proofs.parts.put_decimal.Tie as tie
-use Rattle.listing.proofs.parts.put_decimal.Reads as reads
-use Rattle.listing.proofs.parts.put_decimal.Lts as lts
-use Rattle.listing.proofs.parts.digit.Reads as digit-reads
-use Rattle.listing.proofs.parts.put_byte.Reads as put-byte-reads
 
 digit-requires : tie.Need-digit-requires
 digit-requires c κs = search needs

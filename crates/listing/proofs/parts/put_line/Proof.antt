@@ -2,11 +2,6 @@ use Rattle.listing.proofs.Appending.{appends-line}
 use borrow.Author.Needs.{needs}
 use Rattle.listing.proofs.parts.put_line.Statement.{statement}
 use Rattle.listing.proofs.parts.put_line.Tie as tie
-use Rattle.listing.proofs.parts.put_line.Reads as reads
-use Rattle.listing.proofs.parts.put_line.Lts as lts
-use Rattle.listing.proofs.parts.put.Reads as put-reads
-use Rattle.listing.proofs.parts.put_byte.Reads as put-byte-reads
-use Rattle.listing.proofs.parts.put_decimal.Reads as put-decimal-reads
 
 put-decimal-requires : tie.Need-put-decimal-requires
 put-decimal-requires c κs = search needs

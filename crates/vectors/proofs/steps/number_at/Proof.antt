@@ -4,10 +4,6 @@ use mathlib.Core.Path.{_≡_}
 use lib.ListN.{length}
 use Rattle.vectors.proofs.steps.number_at.Statement.{statement}
 use Rattle.vectors.proofs.steps.number_at.Tie as tie
-use Rattle.vectors.proofs.steps.number_at.Reads as reads
-use Rattle.vectors.proofs.steps.number_at.Lts as lts
-use Rattle.text.proofs.byte_at.Reads as byte-at-reads
-use Rattle.vectors.proofs.steps.wide.Reads as wide-reads
 
 abbrev Inv-loop : tie.InvT-loop
 Inv-loop s at value₀ i₀ value i = (value ≤ 1000254) × (at ≤ i)

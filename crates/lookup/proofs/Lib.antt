@@ -1,4 +1,0 @@
-pub mod View
-pub mod Asking
-pub mod Places
-pub mod Leading
