@@ -174,6 +174,51 @@ def second_text(rng, kinds, first):
     return register_text(rng, other)
 
 
+def dealt(rng, things):
+    """Each thing in the first list, in the second, or in both."""
+    lists = [], []
+    for thing in things:
+        which = rng.choice([(0,)] * 4 + [(1,)] * 4 + [(0, 1)])
+        for one in which:
+            lists[one].append(thing)
+    return lists
+
+
+def with_forms(names, forms):
+    """Pages of these names, each with those of the (name, form) that are its own."""
+    return [[b'', name, [one for owner, one in forms if owner == name]] for name in names]
+
+
+def filling(rng, size):
+    """Categories of that many bytes together, all different."""
+    names = []
+    while size > 0:
+        length = size if size <= 64 else min(rng.randint(16, 64), size - 8)
+        names.append((b'z%04d' % len(names)).ljust(length, b'y')[:length])
+        size -= length
+    return names
+
+
+def two_near_a_limit(rng, kinds):
+    """Two texts which together are near one of the limits of a join, or over it; some of what they have is in both."""
+    which, over = rng.randrange(4), rng.choice([-1, 0, 0, 1, 1, 2, 9])
+    if which == 0:
+        props = dealt(rng, [(b'p%d' % number, rng.choice(sorted(PLAIN_VALUES))) for number in range(64 + over - len(kinds))])
+        return [written(rng, {**kinds, **dict(some)}, pages(rng, kinds, rng.randint(0, 6), 4)) for some in props]
+    if which == 1:
+        return [written(rng, kinds, some) for some in dealt(rng, pages(rng, kinds, 256 + over, 2))]
+    names = [b'g%d' % number for number in range(rng.randint(1, 30))]
+    if which == 2:
+        some = [b'c%d' % number for number in range(2048 // len(names) + 1)]
+        forms = [(name, [b'cat', category]) for category in some for name in names][:2048 + over]
+    else:
+        used = sum(map(len, names)) + sum(map(len, kinds))
+        forms = [(rng.choice(names), [b'cat', name]) for name in filling(rng, 32768 + over - used)]
+    first, second = dealt(rng, forms)
+    known = {name for name, _ in second}
+    return [written(rng, kinds, with_forms(*one)) for one in ((names, first), ([name for name in names if name in known], second))]
+
+
 class Writer:
     """Writes queries that fit the kinds."""
 
@@ -260,8 +305,12 @@ def cases(seed, count):
     for number in range(count):
         rng = random.Random(f'{seed} {number}')
         kinds = some_kinds(rng)
-        first = register_text(rng, kinds)
-        yield first, query_text(rng, kinds), second_text(rng, kinds, first)
+        if rng.random() < 0.03:
+            first, second = two_near_a_limit(rng, kinds)
+        else:
+            first = register_text(rng, kinds)
+            second = second_text(rng, kinds, first)
+        yield first, query_text(rng, kinds), second
 
 
 def main(words):

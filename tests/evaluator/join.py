@@ -1,5 +1,5 @@
 """The join of two registers."""
-from register import is_too_large, page_of, register_of
+from register import limits_passed, page_of, register_of
 
 
 def have_two_kinds(first, second):
@@ -15,11 +15,16 @@ def join_page(page, second):
     return page_of(page.namespace, page.name, page.categories + other.categories, page.held + other.held)
 
 
+def all_of_both(first, second):
+    """The register of both, whether or not it is within the limits, where no property has two kinds."""
+    pages = [join_page(page, second) for page in first.pages]
+    pages += [page for page in second.pages if (page.namespace, page.name) not in first.places]
+    return register_of({**first.kinds, **second.kinds}.items(), pages)
+
+
 def join(first, second):
     """The register of both; or 32 where a property has two kinds, or 7 where the two are too large together."""
     if have_two_kinds(first, second):
         return 32
-    pages = [join_page(page, second) for page in first.pages]
-    pages += [page for page in second.pages if (page.namespace, page.name) not in first.places]
-    register = register_of({**first.kinds, **second.kinds}.items(), pages)
-    return 7 if is_too_large(register) else register
+    register = all_of_both(first, second)
+    return 7 if limits_passed(register) else register

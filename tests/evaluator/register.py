@@ -124,9 +124,11 @@ def bytes_in(register):
     return count
 
 
-def is_too_large(register):
+def limits_passed(register):
+    """Which of the four limits the register is over."""
     forms = sum(len(page.categories) + len(page.held) for page in register.pages)
-    return len(register.kinds) > 64 or len(register.pages) > 256 or forms > 2048 or bytes_in(register) > 32768
+    found = (('properties', len(register.kinds), 64), ('pages', len(register.pages), 256), ('forms', forms, 2048), ('bytes', bytes_in(register), 32768))
+    return [name for name, count, most in found if count > most]
 
 
 def is_page(page, kinds):
@@ -137,7 +139,7 @@ def is_page(page, kinds):
 def is_register(register):
     """The rules behind 3 to 6 and the limits."""
     kept = all(map(is_property_name, register.kinds)) and len(register.places) == len(register.pages)
-    return kept and all(is_page(page, register.kinds) for page in register.pages) and not is_too_large(register)
+    return kept and all(is_page(page, register.kinds) for page in register.pages) and not limits_passed(register)
 
 
 CONDITIONS = (

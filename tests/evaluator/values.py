@@ -1,5 +1,6 @@
 """Names, references, values and kinds. Bytes are `bytes`."""
 import re
+from functools import lru_cache
 
 BLANKS = b' \n'
 NUMBER = re.compile(rb'-?[0-9]{1,15}')
@@ -10,6 +11,7 @@ def trim(text):
     return text.strip(BLANKS)
 
 
+@lru_cache(10000)
 def keeps(text, barred):
     """What names and values share: 1 to 64 bytes, no control byte, none of the barred, no blank at an end."""
     allowed = all(byte >= 32 and byte != 127 and byte not in barred for byte in text)

@@ -1,59 +1,74 @@
-"""Runs the three calls from C on many cases and compares every number and mark with the separate evaluator.
+"""Runs the calls from C on many cases and compares every number, mark and form with the separate evaluator.
 
-`calls.py HOST VECTORS SEED COUNT`: the papers' examples, the vectors, forged forms, and COUNT random cases."""
+`calls.py HOST VECTORS SEED COUNT`: the papers' examples, the vectors, edges, forged forms, and COUNT random cases."""
 import json
 import os
 import random
 import subprocess
 import sys
 import tempfile
+from collections import Counter
 from multiprocessing import Pool
 
-import records  # finds the evaluator
+from records import ask_case, case, held_register, join_case, query_case, query_form_case, read_text  # finds the evaluator
 import cases
-import forms
+import counting
 import generate
+import query_form
+from damage import damaged, form_of_broken
+from form import SIZE
 from handmade import handmade, stated
+from joins import made_joins
 from query import nodes, query_call
-from records import ask_case, case, form_case, query_case
-from register import register_call
 
 CHUNK = 500
-NUMBERS = {*range(9), *range(11, 25)}
 
 
-def damaged(rng, held, end):
-    """Some bytes of a form changed, its header and first nodes more often."""
+def damaged_query(rng, held, end):
+    """Some bytes of a held query changed, its header and first nodes more often."""
     held = bytearray(held)
     for _ in range(rng.choice([1, 1, 2, 3])):
-        at = rng.choice([rng.randrange(4), rng.randrange(end), 1028 + rng.randrange(120), rng.randrange(len(held))])
+        at = rng.choice([rng.randrange(4), rng.randrange(end), query_form.NODES + rng.randrange(120), rng.randrange(len(held))])
         held[at] = rng.choice([rng.randrange(256), held[at] ^ (1 << rng.randrange(8)), rng.randrange(9), (held[at] + 1) % 256])
     return bytes(held)
 
 
-def forged(rng, first, query):
+def forged(rng, first, query, second):
     """The forms of an accepted case, then damaged ones, each with the number that its bytes deserve."""
-    register = register_call(first)[1]
+    register, other = read_text(first)[1], read_text(second)[1]
     core = query_call(register, query)[1] if register else None
     if core is None:
         return
-    held, made = forms.held_register(first), forms.held_query(core, query)
-    yield form_case(first, query)
+    held, made = held_register(first), query_form.held_query(core, query)
+    yield query_form_case(first, query)
     for _ in range(3):
-        yield ask_case(damaged(rng, made, 1028 + 20 * nodes(core)), held, 256)
-    yield ask_case(made, damaged(rng, held, len(first) + 3), 256)
-    yield query_case(damaged(rng, held, len(first) + 3), query, forms.QUERY)
+        yield ask_case(damaged_query(rng, made, query_form.NODES + query_form.NODE * nodes(core)), held, 256)
+    for bad in (damaged(rng, held), damaged(rng, held), form_of_broken(rng, register)):
+        yield ask_case(made, bad, 256)
+        yield query_case(bad, query, query_form.SIZE)
+        pair = (bad, held_register(second) if other else held)
+        yield join_case(*pair[::rng.choice([1, -1])], SIZE)
 
 
 def agrees(got, wanted):
     try:
         return wanted(got) if callable(wanted) else got == wanted
-    except (ValueError, AttributeError):  # no line, or no two forms
+    except (ValueError, TypeError):  # no line, or no form
         return False
 
 
+def numbers_in(printed):
+    """How often each call returned each number, from the host's last lines."""
+    found = Counter()
+    for words in (line.split() for line in printed if line.startswith('numbers')):
+        for word in words[2:]:
+            number, count = word.split(':')
+            found[words[1], int(number)] += int(count)
+    return found
+
+
 def run_host(host, made):
-    """How many records, what differs (one line each), and the numbers that the host has seen."""
+    """How many records, what differs (one line each), and how often each call has returned each number."""
     with tempfile.NamedTemporaryFile(delete=False) as out:
         out.write(b''.join(one[0] for one in made))
     done = subprocess.run([host, out.name], stdout=subprocess.PIPE, check=False)
@@ -64,38 +79,55 @@ def run_host(host, made):
         got = printed[at] if at < len(printed) else None
         if doubts or not agrees(got, wanted):
             bad.append(f'{content[:1]} {content[5:125]!r}: {got!r}, not {wanted!r} {doubts}')
-    ends = [line.split() for line in printed if line.startswith('numbers')]
-    if done.returncode or not ends:
+    found = numbers_in(printed)
+    if done.returncode or not found:
         bad.append(f'the host ended with {done.returncode}')
-    return len(made), bad, {int(number) for line in ends for number in line[1:]}
+    return len(made), bad, found
 
 
-def run_made(job):
+def run_stated(job):
     host, vectors = job
     with open(vectors, encoding='utf-8') as lines:
         found = [json.loads(line) for line in lines] + list(cases.cases())
-    written = [form_case(one['register'].encode('latin-1'), one['query'].encode('latin-1')) for one in found]
+    written = [query_form_case(one['register'].encode('latin-1'), one['query'].encode('latin-1')) for one in found]
     return run_host(host, [*map(stated, found), *filter(None, written), *handmade()])
 
 
+def run_joins(job):
+    return run_host(job, list(made_joins()))
+
+
 def run_drawn(job):
+    """The same, and what the drawn cases come to."""
     host, seed, count = job
-    rng, made = random.Random(seed), []
+    rng, made, events = random.Random(seed), [], Counter()
     for number, texts in enumerate(generate.cases(seed, count)):
         made.append(case(*texts, forgeries=2))
+        events += counting.drawn(texts, made[-1][1])
         if number % 4 == 0:
-            made += forged(rng, *texts[:2])
-    return run_host(host, made)
+            made += forged(rng, *texts)
+    return (*run_host(host, made), events)
+
+
+def not_reached(count, results, drawn):
+    """The numbers that no call returned, and what none of the drawn cases came to."""
+    found = sum((result[2] for result in results), Counter())
+    return counting.missing(counting.NUMBERS, found) + (counting.missing(counting.DRAWN, drawn) if count >= counting.FEWEST_CASES else [])
 
 
 def main(host, vectors, seed, count):
-    jobs = [(host, f'{seed} {start}', min(CHUNK, int(count) - start)) for start in range(0, int(count), CHUNK)]
+    count = int(count)
+    jobs = [(host, f'{seed} {start}', min(CHUNK, count - start)) for start in range(0, count, CHUNK)]
     with Pool(min(2, os.cpu_count() or 1)) as pool:
-        first = pool.apply_async(run_made, ((host, vectors),))
-        results = [*pool.imap_unordered(run_drawn, jobs), first.get()]
-    bad = [line for result in results for line in result[1]]
-    missing = NUMBERS - set().union(*(result[2] for result in results))
-    bad += [f'no case returned {number}' for number in sorted(missing)]
+        first = [pool.apply_async(run_joins, (host,)), pool.apply_async(run_stated, ((host, vectors),))]
+        results = [*pool.imap_unordered(run_drawn, jobs)]
+        drawn, calls = (sum((result[at] for result in results), Counter()) for at in (3, 2))
+        results += [one.get() for one in first]
+    bad = [line for result in results for line in result[1]] + not_reached(count, results, drawn)
+    print(f'{count:,} drawn cases came to')
+    print('\n'.join(counting.lines(drawn, counting.DRAWN)))
+    print('The calls made on them, with buffers too short and forms damaged too, returned')
+    print('\n'.join(counting.lines(calls, counting.NUMBERS)))
     for line in bad[:20]:
         print(line[:600])
     print(f'{max(0, sum(result[0] for result in results) - len(bad))} passed, {len(bad)} failed')

@@ -1,5 +1,5 @@
-/* The three calls on guarded buffers. An input lies in a block of its own size, or before a page that cannot be read, so that
- * reading past it is seen even in code that the sanitizer did not build. An output has guard bytes on both sides. */
+/* The calls on guarded buffers. Every buffer has guard bytes on both sides. An input may also lie before a page that cannot be read, or
+ * behind one, so that reading past it is seen even in code that the sanitizer did not build; then its guard is on the other side only. */
 #include <sanitizer/asan_interface.h>
 #include <stdio.h>
 #include <stdlib.h>
@@ -8,21 +8,25 @@
 #include <unistd.h>
 
 #include "calls.h"
-#include "vetxarno.h"
 
 enum { GUARD = 64, FENCED_BYTES = 1 << 16 };
 
-int fenced;
-unsigned long faults, seen[25];
+enum fence fence;
+unsigned long faults, seen[CALLS][MOST_NUMBER + 1];
 
+enum { INPUT_GUARD = 0x5B };
 static uint8_t filling = 0xA5;
+
+/* Blocks of the size of a held register are many; what is freed is kept for a while only. */
+const char *__asan_default_options(void);
+const char *__asan_default_options(void) { return "quarantine_size_mb=4"; }
 
 void fault(const char *what, long number) {
     faults++;
     printf("fault: %s (%ld) ", what, number);
 }
 
-static void stop(const char *what) {
+_Noreturn void stop(const char *what) {
     fprintf(stderr, "calls: %s\n", what);
     exit(2);
 }
@@ -30,34 +34,48 @@ static void stop(const char *what) {
 struct input {
     struct bytes source;
     uint8_t *block, *at;
+    size_t before, behind; /* guard bytes */
 };
 
-/* One region for each of a call's two inputs; the page behind it cannot be read. */
-static uint8_t *fence_end(int which) {
-    static uint8_t *ends[2];
-    if (ends[which] == NULL) {
+/* Where one of a call's two fenced inputs may lie: pages that cannot be read are before it and behind it. */
+static uint8_t *fenced_room(int which) {
+    static uint8_t *rooms[2];
+    if (rooms[which] == NULL) {
         size_t page = (size_t)sysconf(_SC_PAGESIZE);
-        uint8_t *at = mmap(NULL, FENCED_BYTES + page, PROT_READ | PROT_WRITE, MAP_PRIVATE | MAP_ANONYMOUS, -1, 0);
-        if (at == MAP_FAILED || mprotect(at + FENCED_BYTES, page, PROT_NONE) != 0) stop("no memory");
-        ends[which] = at + FENCED_BYTES;
+        uint8_t *at = mmap(NULL, FENCED_BYTES + 2 * page, PROT_NONE, MAP_PRIVATE | MAP_ANONYMOUS, -1, 0);
+        if (at == MAP_FAILED || mprotect(at + page, FENCED_BYTES, PROT_READ | PROT_WRITE) != 0) stop("no memory");
+        rooms[which] = at + page;
     }
-    return ends[which];
+    return rooms[which];
 }
 
 static struct input lend(struct bytes source, int which) {
-    struct input in = {source, NULL, NULL};
-    if (fenced && source.len > 0 && source.len <= FENCED_BYTES) {
-        in.at = fence_end(which) - source.len;
+    struct input in = {.source = source, .before = GUARD, .behind = GUARD};
+    if (fence != NO_FENCE && source.len > 0 && source.len + GUARD <= FENCED_BYTES) {
+        uint8_t *room = fenced_room(which);
+        if (fence == FENCE_BEHIND) in.at = room + FENCED_BYTES - source.len, in.behind = 0;
+        else in.at = room, in.before = 0;
     } else {
-        in.at = in.block = malloc(source.len ? source.len : 1);
+        in.block = malloc(source.len + 2 * GUARD);
         if (in.block == NULL) stop("no memory");
+        in.at = in.block + GUARD;
     }
+    memset(in.at - in.before, INPUT_GUARD, in.before);
     if (source.len > 0) memcpy(in.at, source.at, source.len);
+    memset(in.at + source.len, INPUT_GUARD, in.behind);
+    ASAN_POISON_MEMORY_REGION(in.at - in.before, in.before);
+    ASAN_POISON_MEMORY_REGION(in.at + source.len, in.behind);
     return in;
 }
 
+static int is_all(const uint8_t *at, size_t len, uint8_t byte) { return len == 0 || (at[0] == byte && memcmp(at, at + 1, len - 1) == 0); }
+
 static void give_back(struct input in) {
-    if (in.source.len > 0 && memcmp(in.at, in.source.at, in.source.len) != 0) fault("an input was changed", 0);
+    size_t len = in.source.len;
+    ASAN_UNPOISON_MEMORY_REGION(in.at - in.before, in.before + len + in.behind);
+    if (len > 0 && memcmp(in.at, in.source.at, len) != 0) fault("an input was changed", 0);
+    if (!is_all(in.at - in.before, in.before, INPUT_GUARD)) fault("a byte before an input was written", 0);
+    if (!is_all(in.at + len, in.behind, INPUT_GUARD)) fault("a byte behind an input was written", 0);
     free(in.block);
 }
 
@@ -77,9 +95,7 @@ static struct output lend_output(size_t len) {
     return out;
 }
 
-static int is_filling(const uint8_t *at, size_t len) {
-    return len == 0 || (at[0] == filling && memcmp(at, at + 1, len - 1) == 0);
-}
+static int is_filling(const uint8_t *at, size_t len) { return is_all(at, len, filling); }
 
 /* Only the first `written` bytes may have changed. */
 static void check_output(struct output out, size_t written, int32_t number) {
@@ -90,10 +106,21 @@ static void check_output(struct output out, size_t written, int32_t number) {
         fault(number < 0 ? "refused, and a byte was written" : "a byte behind what is promised was written", number);
 }
 
-/* Whether a refusal has one of the call's numbers. */
-static void check_number(int32_t number, int32_t first, int32_t last) {
-    if (number >= 0) seen[0]++;
-    else if (-number >= first && -number <= last) seen[-number]++;
+static int is_between(int32_t number, int32_t first, int32_t last) { return first <= number && number <= last; }
+
+/* Whether a call may refuse with a number. */
+static int is_known(enum call call, int32_t number) {
+    switch (call) {
+    case REGISTER_CALL: return is_between(number, 1, 8);
+    case QUERY_CALL: return is_between(number, 11, 20);
+    case ASK_CALL: return is_between(number, 21, 24);
+    default: return number == 22 || number == 32 || number == 7 || number == 8;
+    }
+}
+
+static void check_number(enum call call, int32_t number) {
+    if (number >= 0) seen[call][0]++;
+    else if (is_known(call, -number)) seen[call][-number]++;
     else fault("an unknown number", number);
 }
 
@@ -112,19 +139,29 @@ int32_t register_call(struct bytes text, size_t len, uint8_t *out) {
     struct input t = lend(text, 0);
     struct output held = lend_output(len);
     int32_t number = vetxarno_register(t.at, text.len, held.at, len);
-    check_number(number, 1, 8);
+    check_number(REGISTER_CALL, number);
     give_back(t);
-    return end_form(held, VETXARNO_REGISTER_BYTES, number, out);
+    return end_form(held, HELD, number, out);
 }
 
 int32_t query_call(struct bytes held, struct bytes text, size_t len, uint8_t *out) {
     struct input h = lend(held, 0), t = lend(text, 1);
     struct output query = lend_output(len);
     int32_t number = vetxarno_query(h.at, held.len, t.at, text.len, query.at, len);
-    check_number(number, 11, 20);
+    check_number(QUERY_CALL, number);
     give_back(h);
     give_back(t);
-    return end_form(query, VETXARNO_QUERY_BYTES, number, out);
+    return end_form(query, QUERY, number, out);
+}
+
+int32_t join_call(struct bytes first, struct bytes second, size_t len, uint8_t *out) {
+    struct input a = lend(first, 0), b = lend(second, 1);
+    struct output held = lend_output(len);
+    int32_t number = vetxarno_join(a.at, first.len, b.at, second.len, held.at, len);
+    check_number(JOIN_CALL, number);
+    give_back(a);
+    give_back(b);
+    return end_form(held, HELD, number, out);
 }
 
 /* Marks are 0 and 1, one for each page, and the number returned is that of the 1s. */
@@ -141,7 +178,7 @@ int32_t ask_call(struct bytes query, struct bytes held, size_t len, long pages, 
     struct input q = lend(query, 0), h = lend(held, 1);
     struct output marks = lend_output(len);
     int32_t number = vetxarno_ask(q.at, query.len, h.at, held.len, marks.at, len);
-    check_number(number, 21, 24);
+    check_number(ASK_CALL, number);
     give_back(q);
     give_back(h);
     size_t written = number < 0 ? 0 : check_marks(marks, pages, number);

@@ -1,15 +1,16 @@
-"""Records that are made and not drawn: stated answers, edges, pairs of faults, and forms that no text gives."""
+"""Records that are made and not drawn: stated answers, edges, pairs of faults, and held queries that no text gives."""
 from itertools import permutations
 
+from records import ask_case, case, held_register, query_case, register_case  # finds the evaluator
 import cases
-import forms
+import query_form
 from core import And, Article, Existence, InNamespace, Or, Subquery
+from form import SIZE
 from query import query_call
-from records import ask_case, case, query_case, register_case
 from register import register_call
 
 SAMPLE = cases.SAMPLE.encode()
-HELD_SAMPLE = forms.held_register(SAMPLE)
+HELD_SAMPLE = held_register(SAMPLE)
 
 
 def stated(found):
@@ -27,19 +28,19 @@ def stated(found):
 
 
 def form_of(text):
-    return forms.held_query(query_call(register_call(SAMPLE)[1], text)[1], text)
+    return query_form.held_query(query_call(register_call(SAMPLE)[1], text)[1], text)
 
 
 def edges():
     """Buffer lengths, empty inputs and bytes that are no form."""
-    held, query, other = HELD_SAMPLE, form_of(b'[[Crates::>12]]'), forms.held_register(cases.STRINGS.encode())
-    for length in (0, 1, forms.HELD - 1, forms.HELD, forms.HELD + 1):
+    held, query, other = HELD_SAMPLE, form_of(b'[[Crates::>12]]'), held_register(cases.STRINGS.encode())
+    for length in (0, 1, SIZE - 1, SIZE, SIZE + 1):
         yield from (register_case(text, length) for text in (SAMPLE, b'', b'\n', b' ' * 32768, b' ' * 32769))
-    for length in (0, forms.QUERY - 1, forms.QUERY, forms.QUERY + 1):
+    for length in (0, query_form.SIZE - 1, query_form.SIZE, query_form.SIZE + 1):
         for text in (b'[[D1]]', b'', b' ' * 1025, b'[[Qty::1]]'):
-            yield from (query_case(h, text, length) for h in (held, held + b'x', held[:-1], b'', b'\xff' * forms.HELD))
-    for q in (query, query + b'x', query[:-1], b'', b'\xff' * forms.QUERY, bytes(forms.QUERY)):
-        for h in (held, held + b'x', held[:-1], b'', b'\xff' * forms.HELD, other, bytes(forms.HELD)):
+            yield from (query_case(h, text, length) for h in (held, held + b'x', held[:-1], b'', b'\xff' * SIZE))
+    for q in (query, query + b'x', query[:-1], b'', b'\xff' * query_form.SIZE, bytes(query_form.SIZE)):
+        for h in (held, held + b'x', held[:-1], b'', b'\xff' * SIZE, other, bytes(SIZE)):
             yield from (ask_case(q, h, length) for length in (0, 5, 6, 7, 300))
 
 
@@ -59,11 +60,11 @@ def fault_sets():
         for over in OVER_LIMITS:
             parts = [b'(prop "N" number)\n', *chosen(REGISTER_FAULTS, which), over]
             for text in (b''.join(parts), b''.join(reversed(parts))):
-                yield from (register_case(text + end, forms.HELD - which % 2) for end in (b'', b'(prop "A")\n', b' ' * 32769))
+                yield from (register_case(text + end, SIZE - which % 2) for end in (b'', b'(prop "A")\n', b' ' * 32769))
     for which in range(64):
         parts = [b'[[D1]]', *chosen(QUERY_FAULTS, which)]
         for text in (b''.join(parts), b' OR '.join(reversed(parts))):
-            yield from (query_case(HELD_SAMPLE, text + end, forms.QUERY - which % 2) for end in (b'', b' AND', b' ' * 1025))
+            yield from (query_case(HELD_SAMPLE, text + end, query_form.SIZE - which % 2) for end in (b'', b' AND', b' ' * 1025))
 
 
 def chains():
@@ -80,19 +81,21 @@ def by_hand():
     article, right, left, deep = Article('=', b'D1'), Article('=', b'D1'), Article('=', b'D1'), InNamespace(b'')
     for count in range(1, 258):
         if count < 9 or count > 250:
-            yield ask_case(forms.held_query(deep, text), HELD_SAMPLE, 6)
+            yield ask_case(query_form.held_query(deep, text), HELD_SAMPLE, 6)
         deep = Subquery(links[count % 2], deep)
     for count in range(128):
         right, left = And(article, right), Or(left, article)
         if count < 4 or count > 124:
-            yield from (ask_case(forms.held_query(core, text), HELD_SAMPLE, 6) for core in (right, left))
-    yield ask_case(forms.held_query(And(right.right, Subquery(links[0], Existence(links[0]))), text), HELD_SAMPLE, 6)
+            yield from (ask_case(query_form.held_query(core, text), HELD_SAMPLE, 6) for core in (right, left))
+    yield ask_case(query_form.held_query(And(right.right, Subquery(links[0], Existence(links[0]))), text), HELD_SAMPLE, 6)
+
+
+ALL_NODES = b'[[Category:Delivery]] [[!a]] OR [[Crates::12]] OR [[Chilled::no]] OR [[Lot::A7]] OR [[Brought by::<q>[[In region::+]] [[:+]]</q>]]'
 
 
 def field_edits():
     """Every byte of every node of a query with all kinds of nodes, changed to each of a few values."""
-    query = b'[[Category:Delivery]] [[!a]] OR [[Crates::12]] OR [[Chilled::no]] OR [[Lot::A7]] OR [[Brought by::<q>[[In region::+]] [[:+]]</q>]]'
-    form = form_of(query)
+    form = form_of(ALL_NODES)
     count = int.from_bytes(form[2:4], 'little')
     for at in [*range(4), *range(1028, 1028 + 20 * count)]:
         for byte in {0, 1, 2, 3, 4, 8, 255, form[at] + 1, abs(form[at] - 1)} - {form[at]}:

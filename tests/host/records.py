@@ -4,13 +4,19 @@ A made record is (bytes, line, doubts). Where the line is not fixed, it is a fun
 where the evaluator differs from itself or from what is stated."""
 import os
 import sys
+from functools import lru_cache
 
 sys.path.insert(0, os.path.join(os.path.dirname(os.path.abspath(__file__)), '..', 'evaluator'))
 
-import forms
+import query_form
 from ask import ask, direct
+from form import BYTES, FORMS, PAGES, PROPS, SIZE, STARTS, TERMS, TEXTS, decode, encode
+from join import join
 from query import query_call
 from register import register_call
+
+read_register, read_text = lru_cache(64)(decode), lru_cache(8)(register_call)
+REGIONS = (0, PROPS, PAGES, STARTS, FORMS, TERMS, TEXTS, BYTES)
 
 
 def part(content):
@@ -22,55 +28,123 @@ def record(letter, *parts):
     return letter + b''.join(map(part, parts))
 
 
+def without_zeros(content):
+    """Up to the last byte that is not 0: the same as rstrip, in a tenth of the time."""
+    return content[:(int.from_bytes(content, 'little').bit_length() + 7) // 8]
+
+
+def packed(held):
+    """A held register, or what is lent as one, without the zeros at the end of each region."""
+    out = [len(held).to_bytes(4, 'little')]
+    for start, end in zip(REGIONS, (*REGIONS[1:], len(held))):
+        content = without_zeros(held[start:end])
+        if content:
+            out.append(start.to_bytes(2, 'little') + len(content).to_bytes(2, 'little') + content)
+    return b''.join(out)
+
+
+@lru_cache(8)
+def held_register(text):
+    """The form of an accepted text."""
+    return encode(read_text(text)[1])
+
+
 def answer(number, marks):
     return [str(-number), '-'] if number else [str(sum(marks)), ''.join(map(str, marks)) or '-']
 
 
+def run(core, query, register, doubts):
+    """The words of an ask, whose marks are those of the direct meaning too."""
+    number, marks = ask(core, register)
+    if number == 0 and marks != direct(query, register):
+        doubts.append('the direct meaning differs')
+    return answer(number, marks)
+
+
+def joined(first, second):
+    """(0, the register of both) or (the refusal, None)."""
+    if first is None or second is None:
+        return 22, None
+    found = join(first, second)
+    return (found, None) if isinstance(found, int) else (0, found)
+
+
+def run_on_both(core, query, register, other, both, doubts):
+    """The query made for a join, asked of it and of the two, and the query of the first asked of it: no run has a mismatch."""
+    number, core_of_both = query_call(both, query)
+    runs = [(core_of_both, both), (core, both), (core_of_both, register), (core_of_both, other)]
+    words = [word for one, asked in runs if one for word in run(one, query, asked, doubts)]
+    if any(word.startswith('-') and word != '-' for word in words):
+        doubts.append('a run on a join is refused')
+    return [str(-number), *words]
+
+
 def case(first, query, second, forgeries=0):
-    """The three calls one after the other, and the ask on a second register too."""
-    (one, register), (two, other) = register_call(first), register_call(second)
-    words, doubts, pages = [str(-one), str(-two)], [], [len(r.pages) if r else 0 for r in (register, other)]
+    """The calls one after the other: the query asked of both registers, then made for their join and asked of that."""
+    (one, register), (two, other) = read_text(first), read_text(second)
+    words, doubts = [str(-one), str(-two)], []
     number, core = query_call(register, query) if register else (None, None)
     if register:
         words.append(str(-number))
     for run_on in (register, other):
         if core and run_on:
-            run, marks = ask(core, run_on)
-            words += answer(run, marks)
-            if run == 0 and marks != direct(query, run_on):
-                doubts.append('the direct meaning differs')
-    return record(b'C', first, query, second, *pages, forgeries), ' '.join(words), doubts
+            words += run(core, query, run_on, doubts)
+    refusal, both = joined(register, other)
+    if register and other:
+        words += ['join', str(-refusal)]
+    if both:
+        words += run_on_both(core, query, register, other, both, doubts)
+    forms = [packed(held_register(text)) if found else b'' for text, found in ((first, register), (second, other))]
+    forms.append(packed(encode(both)) if both else b'')
+    pages = [len(one.pages) if one else 0 for one in (register, other, both)]
+    return record(b'C', first, query, second, *forms, *pages, forgeries), ' '.join(words), doubts
 
 
 def ask_case(held_query, held_register, length):
     """An ask on any bytes, with the number that docs/LAYOUT.md and the table give."""
-    core, register = forms.read_query(held_query), forms.read_register(held_register)
+    core, register = query_form.read_query(held_query), read_register(held_register)
     number, marks = ask(core, register)
     pages = len(register.pages) if register else 0
     if number == 0 and length < pages:
         number, marks = 24, None
-    return record(b'A', held_query, held_register, length, pages), ' ' + ' '.join(answer(number, marks)), []
+    return record(b'A', held_query, packed(held_register), length, pages), ' ' + ' '.join(answer(number, marks)), []
 
 
 def query_case(held_register, text, length):
-    number, _ = query_call(forms.read_register(held_register), text)
-    number = number or (20 if length < forms.QUERY else 0)
-    return record(b'Q', held_register, text, length), str(-number), []
+    number, _ = query_call(read_register(held_register), text)
+    number = number or (20 if length < query_form.SIZE else 0)
+    return record(b'Q', packed(held_register), text, length), str(-number), []
 
 
 def register_case(text, length):
-    number = register_call(text)[0] or (8 if length < forms.HELD else 0)
+    number = read_text(text)[0] or (8 if length < SIZE else 0)
     return record(b'R', text, length), str(-number), []
 
 
-def form_case(first, query):
-    """The forms that the calls write: the register's text, and the core query meant, node for node. None for a refused case."""
-    register = register_call(first)[1]
+def join_case(first, second, length):
+    """A join of any bytes."""
+    number, both = joined(read_register(first), read_register(second))
+    number = number or (8 if length < SIZE else 0)
+    return record(b'J', packed(first), packed(second), length, b'' if number else packed(encode(both))), str(-number), []
+
+
+def edit_case(held_query, text, held, edits):
+    """Each of the edits (where, byte, whether all calls are made on a form of nothing too) made on a held register."""
+    core, words = query_form.read_query(held_query), []
+    for at, byte, thorough in edits:
+        register = decode(held[:at] + bytes([byte]) + held[at + 1:]) if thorough else None
+        if register:
+            words += [f'{at}:{byte}', *answer(*ask(core, register)), str(-query_call(register, text)[0]), '0', '0']
+    content = b''.join(at.to_bytes(2, 'little') + bytes([byte, thorough]) for at, byte, thorough in edits)
+    return record(b'D', held_query, text, packed(held), content), ''.join(' ' + word for word in words), []
+
+
+def query_form_case(first, query):
+    """The held query that the calls write: it reads as the core query meant, node for node. None for a refused case."""
+    register = read_text(first)[1]
     core = query_call(register, query)[1] if register else None
 
     def reads_back(line):
-        held, made = (bytes.fromhex(word) for word in line.split(' ')[1:])
-        read = forms.read_query(made.ljust(forms.QUERY, b'\0'))
-        return held.ljust(forms.HELD, b'\0') == forms.held_register(first) and repr(read) == repr(core)
+        return repr(query_form.read_query(bytes.fromhex(line).ljust(query_form.SIZE, b'\0'))) == repr(core)
 
     return (record(b'F', first, query), reads_back, []) if core else None

@@ -1,14 +1,9 @@
-"""Held forms by docs/LAYOUT.md: written from what the evaluator knows, and read back by its rules."""
-import os
-import sys
-
-sys.path.insert(0, os.path.join(os.path.dirname(os.path.abspath(__file__)), '..', 'evaluator'))
-
+"""Held queries by docs/LAYOUT.md: written from a core query, and read back by the rules."""
 from core import And, Article, Category, Existence, InNamespace, Or, Subquery, Value
-from register import register_call
 from values import is_name, is_namespace, is_property_name, is_value
 
-HELD, QUERY, TEXT, NODE = 32770, 6148, 1024, 20
+SIZE, TEXT, NODE = 6148, 1024, 20
+NODES = 4 + TEXT  # where the nodes begin
 BIAS = 10 ** 15
 COMPARATORS = ['=', '!=', '>', '<']
 KINDS = [b'number', b'boolean', b'string']
@@ -16,18 +11,6 @@ KINDS = [b'number', b'boolean', b'string']
 
 def two(number):
     return number.to_bytes(2, 'little')
-
-
-def held_register(text):
-    return (two(len(text)) + text).ljust(HELD, b'\0')
-
-
-def read_register(held):
-    """The register that bytes hold, or None."""
-    length = int.from_bytes(held[:2], 'little')
-    if len(held) < HELD or held[:HELD] != held_register(held[2:2 + length])[:HELD]:
-        return None
-    return register_call(held[2:2 + length])[1]
 
 
 def postfix(core):
@@ -67,7 +50,7 @@ def node_bytes(node, text):
 def held_query(core, text):
     """The form of a core query whose strings all stand in the text."""
     nodes = [node_bytes(node, text) for node in postfix(core)]
-    return (two(len(text)) + two(len(nodes)) + text.ljust(TEXT, b'\0') + b''.join(nodes)).ljust(QUERY, b'\0')
+    return (two(len(text)) + two(len(nodes)) + text.ljust(TEXT, b'\0') + b''.join(nodes)).ljust(SIZE, b'\0')
 
 
 def kept(rule, text):
@@ -113,10 +96,10 @@ def put_node(stack, slot, first, second):
 def read_query(held):
     """The core query that bytes hold, or None."""
     length, count = (int.from_bytes(held[at:at + 2], 'little') for at in (0, 2))
-    if len(held) < QUERY or length > TEXT or not 1 <= count <= 256:
+    if len(held) < SIZE or length > TEXT or not 1 <= count <= 256:
         return None
     text, stack = held[4:4 + length], []
-    for at in range(4 + TEXT, 4 + TEXT + NODE * count, NODE):
+    for at in range(NODES, NODES + NODE * count, NODE):
         slot = held[at:at + NODE]
         starts = [int.from_bytes(slot[k:k + 2], 'little') for k in (4, 6, 8, 10)]
         try:

@@ -1,0 +1,84 @@
+"""Forms that are changed, and forms of what is no register."""
+from form import BYTES, FORMS, PAGES, PROPS, SIZE, STARTS, TERMS, TEXTS, encode
+from register import page_of, register_of
+
+ROWS = ((PROPS, 3, 0), (PAGES, 2, 2), (STARTS, 2, 2), (FORMS, 2, None), (TERMS, 9, 4), (TEXTS, 2, 6))  # where, size, where the count is
+BAD_NAMES = [b'', b'a:b', b'a ', b' a', b'!a', b'~a', b'+', b'a_b', b'a"', b'\x7f', b'n' * 65, b'a\0', b'a\n', b'a]', b'a|']
+BAD_STRINGS = [b'', b' x', b'x ', b'~x', b'x"', b'<', b'>', b'[', b'\x1f', b'x' * 65, b'x\n']
+
+
+def count_at(held, at):
+    return int.from_bytes(held[at:at + 2], 'little')
+
+
+def some_place(rng, held):
+    """A byte of the form, those that hold something more often."""
+    at, size, count = rng.choice(ROWS)
+    rows = count_at(held, count) if count is not None else count_at(held, STARTS + 2 * count_at(held, 2))
+    end = count_at(held, TEXTS + 2 * min(2368, count_at(held, 6)))
+    return min(SIZE - 1, rng.choice([
+        rng.randrange(8), at + rng.randrange(size * rows + size), at + rng.randrange(size * rows + 2 * size), BYTES + rng.randrange(end + 2),
+        rng.randrange(SIZE)]))
+
+
+def with_bytes_changed(rng, held):
+    held = bytearray(held)
+    for _ in range(rng.choice([1, 1, 1, 2, 3])):
+        at = some_place(rng, held)
+        held[at] = rng.choice([rng.randrange(256), held[at] ^ (1 << rng.randrange(8)), (held[at] + 1) % 256, (held[at] - 1) % 256])
+    return bytes(held)
+
+
+def with_rows_moved(rng, held):
+    """Two rows of a region changed for each other, or one copied over another, or one taken out."""
+    at, size, count = rng.choice(ROWS)
+    rows = count_at(held, count) if count is not None else count_at(held, STARTS + 2 * count_at(held, 2))
+    if rows < 2:
+        return with_bytes_changed(rng, held)
+    held, (one, other) = bytearray(held), (at + size * row for row in rng.sample(range(rows), 2))
+    first, second = held[one:one + size], held[other:other + size]
+    way = rng.randrange(3)
+    held[one:one + size] = second
+    if way == 0:
+        held[other:other + size] = first
+    if way == 2 and count is not None:
+        held[one:at + size * rows] = held[one + size:at + size * rows] + bytes(size)
+        held[count:count + 2] = (rows - 1).to_bytes(2, 'little')
+    return bytes(held)
+
+
+def damaged(rng, held):
+    way = rng.random()
+    if way < 0.02:
+        return rng.choice([held[:-1], b'', bytes(SIZE), b'\xff' * SIZE, held + b'x', held[:rng.randrange(SIZE)]])
+    return with_bytes_changed(rng, held) if way < 0.7 else with_rows_moved(rng, held)
+
+
+def broken(rng, register):
+    """A register that breaks one rule, or seems to."""
+    props, pages = list(register.kinds.items()), [list(page[:4]) for page in register.pages] or [[b'', b'a', [], []]]
+    way, page = rng.randrange(9), rng.choice(pages)
+    if way == 0:
+        props.append((rng.choice([*BAD_NAMES, b'a.b', b'new']), b'string'))
+    elif way == 1:
+        page[0] = rng.choice([*BAD_NAMES[1:], b'a.b', b'n' * 64])
+    elif way == 2:
+        page[1] = rng.choice([*BAD_NAMES, b'a.b', b'n' * 64])
+    elif way == 3:
+        page[2] = page[2] + [rng.choice([*BAD_NAMES, b'a.b'])]
+    else:
+        prop, value = [
+            (b'new S', (b'string', rng.choice([*BAD_STRINGS, b'a:b', b'a.b', b'+', b'!']))),
+            (b'new N', (b'number', rng.choice([10 ** 15, -10 ** 15, 10 ** 15 - 1, 1 - 10 ** 15, 0]))),
+            (b'new L', (b'page', (rng.choice([*BAD_NAMES, b'n' * 31, b'n' * 32, b'a.b']), b'm' * 32))),
+            (b'new L', (b'page', (rng.choice([b'', b'T']), rng.choice([*BAD_NAMES, b'n' * 64, b'n' * 62, b'n' * 63])))),
+            (b'new B', (b'boolean', True)),
+        ][way - 4]
+        props, page[3] = [*props, (prop, value[0])], [*page[3], (prop, value)]
+    return register_of(props, [page_of(*one) for one in pages])
+
+
+def form_of_broken(rng, register):
+    """The form that a register would have if it were one, where it fits."""
+    held = encode(broken(rng, register))
+    return held if len(held) == SIZE else held[:SIZE]

@@ -1,0 +1,128 @@
+"""Compares the plain implementation in bench/ with the separate evaluator: `compare.py LIBRARY SEED COUNT`.
+
+Registers: numbers and forms. Queries and asks: numbers, core queries and marks. Joins: numbers and forms. Damaged forms: whether they
+are forms."""
+import random
+import sys
+
+from library import Library  # finds the evaluator
+import cases
+import generate
+import query_form
+from ask import ask
+from damage import damaged, form_of_broken
+from form import SIZE, decode, encode
+from forms_test import Tally, sized
+from join import join
+from odd_forms import odd_forms
+from query import query_call
+from register import page_of, register_call, register_of
+
+
+def compare_register(tally, library, text):
+    """The register and its form, None where the text is refused."""
+    number, register = register_call(text)
+    held = encode(register) if number == 0 else None
+    tally.want(f'register {text[:100]}', library.register(text, SIZE + len(text) % 3) == (number, held))
+    tally.want(f'register, short {text[:100]}', library.register(text, SIZE - 1) == (number or 8, None))
+    return register, held
+
+
+def compare_query(tally, library, register, held, text):
+    """The core query and its form."""
+    number, core = query_call(register, text)
+    found, made = library.query(held, text)
+    tally.want(f'query {text[:100]}', found == number and (number > 0 or repr(query_form.read_query(made)) == repr(core)))
+    tally.want(f'query, short {text[:100]}', library.query(held, text, query_form.SIZE - 1) == (number or 20, None))
+    return core, made
+
+
+def compare_ask(tally, library, core, made, register, held, label):
+    number, marks = ask(core, register)
+    pages = len(register.pages)
+    count, wanted = (-number, None) if number else (sum(marks), marks)
+    tally.want(f'ask {label}', library.ask(made, held, pages) == (number, count, wanted))
+    if pages > 0:
+        tally.want(f'ask, short {label}', library.ask(made, held, pages, pages - 1)[0] == (number or 24))
+
+
+def compare_join(tally, library, first, second, label):
+    """Takes registers; compares the join both ways."""
+    forms_of = encode(first), encode(second)
+    for registers, held in (((first, second), forms_of), ((second, first), forms_of[::-1])):
+        found = join(*registers)
+        wanted = (found, None) if isinstance(found, int) else (0, encode(found))
+        tally.want(f'join {label}', library.join(*held) == wanted)
+        tally.want(f'join, short {label}', library.join(*held, SIZE - 1) == (wanted[0] or 8, None))
+
+
+def compare_form(tally, library, held, other, label):
+    """A form that is perhaps none, alone and in each call."""
+    register = decode(held)
+    tally.want(f'form {label}', library.is_register(held) == (register is not None))
+    if register is not None:
+        tally.want(f'joined {label}', library.join(held, bytes(SIZE)) == (0, encode(register)))
+    else:
+        tally.want(f'11 {label}', library.query(held, b'')[0] == 11)
+        tally.want(f'22 {label}', library.join(held, other)[0] == 22 and library.join(other, held)[0] == 22)
+
+
+def compare_case(tally, library, rng, texts, damages, label):
+    first, query, second = texts
+    (one, held_one), (two, held_two) = (compare_register(tally, library, text) for text in (first, second))
+    core, made = compare_query(tally, library, one, held_one, query) if one else (None, None)
+    for register, held in ((one, held_one), (two, held_two)):
+        if core and register:
+            compare_ask(tally, library, core, made, register, held, f'{label} {query[:100]}')
+    if one and two:
+        compare_join(tally, library, one, two, label)
+        for number in range(damages):
+            compare_form(tally, library, damaged(rng, held_one), held_two, f'{label} damage {number}')
+        compare_form(tally, library, form_of_broken(rng, one), held_two, f'{label} broken')
+    if core and two:
+        bad = damaged(rng, held_two)
+        wanted = ask(core, decode(bad))[0]
+        tally.want(f'22 {label}', wanted == 0 or library.ask(made, bad, 0)[0] == wanted)
+
+
+def edges(tally, library):
+    """Forms that are written by hand, limits of a join and of a form, and registers that no text gives."""
+    for label, is_form, held in odd_forms():
+        tally.want(f'{label} is stated', library.is_register(held) == is_form)
+        compare_form(tally, library, held, bytes(SIZE), label)
+    for name, one, most in (('props', 40, 64), ('pages', 200, 256), ('forms', 1500, 2048)):
+        for end in (most, most + 1):
+            compare_join(tally, library, sized(**{name: range(one)}), sized(**{name: range(one, end)}), f'{name} {end}')
+    categories = [b'c%d' % number for number in range(1024)]
+    for count in (1023, 1024):
+        first, second = (register_of([], [page_of(b'', name, some, [])]) for name, some in ((b'a', categories + [b'd']), (b'b', categories[:count])))
+        compare_join(tally, library, first, second, f'forms by few terms {count}')
+    clash = register_of([(b'p1', b'number')], [])
+    compare_join(tally, library, sized(props=range(64)), clash, '32')
+    compare_join(tally, library, sized(props=range(63)), register_of([(b'p1', b'number'), (b'q', b'page'), (b'r', b'page')], []), '32 and 7')
+    for size in (32767, 32768, 32769, 33000):
+        held = encode(sized(size=size))
+        compare_form(tally, library, held, bytes(SIZE), f'{size} bytes')
+    for size in (16000, 32768 - 2 - 5, 32769 - 2 - 5):
+        second = register_of([(b'B', b'boolean')], [page_of(b'', b'g0', [], [(b'B', (b'boolean', False))]), page_of(b'', b'h', [], [])])
+        compare_join(tally, library, sized(size=size), second, f'{size} bytes')
+
+
+def main(path, seed, count):
+    tally, library = Tally(), Library(path)
+    edges(tally, library)
+    for number, case in enumerate(cases.cases()):
+        rng = random.Random(f'{seed} cases {number}')
+        texts = [case.get(name, '').encode('latin-1') for name in ('register', 'query', 'second')]
+        compare_case(tally, library, rng, texts, 4, f'case {number}')
+    for number, texts in enumerate(generate.cases(f'plain {seed}', int(count))):
+        compare_case(tally, library, random.Random(f'{seed} {number}'), texts, 4, f'{seed} {number}')
+    for line in library.faults[:20]:
+        print(line)
+    failed = tally.failed + len(library.faults)
+    print(f'{tally.passed} passed, {failed} failed')
+    return failed
+
+
+if __name__ == '__main__':
+    sys.exit(main(*sys.argv[1:]) > 0)
