@@ -5,7 +5,7 @@
 #include <string.h>
 
 #include "bench.h"
-#include "plain_parts.h"
+#include "plain_text.h"
 
 struct base {
     sqlite3 *db;
@@ -29,7 +29,7 @@ static const char SCHEMA[] =
 static const char *const INSERTS[] = {
     "INSERT INTO pages VALUES (?, ?, ?)", "INSERT INTO categories VALUES (?, ?)", "INSERT INTO vals VALUES (?, ?, ?, ?)",
     "INSERT INTO links VALUES (?, ?, ?)"};
-enum { PAGES, CATEGORIES, VALS, LINKS, TABLES };
+enum { PAGES_TABLE, CATEGORIES, VALS, LINKS, TABLES };
 
 static void need(struct base *base, int got, int wanted) {
     if (got != wanted) stop(sqlite3_errmsg(base->db));
@@ -47,39 +47,46 @@ static void insert(struct base *base, sqlite3_stmt *s, int place) {
     sqlite3_reset(s);
 }
 
-static void insert_form(struct base *base, sqlite3_stmt *const into[TABLES], const struct reg *r, const struct form *form, int place) {
+/* The place of the page that a link names, or -1. */
+static int target_of(const struct lines *l, const struct inner_form *link) {
+    unsigned x = find_text(&l->names, link->name, link->value);
+    return x == 0 ? -1 : l->names.page[x - 1] - 1;
+}
+
+static void insert_form(struct base *base, sqlite3_stmt *const into[TABLES], const struct lines *l, const struct inner_form *form, int place) {
     if (form->prop < 0) {
         bind_text(into[CATEGORIES], 2, form->name);
         insert(base, into[CATEGORIES], place);
         return;
     }
-    enum kind kind = r->props[form->prop].kind;
+    enum kind kind = l->prop[form->prop].kind;
     sqlite3_stmt *s = into[kind == PAGE ? LINKS : VALS];
-    bind_text(s, 2, form->name);
-    if (kind == PAGE && form->target < 0) sqlite3_bind_null(s, 3);
-    else sqlite3_bind_int64(s, 3, kind == PAGE ? form->target : kind == STRING ? 0 : form->number);
-    if (kind != PAGE) bind_text(s, 4, form->text);
+    int target = kind == PAGE ? target_of(l, form) : 0;
+    bind_text(s, 2, l->prop[form->prop].name);
+    if (target < 0) sqlite3_bind_null(s, 3);
+    else sqlite3_bind_int64(s, 3, kind == PAGE ? target : kind == STRING ? 0 : kind == BOOLEAN ? (int64_t)form->code : (int64_t)(form->code - BIAS));
+    if (kind != PAGE) bind_text(s, 4, form->value);
     insert(base, s, place);
 }
 
-static void insert_page(struct base *base, sqlite3_stmt *const into[TABLES], const struct reg *r, int place) {
-    const struct page *page = &r->pages[place];
-    bind_text(into[PAGES], 2, page->namespace);
-    bind_text(into[PAGES], 3, page->name);
-    insert(base, into[PAGES], place);
-    for (size_t i = 0; i < page->count; i++) insert_form(base, into, r, &r->forms[page->first + i], place);
+static void insert_page(struct base *base, sqlite3_stmt *const into[TABLES], const struct lines *l, int place) {
+    const struct page_line *page = &l->page[place];
+    bind_text(into[PAGES_TABLE], 2, page->space);
+    bind_text(into[PAGES_TABLE], 3, page->name);
+    insert(base, into[PAGES_TABLE], place);
+    for (unsigned i = 0; i < page->count; i++) insert_form(base, into, l, &l->form[page->first + i], place);
 }
 
 struct base *base_load(const uint8_t *text, size_t len) {
-    struct reg r;
+    static struct lines l;
     sqlite3_stmt *into[TABLES];
     struct base *base = malloc(sizeof *base);
     if (base == NULL || sqlite3_open(":memory:", &base->db) != SQLITE_OK) stop("no database");
-    if (read_register(span_of(text, len), &r) != 0) stop("no register");
+    if (read_lines(span_of(text, len), &l) != 0) stop("no register");
     run_sql(base, SCHEMA);
     run_sql(base, "BEGIN");
     for (int i = 0; i < TABLES; i++) need(base, sqlite3_prepare_v2(base->db, INSERTS[i], -1, &into[i], NULL), SQLITE_OK);
-    for (size_t i = 0; i < r.page_count; i++) insert_page(base, into, &r, (int)i);
+    for (unsigned i = 0; i < l.pages; i++) insert_page(base, into, &l, (int)i);
     for (int i = 0; i < TABLES; i++) sqlite3_finalize(into[i]);
     run_sql(base, "COMMIT");
     run_sql(base, "ANALYZE");

@@ -5,17 +5,29 @@
 #include <stddef.h>
 #include <stdint.h>
 
-enum { QUESTIONS = 4, MARK_BYTES = 256, HELD_BYTES = 32770, QUERY_BYTES = 6148 };
+/* HELD_BYTES is room for any implementation's held register. */
+enum { QUESTIONS = 4, MARK_BYTES = 256, HELD_BYTES = 65536, QUERY_BYTES = 6148, MOST_TEXT_BYTES = 32768 };
 
-/* The three calls of one implementation. */
+struct register_text {
+    uint8_t at[MOST_TEXT_BYTES + 1];
+    size_t len;
+};
+
+/* The calls of one implementation, and the size of its held register. */
 struct calls {
     const char *name;
+    size_t held; /* 0 where it is not in this build */
     int32_t (*reg)(const uint8_t *, size_t, uint8_t *, size_t);
     int32_t (*query)(const uint8_t *, size_t, const uint8_t *, size_t, uint8_t *, size_t);
     int32_t (*ask)(const uint8_t *, size_t, const uint8_t *, size_t, uint8_t *, size_t);
+    int32_t (*join)(const uint8_t *, size_t, const uint8_t *, size_t, uint8_t *, size_t); /* null where there is none */
+    int32_t (*test)(const uint8_t *, size_t);                                             /* whether bytes are a held register; likewise */
 };
 
-extern const struct calls proved, plain;
+/* The proved library, the plain implementation, its build without memcmp and wide loads, and the library of the first handover. */
+enum { PROVED, PLAIN, LOOPS, FIRST, IMPLEMENTATIONS };
+extern const struct calls calls_of[IMPLEMENTATIONS];
+static inline int is_built(int i) { return calls_of[i].held > 0; }
 
 /* The same question as a query text and as SQL. */
 struct question {
@@ -36,8 +48,51 @@ void statement_free(struct statement *s);
 /* Steps through all rows and marks their places; returns their number. */
 int statement_run(struct statement *s, uint8_t *marks);
 
-/* Prints the largest stack of each call. */
-void print_stacks(const uint8_t *text, size_t len);
+/* What one figure times: a call on these, or SQLite where there are no calls. */
+struct work {
+    const struct calls *calls;
+    const uint8_t *text, *held, *second, *query;
+    size_t len;
+    struct base *base;
+    const struct question *question;
+    struct statement *statement;
+};
+
+enum { COLUMNS = IMPLEMENTATIONS + 1, SQLITE = IMPLEMENTATIONS };
+enum call { REGISTER, QUERY, ASK, JOIN, TEST, CALLS };
+
+/* A row of the table: microseconds, 0 for a column that has nothing to run. */
+struct row {
+    const char *subject;
+    enum call call;
+    const char *label; /* of the question */
+    int worst;         /* is one of the inputs that must not be slow */
+    int marked;        /* the pages that an ask marks */
+    double us[COLUMNS];
+};
+
+/* Times the columns that run, fills the row in and prints it. */
+void time_row(struct row row, void (*run)(const struct work *), const struct work w[COLUMNS], const int runs[COLUMNS]);
+void print_head(void);
+/* All rows so far. */
+enum { MOST_ROWS = 100 };
+extern struct row rows[MOST_ROWS];
+extern size_t row_count;
+/* The time of the faster build of the plain implementation. */
+double best_plain(const struct row *row);
+/* What a row is about: `full, ask: category`. */
+const char *row_name(const struct row *row, char out[160]);
+
+/* The largest stack of each call but the test, in bytes; 0 where there is none. Queries are made for and asked of the first text. */
+struct stacks {
+    size_t of[IMPLEMENTATIONS][CALLS];
+};
+typedef const struct register_text *text_pair[2];
+void measure_stacks(const struct register_text *const *texts, size_t text_count, const text_pair *pairs, size_t pair_count, struct stacks *out);
+void print_stacks(const struct stacks *stacks);
+
+/* What is asked of the times and stacks, and whether it is met. */
+void print_figures(const struct stacks *stacks);
 
 _Noreturn void stop(const char *what);
 

@@ -1,25 +1,93 @@
-"""Writes the two register texts of the benchmark: `inputs.py DIRECTORY`."""
+"""Writes the register texts of the benchmark: `inputs.py DIRECTORY`.
+
+`sample.txt`, `full.txt` and the inputs that must not be slow: `NAME.txt`, as much as one text holds, and `NAME-1.txt` and `NAME-2.txt`, which
+are joined. The full register has halves likewise."""
 import os
+import string
 import sys
 
 sys.path.insert(0, os.path.join(os.path.dirname(os.path.abspath(__file__)), '..', 'tests', 'evaluator'))
 
 from cases import SAMPLE
 
+LETTERS = string.ascii_letters + string.digits
+LAST_BYTES = LETTERS + ''.join(map(chr, range(128, 194)))
 
-def full_register():
+
+def full_register(places=range(256)):
     """256 pages and 2,048 forms. The links under L lead from each page to another, so that a chain always goes on."""
     lines = ['(prop "N" number)\n', '(prop "L" page)\n', '(prop "S" string)\n']
-    for i in range(256):
+    for i in places:
         forms = f' (cat "c{i % 8}") (cat "d{i % 3}") (val "N" "{i}") (val "L" "p{i * 7 % 256}")'
         forms += ''.join(f' (val "S" "{(i + k) % 10}")' for k in range(4))
         lines.append(f'(page "" "p{i}"{forms})\n')
     return ''.join(lines)
 
 
+def mixed(numbers):
+    """Numbers below 2,048 in no order, each once."""
+    return [number * 7919 % 2048 for number in numbers]
+
+
+def page_with(forms, props=''):
+    return f'{props}(page "" "a"{"".join(forms)})\n'
+
+
+def letters(number):
+    """Two letters or digits for a number below 3,844."""
+    return LETTERS[number // 62] + LETTERS[number % 62]
+
+
+def values(numbers):
+    """One page with strings of 15 bytes that begin alike."""
+    return page_with((f' (val "S" "value-{i:09}")' for i in mixed(numbers)), '(prop "S" string)\n')
+
+
+def short_values():
+    """2,048 in one text."""
+    return page_with((f' (val "S" "{letters(i)}")' for i in mixed(range(2048))), '(prop "S" string)\n')
+
+
+def categories(numbers):
+    """One page with categories of 14 bytes that begin alike."""
+    return page_with(f' (cat "category{i:06}")' for i in mixed(numbers))
+
+
+def short_categories():
+    """2,048 in one text."""
+    return page_with(f' (cat "cate{letters(i)}")' for i in mixed(range(2048)))
+
+
+def long_name(number):
+    """A name of 64 bytes. A last byte has fewer than 256 values, so that the one before it has two."""
+    number = number * 37 % 256
+    return 'all of these names are alike up to their last two bytes, these' + ' -'[number // 128] + LAST_BYTES[number % 128]
+
+
+def names(numbers, links=255):
+    """Pages with names of 64 bytes that differ at the end, each with a link to the next."""
+    lines = ['(prop "L" page)\n']
+    for i in numbers:
+        link = f' (val "L" "{long_name(i + 1)}")' if i < links else ''
+        lines.append(f'(page "" "{long_name(i)}"{link})\n')
+    return ''.join(lines)
+
+
+def texts():
+    """(name, text)"""
+    yield 'sample', SAMPLE
+    yield 'full', full_register()
+    yield 'values', short_values()
+    yield 'categories', short_categories()
+    yield 'names', names(range(256), links=169)
+    for name, make, count in (('full', full_register, 256), ('values', values, 2048), ('categories', categories, 2048), ('names', names, 256)):
+        for half in (0, 1):
+            yield f'{name}-{half + 1}', make(range(half * count // 2, (half + 1) * count // 2))
+
+
 def main(directory):
-    for name, text in (('sample', SAMPLE), ('full', full_register())):
-        with open(os.path.join(directory, name + '.txt'), 'w', encoding='ascii', newline='') as out:
+    for name, text in texts():
+        with open(os.path.join(directory, name + '.txt'), 'w', encoding='latin-1', newline='') as out:
             out.write(text)
 
 

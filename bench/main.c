@@ -1,158 +1,198 @@
-/* Times the three calls of the proved library and of the plain one, and SQLite on the same questions, and prints tables. */
+/* Times the calls of the proved library beside the plain implementation, the library of the first handover and SQLite on the same
+ * questions, and prints tables. */
 #include <stdio.h>
-#include <stdlib.h>
 #include <string.h>
-#include <time.h>
 
 #include "bench.h"
-#include "plain.h"
-#include "vetxarno.h"
 
-enum { BATCHES = 11 };
-static const double BATCH_SECONDS = 0.01;
+enum { MOST_WORST_QUESTIONS = 3 };
 
-const struct calls proved = {"proved", vetxarno_register, vetxarno_query, vetxarno_ask};
-const struct calls plain = {"plain", plain_register, plain_query, plain_ask};
-
+/* A text, or two that are joined, or both. */
 struct subject {
     const char *name;
-    uint8_t text[32769];
-    size_t len;
-    struct question questions[QUESTIONS];
-    struct base *base;
+    int worst;
+    struct register_text text, half[2];
+    uint8_t held[IMPLEMENTATIONS][HELD_BYTES], held_half[2][IMPLEMENTATIONS][HELD_BYTES];
 };
-
-/* What one figure times. */
-struct work {
-    const struct calls *calls; /* null for SQLite */
-    const struct subject *on;
-    const struct question *question; /* null for the register */
-    const uint8_t *held, *query;
-    struct statement *statement;
-};
-
-_Noreturn void stop(const char *what) {
-    fprintf(stderr, "bench: %s\n", what);
-    exit(1);
-}
-
-/* Time that this thread ran, not time that it waited for a core. */
-static double seconds(void) {
-    struct timespec now;
-    clock_gettime(CLOCK_THREAD_CPUTIME_ID, &now);
-    return (double)now.tv_sec + (double)now.tv_nsec * 1e-9;
-}
 
 static void make_register(const struct work *w) {
     static uint8_t held[HELD_BYTES];
-    if (w->calls == NULL) base_free(base_load(w->on->text, w->on->len));
-    else if (w->calls->reg(w->on->text, w->on->len, held, sizeof held) != 0) stop("a register is refused");
+    if (w->calls == NULL) base_free(base_load(w->text, w->len));
+    else if (w->calls->reg(w->text, w->len, held, w->calls->held) != 0) stop("a register is refused");
 }
 
 static void make_query(const struct work *w) {
     static uint8_t query[QUERY_BYTES];
-    const char *text = w->question->query;
-    if (w->calls == NULL) statement_free(base_prepare(w->on->base, w->question->sql));
-    else if (w->calls->query(w->held, HELD_BYTES, (const uint8_t *)text, strlen(text), query, sizeof query) != 0)
-        stop("a query is refused");
+    if (w->calls == NULL) statement_free(base_prepare(w->base, w->question->sql));
+    else if (w->calls->query(w->held, w->calls->held, w->text, w->len, query, sizeof query) != 0) stop("a query is refused");
 }
 
 static void run_query(const struct work *w) {
     static uint8_t marks[MARK_BYTES];
     if (w->calls == NULL) statement_run(w->statement, marks);
-    else if (w->calls->ask(w->query, QUERY_BYTES, w->held, HELD_BYTES, marks, sizeof marks) < 0) stop("an ask is refused");
+    else if (w->calls->ask(w->query, QUERY_BYTES, w->held, w->calls->held, marks, sizeof marks) < 0) stop("an ask is refused");
 }
 
-static double batch(void (*run)(const struct work *), const struct work *w, long times) {
-    double start = seconds();
-    for (long i = 0; i < times; i++) run(w);
-    return (seconds() - start) / (double)times;
+static void make_join(const struct work *w) {
+    static uint8_t held[HELD_BYTES];
+    if (w->calls->join(w->held, w->calls->held, w->second, w->calls->held, held, w->calls->held) != 0) stop("a join is refused");
 }
 
-static int by_size(const void *a, const void *b) {
-    double x = *(const double *)a, y = *(const double *)b;
-    return (x > y) - (x < y);
+static void test_form(const struct work *w) {
+    if (!w->calls->test(w->held, w->calls->held)) stop("a form is refused");
 }
 
-static long times_for(void (*run)(const struct work *), const struct work *w) {
-    double once = batch(run, w, 3);
-    return once > BATCH_SECONDS ? 1 : (long)(BATCH_SECONDS / (once + 1e-9)) + 1;
-}
+static struct row row_of(const struct subject *on, enum call call) { return (struct row){.subject = on->name, .call = call, .worst = on->worst}; }
 
-/* Batches of the three in turn, so that what else the machine does meets all of them; the median of each. */
-static void print_row(const struct subject *on, const char *what, void (*run)(const struct work *), const struct work w[3]) {
-    double found[3][BATCHES], us[3];
-    long times[3];
-    for (int i = 0; i < 3; i++) times[i] = times_for(run, &w[i]);
-    for (int k = 0; k < BATCHES; k++)
-        for (int i = 0; i < 3; i++) found[i][k] = batch(run, &w[i], times[i]);
-    for (int i = 0; i < 3; i++) {
-        qsort(found[i], BATCHES, sizeof *found[i], by_size);
-        us[i] = found[i][BATCHES / 2] * 1e6;
+/* All that answer give the same pages. */
+static int check_same(const struct work w[COLUMNS], const int runs[COLUMNS]) {
+    uint8_t marks[COLUMNS][MARK_BYTES] = {{0}};
+    int32_t counts[COLUMNS] = {0};
+    for (int i = 0; i < COLUMNS; i++) {
+        if (!runs[i]) continue;
+        counts[i] = i == SQLITE ? statement_run(w[i].statement, marks[i])
+                                : w[i].calls->ask(w[i].query, QUERY_BYTES, w[i].held, w[i].calls->held, marks[i], MARK_BYTES);
     }
-    printf("| %s | %s | %.2f | %.2f | %.1f | %.2f |\n", on->name, what, us[0], us[1], us[0] / us[1], us[2]);
-    fflush(stdout);
+    for (int i = 0; i < COLUMNS; i++)
+        if (runs[i] && (counts[i] != counts[PLAIN] || memcmp(marks[i], marks[PLAIN], MARK_BYTES) != 0)) stop("the marks differ");
+    return counts[PLAIN];
 }
 
-/* All three give the same pages. */
-static void check_same(const struct work w[3], int *count) {
-    uint8_t marks[3][MARK_BYTES] = {{0}};
-    int32_t counts[3];
-    for (int i = 0; i < 2; i++) counts[i] = w[i].calls->ask(w[i].query, QUERY_BYTES, w[i].held, HELD_BYTES, marks[i], MARK_BYTES);
-    counts[2] = statement_run(w[2].statement, marks[2]);
-    for (int i = 1; i < 3; i++)
-        if (counts[i] != counts[0] || memcmp(marks[i], marks[0], MARK_BYTES) != 0) stop(w[0].question->query);
-    *count = counts[0];
+/* The query call and the ask call on the subject's form; the question may be asked of SQLite too. */
+static void time_question(const struct subject *on, const struct question *question, struct base *base, const int runs[COLUMNS]) {
+    static uint8_t query[IMPLEMENTATIONS][QUERY_BYTES];
+    struct work w[COLUMNS] = {{0}};
+    struct row row = row_of(on, QUERY);
+    for (int i = 0; i < IMPLEMENTATIONS; i++) {
+        w[i] = (struct work){.calls = &calls_of[i], .text = (const uint8_t *)question->query, .len = strlen(question->query),
+                             .held = on->held[i], .query = query[i]};
+        if (runs[i] && w[i].calls->query(w[i].held, w[i].calls->held, w[i].text, w[i].len, query[i], QUERY_BYTES) != 0) stop("a query is refused");
+    }
+    if (runs[SQLITE]) w[SQLITE] = (struct work){.base = base, .question = question, .statement = base_prepare(base, question->sql)};
+    row.label = question->label;
+    row.marked = check_same(w, runs);
+    time_row(row, make_query, w, runs);
+    row.call = ASK;
+    time_row(row, run_query, w, runs);
+    if (runs[SQLITE]) statement_free(w[SQLITE].statement);
 }
 
-static void time_question(const struct subject *on, const struct question *question, uint8_t held[2][HELD_BYTES]) {
-    static uint8_t query[2][QUERY_BYTES];
-    struct work w[3] = {{&proved, on, question, held[0], query[0], NULL}, {&plain, on, question, held[1], query[1], NULL},
-                        {NULL, on, question, NULL, NULL, base_prepare(on->base, question->sql)}};
-    char what[120];
-    int count;
-    for (int i = 0; i < 2; i++)
-        if (w[i].calls->query(held[i], HELD_BYTES, (const uint8_t *)question->query, strlen(question->query), query[i], QUERY_BYTES) != 0)
-            stop("a query is refused");
-    check_same(w, &count);
-    snprintf(what, sizeof what, "query: %s", question->label);
-    print_row(on, what, make_query, w);
-    snprintf(what, sizeof what, "ask: %s (%d marked)", question->label, count);
-    print_row(on, what, run_query, w);
-    statement_free(w[2].statement);
+/* What each call does first with a form; only the plain one lends it alone. */
+static void time_test(const struct subject *on) {
+    struct work w[COLUMNS] = {{0}};
+    int runs[COLUMNS] = {0};
+    for (int i = 0; i < IMPLEMENTATIONS; i++) {
+        w[i] = (struct work){.calls = &calls_of[i], .held = on->held[i]};
+        runs[i] = calls_of[i].test != NULL;
+    }
+    time_row(row_of(on, TEST), test_form, w, runs);
 }
 
-static void time_register(struct subject *on) {
-    static uint8_t held[2][HELD_BYTES];
-    struct work w[3] = {{.calls = &proved, .on = on}, {.calls = &plain, .on = on}, {.on = on}};
-    for (int i = 0; i < 2; i++)
-        if (w[i].calls->reg(on->text, on->len, held[i], HELD_BYTES) != 0) stop("a register is refused");
-    on->base = base_load(on->text, on->len);
-    print_row(on, "register", make_register, w);
-    for (int i = 0; i < QUESTIONS; i++) time_question(on, &on->questions[i], held);
-    base_free(on->base);
+static void make_form(int i, const struct register_text *text, uint8_t *held) {
+    if (is_built(i) && calls_of[i].reg(text->at, text->len, held, calls_of[i].held) != 0) stop("a register is refused");
 }
 
-static void read_subject(struct subject *on, const char *name, const char *path, int full) {
+static void time_register(struct subject *on, int with_sqlite) {
+    struct work w[COLUMNS] = {{0}};
+    int runs[COLUMNS] = {[SQLITE] = with_sqlite};
+    for (int i = 0; i < COLUMNS; i++) w[i] = (struct work){.calls = i == SQLITE ? NULL : &calls_of[i], .text = on->text.at, .len = on->text.len};
+    for (int i = 0; i < IMPLEMENTATIONS; i++) runs[i] = is_built(i), make_form(i, &on->text, on->held[i]);
+    time_row(row_of(on, REGISTER), make_register, w, runs);
+}
+
+/* The halves joined. The form is then that of both. */
+static void time_join(struct subject *on) {
+    struct work w[COLUMNS] = {{0}};
+    int runs[COLUMNS] = {0};
+    for (int i = 0; i < IMPLEMENTATIONS; i++) {
+        const struct calls *calls = &calls_of[i];
+        uint8_t *first = on->held_half[0][i], *second = on->held_half[1][i];
+        w[i] = (struct work){.calls = calls, .held = first, .second = second};
+        runs[i] = calls->join != NULL;
+        for (int half = 0; half < 2; half++) make_form(i, &on->half[half], on->held_half[half][i]);
+        if (runs[i] && calls->join(first, calls->held, second, calls->held, on->held[i], calls->held) != 0) stop("a join is refused");
+    }
+    time_row(row_of(on, JOIN), make_join, w, runs);
+    if (memcmp(on->held[PROVED], on->held[PLAIN], calls_of[PLAIN].held) != 0) stop("the forms differ");
+}
+
+/* A subject whose questions SQLite answers too. */
+static void time_beside_sqlite(struct subject *on, int full) {
+    struct question questions[QUESTIONS];
+    const int runs[COLUMNS] = {1, 1, 1, is_built(FIRST), 1};
+    write_questions(full, questions);
+    time_register(on, 1);
+    time_test(on);
+    struct base *base = base_load(on->text.at, on->text.len);
+    for (int i = 0; i < QUESTIONS; i++) time_question(on, &questions[i], base, runs);
+    base_free(base);
+    if (on->half[0].len > 0) time_join(on);
+}
+
+/* A register call on a text, then a join of more than one text may hold, and questions to that. */
+static void time_worst(struct subject *on, const struct question *questions, size_t count) {
+    static const int runs[COLUMNS] = {1, 1, 1};
+    time_register(on, 0);
+    time_join(on);
+    time_test(on);
+    for (size_t i = 0; i < count && questions[i].label != NULL; i++) time_question(on, &questions[i], NULL, runs);
+}
+
+static void read_text(struct register_text *out, const char *directory, const char *name, const char *end) {
+    char path[4096];
+    snprintf(path, sizeof path, "%s/%s%s.txt", directory, name, end);
     FILE *in = fopen(path, "rb");
     if (in == NULL) stop("no register text");
-    on->name = name;
-    on->len = fread(on->text, 1, sizeof on->text, in);
+    out->len = fread(out->at, 1, sizeof out->at, in);
     fclose(in);
-    write_questions(full, on->questions);
 }
 
+static void read_subject(struct subject *out, const char *directory, const char *file, int with_halves) {
+    read_text(&out->text, directory, file, "");
+    for (int half = 0; half < 2 && with_halves; half++) read_text(&out->half[half], directory, file, half == 0 ? "-1" : "-2");
+}
+
+/* The inputs that must not be slow, and what is asked of them. The names of the last one have 64 bytes. */
+#define ALIKE "all of these names are alike up to their last two bytes, these "
+_Static_assert(sizeof ALIKE == 64, "63 bytes");
+static const struct {
+    const char *file, *name;
+    struct question questions[MOST_WORST_QUESTIONS];
+} WORST[] = {
+    {"values", "a page with 2,048 values",
+     {{.label = "one value", .query = "[[S::value-000001024]]"}, {.label = "greater values", .query = "[[S::>value-000002000]]"},
+      {.label = "a property", .query = "[[S::+]]"}}},
+    {"categories", "a page with 2,048 categories",
+     {{.label = "category", .query = "[[Category:category001024]]"}, {.label = "two categories", .query = "[[Category:category000000||category002047]]"}}},
+    {"names", "256 names of 64 bytes",
+     {{.label = "chain of 8 names", .query = "[[L.L.L.L.L.L.L.L::+]]"}, {.label = "greater names", .query = "[[>" ALIKE "a]]"},
+      {.label = "a link", .query = "[[L::" ALIKE "a]]"}}},
+};
+enum { WORST_COUNT = sizeof WORST / sizeof *WORST };
+
 int main(int argc, char **argv) {
-    static struct subject sample, full;
-    if (argc != 3) stop("give the texts of the sample and of the full register");
-    read_subject(&sample, "sample", argv[1], 0);
-    read_subject(&full, "full", argv[2], 1);
-    printf("The sample register has %zu bytes, the full one %zu. Times in microseconds of processor time, the median of %d batches;\n"
-           "no buffer is cleared between calls.\n\n", sample.len, full.len, BATCHES);
-    puts("| register | call | proved | plain | ratio | SQLite: load, prepare, step |\n|---|---|---|---|---|---|");
-    time_register(&sample);
-    time_register(&full);
+    static struct subject sample = {.name = "sample"}, full = {.name = "full"}, worst[WORST_COUNT];
+    const struct register_text *texts[WORST_COUNT + 1] = {&full.text};
+    text_pair pairs[WORST_COUNT + 1] = {{&full.half[0], &full.half[1]}};
+    struct stacks stacks;
+    if (argc != 2) stop("give the directory of the register texts");
+    read_subject(&sample, argv[1], "sample", 0);
+    read_subject(&full, argv[1], "full", 1);
+    printf("The sample register has %zu bytes, the full one %zu. ", sample.text.len, full.text.len);
+    print_head();
+    time_beside_sqlite(&sample, 0);
+    time_beside_sqlite(&full, 1);
+    for (int i = 0; i < WORST_COUNT; i++) {
+        worst[i].name = WORST[i].name, worst[i].worst = 1;
+        read_subject(&worst[i], argv[1], WORST[i].file, 1);
+        time_worst(&worst[i], WORST[i].questions, MOST_WORST_QUESTIONS);
+        texts[i + 1] = &worst[i].text;
+        for (int half = 0; half < 2; half++) pairs[i + 1][half] = &worst[i].half[half];
+    }
     putchar('\n');
-    print_stacks(full.text, full.len);
+    measure_stacks(texts, WORST_COUNT + 1, pairs, WORST_COUNT + 1, &stacks);
+    print_stacks(&stacks);
+    putchar('\n');
+    print_figures(&stacks);
     return 0;
 }

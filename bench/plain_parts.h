@@ -1,16 +1,18 @@
-/* What the files of the plain implementation share. */
+/* What the files of the plain implementation share: names, values, and queries. */
 #ifndef PLAIN_PARTS_H
 #define PLAIN_PARTS_H
 
-#include <stdbool.h>
-#include <stddef.h>
-#include <stdint.h>
+#include "plain_bytes.h"
 
 /* Bytes of a text that is lent. */
 struct span {
     const uint8_t *at;
     size_t len;
 };
+
+static inline struct span span_of(const uint8_t *at, size_t len) { return (struct span){at, len}; }
+static inline bool same(struct span a, struct span b) { return a.len == b.len && same_bytes(a.at, b.at, a.len); }
+static inline int order_spans(struct span a, struct span b) { return order_bytes(a.at, a.len, b.at, b.len); }
 
 enum kind { PAGE, NUMBER, BOOLEAN, STRING };
 enum comparator { EQUAL, UNEQUAL, GREATER, LESS };
@@ -20,67 +22,39 @@ struct reference {
     bool written; /* has a colon */
 };
 
-/* A value by its kind; booleans are the numbers 0 and 1. */
+/* A value by its kind: a number with BIAS added, a boolean as 0 or 1, a string, a page. */
 struct value {
     enum kind kind;
-    int64_t number;
+    uint64_t code;
     struct span string;
     struct reference page;
 };
 
-struct span span_of(const uint8_t *at, size_t len);
-struct span trimmed(struct span s);
-bool same(struct span a, struct span b);
-bool is_word(struct span s, const char *word);
+#define BIAS 1000000000000000u
+
+/* Which rules a text keeps: that for names, for values, for property names. */
+enum { IS_NAME = 1, IS_VALUE = 2, IS_PROPERTY = 4 };
+uint8_t rules_of(struct span s);
+
 bool is_name(struct span s);
 bool is_namespace(struct span s);
 bool is_property_name(struct span s);
 bool is_value(struct span s);
+struct span trimmed(struct span s);
+bool is_word(struct span s, const char *word);
 bool split_at_colon(struct span s, struct span *before, struct span *after);
 bool read_reference(struct span s, struct reference *out);
 bool read_value(enum kind kind, struct span s, struct value *out);
-int compare_spans(struct span a, struct span b);
-bool stands(int order, enum comparator c);
 
-/* A register text of 32,768 bytes has no more lines and forms than these: the limits are judged last. */
-enum { MOST_PROPS = 2200, MOST_PAGES = 2600, MOST_FORMS = 3700, BUCKETS = 8192 };
-
-struct prop {
-    struct span name;
-    enum kind kind;
-    bool held; /* some page has a value of it */
-};
-
-/* A cat form, its prop being -1, or a val form. */
-struct form {
-    struct span name, text;
-    int prop, target; /* target: the place of the page that a link names, or -1 */
-    int64_t number;
-};
-
-struct page {
-    struct span namespace, name;
-    size_t first, count; /* its forms */
-};
-
-/* Open addressing; a bucket holds a place plus 1. */
-struct places {
-    uint16_t bucket[BUCKETS];
-};
-
-struct reg {
-    size_t prop_count, page_count, form_count;
-    struct places prop_places, page_places;
-    struct prop props[MOST_PROPS];
-    struct page pages[MOST_PAGES];
-    struct form forms[MOST_FORMS];
-};
-
-/* Returns 0 or a refusal from 1 to 7. */
-int read_register(struct span text, struct reg *r);
-bool open_register(const uint8_t *held, size_t len, struct reg *r);
-int find_prop(const struct reg *r, struct span name);
-int find_page(const struct reg *r, struct span namespace, struct span name);
+/* Whether what is ordered so against a constant stands to it as the comparator says. */
+static inline bool stands(int order, enum comparator c) {
+    switch (c) {
+    case EQUAL: return order == 0;
+    case UNEQUAL: return order != 0;
+    case GREATER: return order > 0;
+    default: return order < 0;
+    }
+}
 
 /* Surface queries: what a text says before a register is known, in postfix order. */
 enum slot_tag { GROUP_AND, GROUP_OR, CATEGORY_IS, NAMESPACE_IS, REFERENCE_IS, EXISTS, PIECE, LINK };
@@ -118,8 +92,6 @@ struct core {
     struct node node[MOST_NODES];
 };
 
-/* Returns 0 or a refusal from 17 to 19. */
-int fit(const struct slots *slots, const struct reg *r, struct core *out);
 void write_query(const struct core *core, struct span text, uint8_t *held);
 bool open_query(const uint8_t *held, size_t len, struct core *out);
 

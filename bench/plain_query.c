@@ -1,6 +1,4 @@
 /* The query text, read to slots. Reading goes on past what 14, 15 and 16 refuse, since 13 is lower. */
-#include <string.h>
-
 #include "plain_parts.h"
 
 struct reader {
@@ -29,7 +27,7 @@ static void put(struct reader *r, struct slot slot) {
 
 static bool stands_at(const struct reader *r, size_t at, const char *word) {
     size_t len = strlen(word);
-    return r->text.len - at >= len && memcmp(r->text.at + at, word, len) == 0;
+    return r->text.len - at >= len && same_bytes(r->text.at + at, (const uint8_t *)word, len);
 }
 
 static bool take(struct reader *r, const char *word) {

@@ -1,9 +1,12 @@
-/* The rules for names and values, and how values are read and compared. */
-#include <string.h>
-
+/* The rules for names and values, and how values are read. */
 #include "plain_parts.h"
 
-struct span span_of(const uint8_t *at, size_t len) { return (struct span){at, len}; }
+/* What a byte rules out. */
+enum { NO_NAME = 1, NO_VALUE = 2, NO_PROPERTY = 4, NOTHING = NO_NAME | NO_VALUE };
+
+static const uint8_t ruled_out[256] = {
+    [0 ... 31] = NOTHING, [127] = NOTHING, ['['] = NOTHING, [']'] = NOTHING, ['|'] = NOTHING, ['<'] = NOTHING, ['>'] = NOTHING,
+    ['"'] = NOTHING, [':'] = NO_NAME, ['#'] = NO_NAME, ['{'] = NO_NAME, ['}'] = NO_NAME, ['_'] = NO_NAME, ['.'] = NO_PROPERTY};
 
 static bool is_blank(uint8_t b) { return b == ' ' || b == '\n'; }
 
@@ -13,50 +16,29 @@ struct span trimmed(struct span s) {
     return s;
 }
 
-bool same(struct span a, struct span b) { return a.len == b.len && (a.len == 0 || memcmp(a.at, b.at, a.len) == 0); }
-
 bool is_word(struct span s, const char *word) { return same(s, span_of((const uint8_t *)word, strlen(word))); }
 
-static bool barred_in_values(uint8_t b) {
-    switch (b) {
-    case '[': case ']': case '|': case '<': case '>': case '"': case 127: return true;
-    default: return b < 32;
-    }
+uint8_t rules_of(struct span s) {
+    uint8_t out = 0, first;
+    if (s.len < 1 || s.len > 64) return 0;
+    first = s.at[0];
+    if (first == ' ' || first == '~' || s.at[s.len - 1] == ' ') return 0;
+    for (size_t i = 0; i < s.len; i++) out |= ruled_out[s.at[i]];
+    if (first == '!' || first == '+') out |= NO_NAME;
+    return (uint8_t)((out & NO_NAME ? 0 : out & NO_PROPERTY ? IS_NAME : IS_NAME | IS_PROPERTY) | (out & NO_VALUE ? 0 : IS_VALUE));
 }
 
-static bool barred_in_names(uint8_t b) {
-    switch (b) {
-    case ':': case '#': case '{': case '}': case '_': return true;
-    default: return barred_in_values(b);
-    }
-}
-
-/* What names and values share. */
-static bool is_sized(struct span s) {
-    return s.len >= 1 && s.len <= 64 && !is_blank(s.at[0]) && !is_blank(s.at[s.len - 1]);
-}
-
-bool is_name(struct span s) {
-    if (!is_sized(s) || s.at[0] == '!' || s.at[0] == '~' || s.at[0] == '+') return false;
-    for (size_t i = 0; i < s.len; i++)
-        if (barred_in_names(s.at[i])) return false;
-    return true;
-}
+bool is_name(struct span s) { return rules_of(s) & IS_NAME; }
 
 bool is_namespace(struct span s) { return s.len == 0 || is_name(s); }
 
-bool is_property_name(struct span s) { return is_name(s) && memchr(s.at, '.', s.len) == NULL; }
+bool is_property_name(struct span s) { return rules_of(s) & IS_PROPERTY; }
 
-bool is_value(struct span s) {
-    if (!is_sized(s) || s.at[0] == '~') return false;
-    for (size_t i = 0; i < s.len; i++)
-        if (barred_in_values(s.at[i])) return false;
-    return true;
-}
+bool is_value(struct span s) { return rules_of(s) & IS_VALUE; }
 
 /* Both sides of the first colon, trimmed. */
 bool split_at_colon(struct span s, struct span *before, struct span *after) {
-    const uint8_t *colon = s.len == 0 ? NULL : memchr(s.at, ':', s.len);
+    const uint8_t *colon = find_byte(s.at, ':', s.len);
     if (colon == NULL) return false;
     size_t at = (size_t)(colon - s.at);
     *before = trimmed(span_of(s.at, at));
@@ -73,24 +55,24 @@ bool read_reference(struct span s, struct reference *out) {
     return is_namespace(out->namespace) && is_name(out->name);
 }
 
-static bool read_number(struct span s, int64_t *out) {
+static bool read_number(struct span s, uint64_t *out) {
     bool minus = s.len > 0 && s.at[0] == '-';
-    int64_t n = 0;
+    uint64_t n = 0;
     if (s.len < 1u + minus || s.len > 15u + minus) return false;
     for (size_t i = minus; i < s.len; i++) {
         if (s.at[i] < '0' || s.at[i] > '9') return false;
         n = 10 * n + (s.at[i] - '0');
     }
-    *out = minus ? -n : n;
+    *out = minus ? BIAS - n : BIAS + n;
     return true;
 }
 
-static bool read_boolean(struct span s, int64_t *out) {
+static bool read_boolean(struct span s, uint64_t *out) {
     static const char *const words[2][3] = {{"false", "no", "0"}, {"true", "yes", "1"}};
     uint8_t lower[5];
     if (s.len > sizeof lower) return false;
     for (size_t i = 0; i < s.len; i++) lower[i] = s.at[i] >= 'A' && s.at[i] <= 'Z' ? s.at[i] + 32 : s.at[i];
-    for (int truth = 0; truth < 2; truth++)
+    for (unsigned truth = 0; truth < 2; truth++)
         for (int i = 0; i < 3; i++)
             if (is_word(span_of(lower, s.len), words[truth][i])) return *out = truth, true;
     return false;
@@ -100,24 +82,8 @@ bool read_value(enum kind kind, struct span s, struct value *out) {
     out->kind = kind;
     switch (kind) {
     case PAGE: return read_reference(s, &out->page);
-    case NUMBER: return read_number(s, &out->number);
-    case BOOLEAN: return read_boolean(s, &out->number);
+    case NUMBER: return read_number(s, &out->code);
+    case BOOLEAN: return read_boolean(s, &out->code);
     default: return out->string = s, true;
-    }
-}
-
-int compare_spans(struct span a, struct span b) {
-    size_t shorter = a.len < b.len ? a.len : b.len;
-    int order = shorter == 0 ? 0 : memcmp(a.at, b.at, shorter);
-    return order != 0 ? order : (a.len > b.len) - (a.len < b.len);
-}
-
-/* Whether what is ordered so against a constant stands to it as the comparator says. */
-bool stands(int order, enum comparator c) {
-    switch (c) {
-    case EQUAL: return order == 0;
-    case UNEQUAL: return order != 0;
-    case GREATER: return order > 0;
-    default: return order < 0;
     }
 }

@@ -10,8 +10,8 @@ enum { STACK = 32 << 20, PATTERN = 0xC7 };
 
 struct job {
     const struct calls *calls;
-    char letter; /* R, Q or A */
-    const uint8_t *text, *held, *query;
+    char letter; /* R, Q, A or J */
+    const uint8_t *text, *held, *second, *query;
     size_t len;
     uint8_t *out, *top; /* top: where the caller's frame lies */
 };
@@ -19,9 +19,11 @@ struct job {
 static void *run_job(void *given) {
     struct job *j = given;
     j->top = __builtin_frame_address(0);
-    if (j->letter == 'R') j->calls->reg(j->text, j->len, j->out, HELD_BYTES);
-    if (j->letter == 'Q') j->calls->query(j->held, HELD_BYTES, j->text, j->len, j->out, QUERY_BYTES);
-    if (j->letter == 'A') j->calls->ask(j->query, QUERY_BYTES, j->held, HELD_BYTES, j->out, MARK_BYTES);
+    size_t size = j->calls->held;
+    if (j->letter == 'R') j->calls->reg(j->text, j->len, j->out, size);
+    if (j->letter == 'Q') j->calls->query(j->held, size, j->text, j->len, j->out, QUERY_BYTES);
+    if (j->letter == 'A') j->calls->ask(j->query, QUERY_BYTES, j->held, size, j->out, MARK_BYTES);
+    if (j->letter == 'J') j->calls->join(j->held, size, j->second, size, j->out, size);
     return NULL;
 }
 
@@ -97,24 +99,56 @@ static size_t ask_depth(struct job j) {
         if (i == QUESTIONS) write_nested(query);
         if (i == QUESTIONS + 1) write_waiting(query);
         if (i < QUESTIONS)
-            j.calls->query(j.held, HELD_BYTES, (const uint8_t *)questions[i].query, strlen(questions[i].query), query, QUERY_BYTES);
-        if (j.calls->ask(query, QUERY_BYTES, j.held, HELD_BYTES, j.out, MARK_BYTES) < 0) stop("a question is refused");
+            j.calls->query(j.held, j.calls->held, (const uint8_t *)questions[i].query, strlen(questions[i].query), query, QUERY_BYTES);
+        if (j.calls->ask(query, QUERY_BYTES, j.held, j.calls->held, j.out, MARK_BYTES) < 0) stop("a question is refused");
         most = largest(most, depth_of(&j));
     }
     return most;
 }
 
-void print_stacks(const uint8_t *text, size_t len) {
-    static uint8_t held[HELD_BYTES], out[HELD_BYTES];
-    const struct calls *const both[] = {&proved, &plain};
-    puts("| largest stack, bytes | register | query | ask |\n|---|---|---|---|");
-    for (int i = 0; i < 2; i++) {
-        struct job j = {both[i], 'R', text, held, NULL, len, out, NULL};
-        size_t reg = depth_of(&j), query;
-        both[i]->reg(text, len, held, HELD_BYTES);
+/* The form of a text. */
+static void make_form(const struct calls *calls, const struct register_text *text, uint8_t *held) {
+    if (calls->reg(text->at, text->len, held, calls->held) != 0) stop("a register is refused");
+}
+
+static size_t register_depth(struct job j, const struct register_text *text) {
+    j.letter = 'R', j.text = text->at, j.len = text->len;
+    return depth_of(&j);
+}
+
+static size_t join_depth(struct job j, const text_pair pair) {
+    static uint8_t held[2][HELD_BYTES];
+    j.letter = 'J', j.held = held[0], j.second = held[1];
+    for (int half = 0; half < 2; half++) make_form(j.calls, pair[half], held[half]);
+    return depth_of(&j);
+}
+
+void measure_stacks(const struct register_text *const *texts, size_t text_count, const text_pair *pairs, size_t pair_count, struct stacks *out) {
+    static uint8_t held[HELD_BYTES], room[HELD_BYTES];
+    memset(out, 0, sizeof *out);
+    for (int i = 0; i < IMPLEMENTATIONS; i++) {
+        struct job j = {.calls = &calls_of[i], .held = held, .out = room};
+        size_t *most = out->of[i];
+        if (!is_built(i)) continue;
+        for (size_t k = 0; k < text_count; k++) most[REGISTER] = largest(most[REGISTER], register_depth(j, texts[k]));
+        for (size_t k = 0; k < pair_count && j.calls->join != NULL; k++) most[JOIN] = largest(most[JOIN], join_depth(j, pairs[k]));
+        make_form(j.calls, texts[0], held);
         j.letter = 'Q';
-        query = query_depth(j);
+        most[QUERY] = query_depth(j);
         j.letter = 'A';
-        printf("| %s | %zu | %zu | %zu |\n", both[i]->name, reg, query, ask_depth(j));
+        most[ASK] = ask_depth(j);
+    }
+}
+
+void print_stacks(const struct stacks *stacks) {
+    puts("| largest stack, bytes | register | query | ask | join |\n|---|---|---|---|---|");
+    for (int i = 0; i < IMPLEMENTATIONS; i++) {
+        if (!is_built(i)) continue;
+        printf("| %s |", calls_of[i].name);
+        for (enum call call = REGISTER; call <= JOIN; call++) {
+            if (stacks->of[i][call] > 0) printf(" %zu |", stacks->of[i][call]);
+            else printf(" - |");
+        }
+        putchar('\n');
     }
 }

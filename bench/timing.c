@@ -1,0 +1,98 @@
+/* The time of a call, and the rows of the table. */
+#include <stdio.h>
+#include <stdlib.h>
+#include <time.h>
+
+#include "bench.h"
+
+enum { BATCHES = 11 };
+static const double BATCH_SECONDS = 0.01;
+
+struct row rows[MOST_ROWS];
+size_t row_count;
+
+_Noreturn void stop(const char *what) {
+    fprintf(stderr, "bench: %s\n", what);
+    exit(1);
+}
+
+/* Time that this thread ran, not time that it waited for a core. */
+static double seconds(void) {
+    struct timespec now;
+    clock_gettime(CLOCK_THREAD_CPUTIME_ID, &now);
+    return (double)now.tv_sec + (double)now.tv_nsec * 1e-9;
+}
+
+static double batch(void (*run)(const struct work *), const struct work *w, long times) {
+    double start = seconds();
+    for (long i = 0; i < times; i++) run(w);
+    return (seconds() - start) / (double)times;
+}
+
+static int by_size(const void *a, const void *b) {
+    double x = *(const double *)a, y = *(const double *)b;
+    return (x > y) - (x < y);
+}
+
+static long times_for(void (*run)(const struct work *), const struct work *w) {
+    double once = batch(run, w, 3);
+    return once > BATCH_SECONDS ? 1 : (long)(BATCH_SECONDS / (once + 1e-9)) + 1;
+}
+
+static void print_number(double number) {
+    if (number > 0) printf(" %.2f |", number);
+    else printf(" - |");
+}
+
+void print_head(void) {
+    printf("Times in microseconds of processor time, the median of %d batches; no buffer is cleared between calls. "
+           "The ratio is to the faster build of the plain implementation.\n\n", BATCHES);
+    printf("| register | call |");
+    for (int i = 0; i < IMPLEMENTATIONS; i++)
+        if (is_built(i)) printf(" %s |%s", calls_of[i].name, i == LOOPS ? " ratio |" : "");
+    puts(" SQLite: load, prepare, step |");
+    puts(is_built(FIRST) ? "|---|---|---|---|---|---|---|---|" : "|---|---|---|---|---|---|---|");
+}
+
+double best_plain(const struct row *row) { return row->us[PLAIN] < row->us[LOOPS] ? row->us[PLAIN] : row->us[LOOPS]; }
+
+static const char *call_name(enum call call) {
+    static const char *const names[CALLS] = {"register", "query", "ask", "join", "the test of a form alone"};
+    return names[call];
+}
+
+const char *row_name(const struct row *row, char out[160]) {
+    snprintf(out, 160, "%s, %s%s%s", row->subject, call_name(row->call), row->label == NULL ? "" : ": ", row->label == NULL ? "" : row->label);
+    return out;
+}
+
+static void print_row(const struct row *row) {
+    printf("| %s | %s", row->subject, call_name(row->call));
+    if (row->label != NULL) printf(": %s", row->label);
+    if (row->call == ASK) printf(" (%d marked)", row->marked);
+    printf(" |");
+    for (int i = 0; i < COLUMNS; i++) {
+        if (i != SQLITE && !is_built(i)) continue;
+        print_number(row->us[i]);
+        if (i == LOOPS) print_number(row->us[PROVED] / best_plain(row));
+    }
+    putchar('\n');
+    fflush(stdout);
+}
+
+/* Batches of the columns in turn, so that what else the machine does meets all of them; the median of each. */
+void time_row(struct row row, void (*run)(const struct work *), const struct work w[COLUMNS], const int runs[COLUMNS]) {
+    double found[COLUMNS][BATCHES] = {{0}};
+    long times[COLUMNS];
+    for (int i = 0; i < COLUMNS; i++) times[i] = runs[i] ? times_for(run, &w[i]) : 0;
+    for (int k = 0; k < BATCHES; k++)
+        for (int i = 0; i < COLUMNS; i++)
+            if (runs[i]) found[i][k] = batch(run, &w[i], times[i]);
+    for (int i = 0; i < COLUMNS; i++) {
+        qsort(found[i], BATCHES, sizeof *found[i], by_size);
+        row.us[i] = found[i][BATCHES / 2] * 1e6;
+    }
+    print_row(&row);
+    if (row_count == MOST_ROWS) stop("too many rows");
+    rows[row_count++] = row;
+}
