@@ -4,3 +4,4 @@ pub mod Members
 pub mod Orders
 pub mod Listings
 pub mod Numbers
+pub mod Alike
