@@ -1,6 +1,8 @@
 // The rows of a register's table: which are properties and pages, what each must keep, and the verdict 1 to 7 on a text.
 ghost use mathlib.Core.Path.{_≡_};
-ghost use Rattle.rows.specs.Checks.{Collected, lowest, verdictOf, Judges, Room};
+ghost use mathlib.Core.Bool.{_&&_};
+ghost use Rattle.rows.specs.Checks.{Collected, someFails, lowest, verdictOf, Judges, Room};
+ghost use Rattle.rows.specs.declared.Check.the-variants.{Undeclared};
 
 pub mod checks; // checks.rt: what one row, or two, must keep
 pub mod names; // names.rt: what rows declare, as parts of the text
@@ -78,6 +80,16 @@ pub fn lowest_of(a: bool, b: bool, c: bool, d: bool, e: bool) -> usize
     if e { 7 } else { 0 }
 }
 
+// Whether some val has no declared property. Such a val is unfit too, so that most texts are not gone through again.
+fn some_undeclared(s: &[u8], t: &[u16], n: usize, props: &[u16], np: usize, unfit: bool) -> bool
+    ensures { λ r. ⌜ r ≡ (unfit && someFails Undeclared (now (s .entry)) (now (t .entry)) n (now (props .entry)) np) ⌝ }
+{
+    if !unfit {
+        return false;
+    }
+    some_row(s, t, n, props, np, Check::Undeclared)
+}
+
 // The verdict on the first n rows, of which np are properties and ng are pages.
 pub fn judge_rows(
     s: &[u8],
@@ -92,8 +104,8 @@ pub fn judge_rows(
 {
     let rule = some_row(s, t, n, props, np, Check::Rule);
     let alike = twice(s, t, props, np) | twice(s, t, pages, ng);
-    let undeclared = some_row(s, t, n, props, np, Check::Undeclared);
     let unfit = some_row(s, t, n, props, np, Check::Unfit);
+    let undeclared = some_undeclared(s, t, n, props, np, unfit);
     let over = (64 < np) | (256 < ng) | (2048 < count_inner(t, n));
     lowest_of(rule, alike, undeclared, unfit, over)
 }

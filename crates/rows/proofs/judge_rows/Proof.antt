@@ -15,8 +15,8 @@ twice-requires-2 c κs = search needs
 some-row-requires-2 : tie.Need-some-row-requires-2
 some-row-requires-2 c κs = search needs
 
-some-row-requires-3 : tie.Need-some-row-requires-3
-some-row-requires-3 c κs = search needs
+some-undeclared-requires : tie.Need-some-undeclared-requires
+some-undeclared-requires c κs = search needs
 
 count-inner-requires : tie.Need-count-inner-requires
 count-inner-requires c κs = search needs
@@ -35,7 +35,7 @@ judge-rows-spec =
     twice-requires
     twice-requires-2
     some-row-requires-2
-    some-row-requires-3
+    some-undeclared-requires
     count-inner-requires
     lowest-of-requires
     returns)
