@@ -73,6 +73,14 @@ def names(numbers, links=255):
     return ''.join(lines)
 
 
+def properties(places):
+    """64 link properties with names of 64 bytes that differ in the last one, and pages that link to the next under the last of them."""
+    names = ['all of these names are alike up to their last two bytes, these ' + last for last in LETTERS + '-=']
+    lines = [f'(prop "{name}" page)\n' for name in names]
+    lines += [f'(page "" "p{i}" (val "{names[-1]}" "p{(i + 1) % 256}"))\n' for i in places]
+    return ''.join(lines)
+
+
 def texts():
     """(name, text)"""
     yield 'sample', SAMPLE
@@ -80,7 +88,9 @@ def texts():
     yield 'values', short_values()
     yield 'categories', short_categories()
     yield 'names', names(range(256), links=169)
-    for name, make, count in (('full', full_register, 256), ('values', values, 2048), ('categories', categories, 2048), ('names', names, 256)):
+    yield 'properties', properties(range(256))
+    for name, make, count in (('full', full_register, 256), ('values', values, 2048), ('categories', categories, 2048), ('names', names, 256),
+                              ('properties', properties, 256)):
         for half in (0, 1):
             yield f'{name}-{half + 1}', make(range(half * count // 2, (half + 1) * count // 2))
 

@@ -152,8 +152,9 @@ static void read_subject(struct subject *out, const char *directory, const char 
     for (int half = 0; half < 2 && with_halves; half++) read_text(&out->half[half], directory, file, half == 0 ? "-1" : "-2");
 }
 
-/* The inputs that must not be slow, and what is asked of them. The names of the last one have 64 bytes. */
+/* The inputs that must not be slow, and what is asked of them. The names of the last two have 64 bytes. */
 #define ALIKE "all of these names are alike up to their last two bytes, these "
+#define LAST ALIKE "="
 _Static_assert(sizeof ALIKE == 64, "63 bytes");
 static const struct {
     const char *file, *name;
@@ -167,6 +168,9 @@ static const struct {
     {"names", "256 names of 64 bytes",
      {{.label = "chain of 8 names", .query = "[[L.L.L.L.L.L.L.L::+]]"}, {.label = "greater names", .query = "[[>" ALIKE "a]]"},
       {.label = "a link", .query = "[[L::" ALIKE "a]]"}}},
+    {"properties", "64 properties with names of 64 bytes",
+     {{.label = "a property", .query = "[[" LAST "::+]]"},
+      {.label = "chain of 8 names", .query = "[[" LAST "." LAST "." LAST "." LAST "." LAST "." LAST "." LAST "." LAST "::+]]"}}},
 };
 enum { WORST_COUNT = sizeof WORST / sizeof *WORST };
 

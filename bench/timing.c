@@ -5,8 +5,8 @@
 
 #include "bench.h"
 
-enum { BATCHES = 11 };
-static const double BATCH_SECONDS = 0.01;
+enum { BATCHES = 21 };
+static const double BATCH_SECONDS = 0.006;
 
 struct row rows[MOST_ROWS];
 size_t row_count;
@@ -29,11 +29,6 @@ static double batch(void (*run)(const struct work *), const struct work *w, long
     return (seconds() - start) / (double)times;
 }
 
-static int by_size(const void *a, const void *b) {
-    double x = *(const double *)a, y = *(const double *)b;
-    return (x > y) - (x < y);
-}
-
 static long times_for(void (*run)(const struct work *), const struct work *w) {
     double once = batch(run, w, 3);
     return once > BATCH_SECONDS ? 1 : (long)(BATCH_SECONDS / (once + 1e-9)) + 1;
@@ -45,7 +40,7 @@ static void print_number(double number) {
 }
 
 void print_head(void) {
-    printf("Times in microseconds of processor time, the median of %d batches; no buffer is cleared between calls. "
+    printf("Times in microseconds of processor time, the fastest of %d batches; no buffer is cleared between calls. "
            "The ratio is to the faster build of the plain implementation.\n\n", BATCHES);
     printf("| register | call |");
     for (int i = 0; i < IMPLEMENTATIONS; i++)
@@ -80,18 +75,15 @@ static void print_row(const struct row *row) {
     fflush(stdout);
 }
 
-/* Batches of the columns in turn, so that what else the machine does meets all of them; the median of each. */
+/* Batches of the columns in turn, so that what else the machine does meets all of them; the fastest of each, which it meets least. */
 void time_row(struct row row, void (*run)(const struct work *), const struct work w[COLUMNS], const int runs[COLUMNS]) {
-    double found[COLUMNS][BATCHES] = {{0}};
     long times[COLUMNS];
     for (int i = 0; i < COLUMNS; i++) times[i] = runs[i] ? times_for(run, &w[i]) : 0;
     for (int k = 0; k < BATCHES; k++)
-        for (int i = 0; i < COLUMNS; i++)
-            if (runs[i]) found[i][k] = batch(run, &w[i], times[i]);
-    for (int i = 0; i < COLUMNS; i++) {
-        qsort(found[i], BATCHES, sizeof *found[i], by_size);
-        row.us[i] = found[i][BATCHES / 2] * 1e6;
-    }
+        for (int i = 0; i < COLUMNS; i++) {
+            double us = runs[i] ? batch(run, &w[i], times[i]) * 1e6 : 0;
+            if (k == 0 || us < row.us[i]) row.us[i] = us;
+        }
     print_row(&row);
     if (row_count == MOST_ROWS) stop("too many rows");
     rows[row_count++] = row;
