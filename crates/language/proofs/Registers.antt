@@ -186,6 +186,6 @@ of-accepted P s R h f = long (ltb 32768 (length s)) refl h
     long true e h = absurd (let y : _≡_ {A = ℕ} 0 1 = cc in omega arith)
     long false e h = taken (entries s) (ltb-false 32768 (length s) e) refl h
 
--- "with no page and no property twice", and every value of its property's kind
+-- with no page and no property twice, and every value of its property's kind
 pub accepted-sound : (s : Bytes) (R : Register) → readRegister s ≡ accepted R → Sound R
 accepted-sound s R h = of-accepted Sound s R h (λ l t. entries-sound l (t .once) (t .few))

@@ -1,5 +1,5 @@
 -- When a query that was fitted to one register may be run on another. The third demand's grant: "each property it names has
--- the same kind there, or is not declared there".
+-- the same kind in both, or isn't declared in the second".
 use mathlib.Core.Bool.{Bool, true, false}
 use mathlib.Core.List.{List}
 use mathlib.Core.Option.{Option, some, none}

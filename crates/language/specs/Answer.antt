@@ -5,7 +5,7 @@ use mathlib.Core.Bool.{Bool, true, false, cond}
 use mathlib.Core.List.{List, [], _∷_}
 use mathlib.Core.Option.{Option, some, none}
 
--- "A refusal returns only its number."
+-- "A refusal returns only its number"
 pub data Answer (A : Type 0) : Type 0 where
   refused : ℕ → Answer A
   accepted : A → Answer A

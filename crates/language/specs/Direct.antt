@@ -13,7 +13,7 @@ use Rattle.language.specs.Surface.{Chain, single, chain, Categories, Ide
 use Rattle.language.specs.QueryText.{readText}
 use Rattle.language.specs.declared.SurfaceComparator.{SurfaceComparator}
 
--- "`>` means greater or equal, `>>` strictly greater, `<` and `<<` likewise, `!` unequal, none equal."
+-- "`>` means greater or equal, `>>` strictly greater, `<` and `<<` likewise, `!` unequal, none equal"
 abbrev pub standsAs : SurfaceComparator → Order → Bool
 standsAs SurfaceComparator.Equal Order.Less = false
 standsAs SurfaceComparator.Equal Order.Equal = true
@@ -53,7 +53,8 @@ abbrev pub articleMeant : Reference → Bytes
 articleMeant (bare x) = x
 articleMeant (qualified n x) = x
 
--- "A reference wants the page's article name to stand to its own as the comparator says, and any written namespace .."
+-- "A reference wants the page's article name to stand to its own as the comparator says, and any written namespace save with `!`;
+-- with neither colon nor comparator, main."
 unfoldable pub meansReference : SurfaceComparator → Reference → Page → Bool
 meansReference c r p =
     found (namespaceMeant c r) (λ n. same (p .identifier .namespace) n) true
@@ -64,7 +65,7 @@ meansIdentifiers (Identifiers.namespace n) p = same (p .identifier .namespace) n
 meansIdentifiers (Identifiers.reference c r) p = meansReference c r p
 meansIdentifiers (Identifiers.either a b) p = meansIdentifiers a p || meansIdentifiers b p
 
--- "A category wants the page in it."
+-- "A category wants the page in it"
 unfoldable pub meansCategories : Categories → Page → Bool
 meansCategories (Categories.one x) p = any (same x) (p .categories)
 meansCategories (Categories.either a b) p = meansCategories a p || meansCategories b p

@@ -12,7 +12,7 @@ use Rattle.language.specs.Answer.{_>>=_, found, onlyIf}
 use Rattle.language.specs.Surface.{Chain, single, chain}
 use Rattle.language.specs.declared.SurfaceComparator.{SurfaceComparator}
 
--- "A piece is an optional comparator .. then bytes free of [ ] | < >; both parts are trimmed."
+-- "A piece is an optional comparator, the longest of `!`, `>`, `>>`, `<`, `<<`, then bytes free of `[ ] | < >`; both parts are trimmed"
 pub record Piece : Type 0 where
   pub comparator : SurfaceComparator
   pub text : Bytes
@@ -125,7 +125,7 @@ nextTerm s =
 
 -- The readers call each other; the first number bounds how deep. Below they are published without it.
 unfoldable mutual
-  -- "A query is conjunctions parted by `OR`."
+  -- "A query is conjunctions parted by `OR`"
   pub queryWithin : ℕ → Bytes → Option (RawQuery × Bytes)
   queryWithin zero s = none
   queryWithin (suc n) s = conjunctionWithin n s >>= λ q. orWithin n (q .0) (q .1)
@@ -175,7 +175,8 @@ unfoldable mutual
       (λ r. alternativeWithin n r >>= λ b. moreWithin n (RawAlternatives.either a (b .0)) (b .1))
       (some (a, s))
 
-  -- "An alternative that begins with `<q>`, blanks aside, is a subquery .. any other is a piece."
+  -- "An alternative that begins with `<q>`, blanks aside, is a subquery, closed by `</q>` with only blanks after; any other is a
+  -- piece."
   pub alternativeWithin : ℕ → Bytes → Option (RawAlternatives × Bytes)
   alternativeWithin zero s = none
   alternativeWithin (suc n) s =

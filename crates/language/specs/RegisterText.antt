@@ -188,7 +188,7 @@ countOf p (e ∷ l) = cond (p e) 1 0 + countOf p l
 unfoldable pub overLimits : List Entry → Bool
 overLimits l = ltb 64 (length (properties l)) || ltb 256 (countOf isPage l) || ltb 2048 (countOf isInner l)
 
--- "Categories and values of a page are sets: a repeat .. changes no meaning." The first stays.
+-- "Categories and values of a page are sets: a repeat counts to the limit but changes no meaning." The first stays.
 unfoldable pub addCategory : Bytes → List Bytes → List Bytes
 addCategory x [] = x ∷ []
 addCategory x (y ∷ l) = cond (same x y) (y ∷ l) (y ∷ addCategory x l)

@@ -25,7 +25,7 @@ onceBehind alike seen (x ∷ l) = onceBehind alike (cond (any (alike x) seen) se
 abbrev pub once : {A : Type 0} → (A → A → Bool) → List A → List A
 once alike l = onceBehind alike [] l
 
--- "Categories and values of a page are sets."
+-- "Categories and values of a page are sets"
 abbrev pub pageOnce : Page → Page
 pageOnce p = record { identifier = p .identifier; categories = once same (p .categories); values = once sameHeld (p .values) }
 

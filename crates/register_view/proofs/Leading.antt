@@ -119,7 +119,7 @@ module _ (R : Register) (i : Identifier) (there : List·Memᴰ (identifierText i
   unfolding encodePage
   row-number p = refl
 
-  -- where no two pages have one identifier, "some page that has it passes" is "the page in its place passes"
+  -- where no two pages have one identifier, that some page that has it passes is that the page in its place passes
   leads-among : (test : Page → Bool) (e : Page) (l : List Page) (f : ℕ → Bool) → ((p : Page) → List·Memᴰ p l → List·Memᴰ p (R .pages)) → distinct samePage l ≡ true → ((j : ℕ) → j < length l → f j ≡ test (getD l j e))
       → markBy f (placeOf (map (encodePage R) l) (rank orderOf (identifierText i) (textsOf R))) ≡ any (λ p. sameIdentifier (p .identifier) i && test p) l
   unfolding placeOf any distinct

@@ -47,7 +47,7 @@ module _ {A : Type 0} where
   all p [] = true
   all p (x ∷ l) = p x && all p l
 
--- "A blank is byte 32 or byte 10."
+-- "A blank is byte 32 or byte 10"
 abbrev pub isBlank : ℕ → Bool
 isBlank b = eqb b 32 || eqb b 10
 

@@ -10,7 +10,7 @@ use Rattle.text.specs.declared.Class.{Class}
 abbrev pub oneOf : String → ℕ → Bool
 oneOf set b = any (eqb b) (bytes set)
 
--- "bytes free of [ ] | < >" ("The query text")
+-- "bytes free of `[ ] | < >`" ("The query text")
 unfoldable pub isFree : ℕ → Bool
 isFree b = not (oneOf "[]|<>" b)
 
@@ -18,11 +18,11 @@ isFree b = not (oneOf "[]|<>" b)
 unfoldable pub isQuotable : ℕ → Bool
 isQuotable b = not (eqb b 34 || eqb b 10)
 
--- "none below 32, not 127, none of [ ] | < > : # { } _ "" ("Names, values and kinds")
+-- "none below 32, not 127, none of `[ ] | < > : # { } _ "`" ("Names, values and kinds")
 unfoldable pub isNameByte : ℕ → Bool
 isNameByte b = leb 32 b && not (eqb b 127) && not (oneOf "[]|<>:#{}_\"" b)
 
--- "none below 32, not 127, none of [ ] | < > ""
+-- "none below 32, not 127, none of `[ ] | < > "`"
 unfoldable pub isValueByte : ℕ → Bool
 isValueByte b = leb 32 b && not (eqb b 127) && not (oneOf "[]|<>\"" b)
 

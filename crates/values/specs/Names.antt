@@ -17,7 +17,7 @@ first s = getD s 0 0
 abbrev pub last : Bytes → ℕ
 last s = getD s (length s - 1) 0
 
--- "1 to 64 bytes, none below 32, not 127, none of [ ] | < > : # { } _ ". It does not begin with !, ~, + or a blank and
+-- "1 to 64 bytes, none below 32, not 127, none of `[ ] | < > : # { } _ "`. It does not begin with `!`, `~`, `+` or a blank and
 -- does not end with a blank."
 unfoldable pub isName : Bytes → Bool
 isName s = isSized s && all isNameByte s && not (oneOf "!~+" (first s)) && not (isBlank (first s)) && not (isBlank (last s))
@@ -30,7 +30,7 @@ isPropertyName s = isName s && all (isOther 46) s
 unfoldable pub isNamespace : Bytes → Bool
 isNamespace s = eqb (length s) 0 || isName s
 
--- "1 to 64 bytes, none below 32, not 127, none of [ ] | < > ", no blank at either end, not beginning with `~`"
+-- "1 to 64 bytes, none below 32, not 127, none of `[ ] | < > "`, no blank at either end, not beginning with `~`"
 unfoldable pub isValue : Bytes → Bool
 isValue s = isSized s && all isValueByte s && not (eqb (first s) 126) && not (isBlank (first s)) && not (isBlank (last s))
 
