@@ -144,24 +144,26 @@ int32_t register_call(struct bytes text, size_t len, uint8_t *out) {
     return end_form(held, HELD, number, out);
 }
 
+/* A call of two inputs that writes a form of `size` bytes: query and join have one type. */
+typedef int32_t two_inputs(const uint8_t *, size_t, const uint8_t *, size_t, uint8_t *, size_t);
+
+static int32_t form_call(enum call call, two_inputs *make, size_t size, struct bytes first, struct bytes second, size_t len,
+                         uint8_t *out) {
+    struct input a = lend(first, 0), b = lend(second, 1);
+    struct output held = lend_output(len);
+    int32_t number = make(a.at, first.len, b.at, second.len, held.at, len);
+    check_number(call, number);
+    give_back(a);
+    give_back(b);
+    return end_form(held, size, number, out);
+}
+
 int32_t query_call(struct bytes held, struct bytes text, size_t len, uint8_t *out) {
-    struct input h = lend(held, 0), t = lend(text, 1);
-    struct output query = lend_output(len);
-    int32_t number = vetxarno_query(h.at, held.len, t.at, text.len, query.at, len);
-    check_number(QUERY_CALL, number);
-    give_back(h);
-    give_back(t);
-    return end_form(query, QUERY, number, out);
+    return form_call(QUERY_CALL, vetxarno_query, QUERY, held, text, len, out);
 }
 
 int32_t join_call(struct bytes first, struct bytes second, size_t len, uint8_t *out) {
-    struct input a = lend(first, 0), b = lend(second, 1);
-    struct output held = lend_output(len);
-    int32_t number = vetxarno_join(a.at, first.len, b.at, second.len, held.at, len);
-    check_number(JOIN_CALL, number);
-    give_back(a);
-    give_back(b);
-    return end_form(held, HELD, number, out);
+    return form_call(JOIN_CALL, vetxarno_join, HELD, first, second, len, out);
 }
 
 /* Marks are 0 and 1, one for each page, and the number returned is that of the 1s. */

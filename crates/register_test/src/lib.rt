@@ -1,4 +1,4 @@
-// Whether bytes are the form of a register, in linear time.
+// Whether bytes are the form of a register: layout, texts, terms and pages, each gone over once.
 ghost use mathlib.Core.Path.{_≡_};
 ghost use lib.ListN.{length, replicate};
 ghost use Rattle.register_test.specs.Opening.{Opens, Tries};
