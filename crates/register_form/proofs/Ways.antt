@@ -12,9 +12,14 @@ use Rattle.register_form.specs.Dictionary.{spaceOf, nameOf, groupOf, cod
 use Rattle.register_form.specs.Form.{kindFrom, propertyAt, pageAt, formStart, formAt, termAt, textStart, textAt}
 use Rattle.register_form.proofs.Parts.{getD-part}
 
-pub two-past : (h : Bytes) (i : ℕ) → length h ≤ i → 0 ≡ twoAt h i
+two-past : (h : Bytes) (i : ℕ) → length h ≤ i → 0 ≡ twoAt h i
 unfolding twoAt
 two-past h i l = omega (arith, List·getD-eq-default h 0 l, List·getD-eq-default h 0 {n = i + 1} (omega arith))
+
+-- Where at most one byte is left, the number is that byte.
+pub two-last : (h : Bytes) (i a l : ℕ) → length h ≤ i + 1 → a ≡ getD h i 0 → l ≡ a → l ≡ twoAt h i
+unfolding twoAt
+two-last h i a l k e f = omega (arith, List·getD-eq-default h 0 {n = i + 1} k)
 
 pub two-is : (h : Bytes) (i a b l u : ℕ) → a ≡ getD h i 0 → l ≡ a → b ≡ getD h (i + 1) 0 → u ≡ b → l + 256 * u ≡ twoAt h i
 unfolding twoAt
@@ -131,4 +136,4 @@ pub name-there : (h : Bytes) (x : ℕ) (t r : Bytes) → t ≡ textAt h x → r 
 name-there h x t r e f = f ∙ ap nameOf e
 
 pub ruleset reading =
-    (two-past, two-is, eight-past, eight-is, kind-page, kind-number, kind-boolean, kind-string, kind-row, kind-byte, name-row, identifier-row, form-start, form-end, form-row, term-row, group-is, code-is, text-begin, text-stop, text-is, space-is, name-is, space-there, name-there)
+    (eight-past, eight-is, kind-page, kind-number, kind-boolean, kind-string, kind-row, kind-byte, name-row, identifier-row, form-start, form-end, form-row, term-row, group-is, code-is, text-begin, text-stop, text-is, space-is, name-is, space-there, name-there)

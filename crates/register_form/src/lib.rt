@@ -21,12 +21,13 @@ pub const REGISTER_BYTES: usize = 63628;
 pub fn two_at(h: &[u8], i: usize) -> u16
     ensures { λ r. ⌜ r ≡ twoAt (now (h .entry)) i ⌝ }
 {
-    if h.len() <= i {
-        return 0;
+    if h.len() < 2 {
+        return wide(byte_at(h, i));
     }
-    let low = wide(byte_at(h, i));
-    let high = wide(byte_at(h, i + 1));
-    low + 256 * high
+    if h.len() - 2 < i {
+        return wide(byte_at(h, i));
+    }
+    wide(h[i]) + 256 * wide(h[i + 1])
 }
 
 pub fn eight_at(h: &[u8], i: usize) -> u64
