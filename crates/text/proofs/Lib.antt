@@ -1,3 +1,4 @@
 pub mod Laws
+pub mod Keys
 pub mod Trim
 pub mod Tables

@@ -1,4 +1,5 @@
 pub mod Bytes
 pub mod Class
+pub mod Keys
 pub mod Parts
 pub mod Table

@@ -1,10 +1,11 @@
 // Byte strings: parts of them, their order, the byte classes of the language, words and trimming.
 ghost use mathlib.Core.Path.{_≡_};
-ghost use Prim.Native.Nat.{_+_};
+ghost use Prim.Native.Nat.{_+_, _<_};
 ghost use lib.Dec.{eqb};
 ghost use lib.ListN.{length, getD, drop};
 ghost use Rattle.text.specs.Bytes.{any, all, same, orderOf, numbers, span, starts, trimEnd, part as partFrom};
 ghost use Rattle.text.specs.Class.{oneOf, inClass};
+ghost use Rattle.text.specs.Keys.{keyTo};
 ghost use Rattle.text.specs.Parts.{Trimmed};
 
 // How two byte strings stand to one another.
@@ -70,11 +71,38 @@ pub fn compare_numbers(a: u64, b: u64) -> Order
     if b < a { Order::Greater } else { Order::Equal }
 }
 
-// How two byte strings stand to one another.
-pub fn compare(a: &[u8], b: &[u8]) -> Order
-    ensures { λ r. ⌜ r ≡ orderOf (now (a .entry)) (now (b .entry)) ⌝ }
+// The byte at a place as a wider number, 0 past the end.
+fn digit(t: &[u8], i: usize) -> u64
+    ensures { λ r. ⌜ (r ≡ getD (now (t .entry)) i 0) × (r < 256) ⌝ }
 {
+    byte_at(t, i) as u64
+}
+
+// The key of a string: its first eight bytes as one number, the first counting most, and 0 for what lies behind the end.
+pub fn key_of(t: &[u8]) -> u64
+    ensures { λ r. ⌜ r ≡ keyTo 8 (now (t .entry)) ⌝ }
+{
+    let mut key: u64 = 0;
     let mut i: usize = 0;
+    while i < 8 {
+        key = 256 * key + digit(t, i);
+        i += 1;
+    }
+    key
+}
+
+// The key of what a string has from a place on.
+fn key_at(s: &[u8], at: usize) -> u64
+    ensures { λ r. ⌜ r ≡ keyTo 8 (drop at (now (s .entry))) ⌝ }
+{
+    key_of(part(s, at, 8))
+}
+
+// How two byte strings stand to one another from a place on.
+fn compare_from(a: &[u8], b: &[u8], from: usize) -> Order
+    ensures { λ r. ⌜ r ≡ orderOf (drop from (now (a .entry))) (drop from (now (b .entry))) ⌝ }
+{
+    let mut i = from;
     while i < a.len() {
         if b.len() <= i {
             return Order::Greater;
@@ -92,6 +120,23 @@ pub fn compare(a: &[u8], b: &[u8]) -> Order
     } else {
         Order::Equal
     }
+}
+
+// How two byte strings stand to one another. Eight bytes of each are one number while both have so many: the test of both lengths
+// lets the compiler load them at once.
+pub fn compare(a: &[u8], b: &[u8]) -> Order
+    ensures { λ r. ⌜ r ≡ orderOf (now (a .entry)) (now (b .entry)) ⌝ }
+{
+    let mut i: usize = 0;
+    while (8 <= a.len() - i) & (8 <= b.len() - i) {
+        let x = key_at(a, i);
+        let y = key_at(b, i);
+        if x != y {
+            return compare_numbers(x, y);
+        }
+        i += 8;
+    }
+    compare_from(a, b, i)
 }
 
 // Whether the word w stands at a place.

@@ -1,10 +1,11 @@
-use Prim.Native.Nat.{_≤_, _-_}
+use Prim.Native.Nat.{ℕ, _≤_, _-_}
 use mathlib.Core.Path.{_≡_, refl, sym, _∙_}
+use mathlib.Core.List.{List}
 use native.Mathlib.Omega.{arith}
 use lib.ListN.{length, drop}
 use borrow.Author.Needs.{needs}
 use Rattle.text.specs.Bytes.{orderOf}
-use Rattle.text.proofs.Laws.{both-end, left-ends, right-ends, less-here, greater-here, same-here}
+use Rattle.text.proofs.Keys.{Small, both-left, keys-differ, keys-same}
 use Rattle.text.proofs.compare.Statement.{statement}
 use Rattle.text.proofs.compare.Tie as tie
 
@@ -17,41 +18,56 @@ abbrev μ-loop : tie.MeasureT-loop
 loop-holds : tie.Need-loop-holds Inv-loop μ-loop
 loop-holds c = (omega arith, omega arith, refl)
 
+sub-loop : tie.Need-sub-loop Inv-loop μ-loop
+sub-loop c = search needs
+
+sub-loop-2 : tie.Need-sub-loop-2 Inv-loop μ-loop
+sub-loop-2 c = search needs
+
+key-at-requires : tie.Need-key-at-requires Inv-loop μ-loop
+key-at-requires c κs = search needs
+
+key-at-requires-2 : tie.Need-key-at-requires-2 Inv-loop μ-loop
+key-at-requires-2 c κs = search needs
+
+compare-numbers-requires : tie.Need-compare-numbers-requires Inv-loop μ-loop
+compare-numbers-requires c κs = search needs
+
 returns : tie.Need-returns Inv-loop μ-loop
-returns c = sym (c .before .before .loop .inv .2 ∙ right-ends _ _ _ (c .before .loop-test .taken) (c .if1 .taken))
-
-shared-slice-read-if2 : tie.Need-shared-slice-read-if2 Inv-loop μ-loop
-shared-slice-read-if2 c = search needs
-
-shared-slice-read-if2-2 : tie.Need-shared-slice-read-if2-2 Inv-loop μ-loop
-shared-slice-read-if2-2 c = search needs
-
-returns-2 : tie.Need-returns-2 Inv-loop μ-loop
-returns-2 c = sym (c .before .before .before .before .before .loop .inv .2 ∙ less-here _ _ _ (c .before .before .before .before .loop-test .taken) (c .before .before .before .if1 .left) (c .if2 .taken))
-
-shared-slice-read-if3 : tie.Need-shared-slice-read-if3 Inv-loop μ-loop
-shared-slice-read-if3 c = search needs
-
-shared-slice-read-if3-2 : tie.Need-shared-slice-read-if3-2 Inv-loop μ-loop
-shared-slice-read-if3-2 c = search needs
-
-returns-3 : tie.Need-returns-3 Inv-loop μ-loop
-returns-3 c = sym (c .before .before .before .before .before .before .before .before .loop .inv .2 ∙ greater-here _ _ _ (c .before .before .before .before .before .before .before .loop-test .taken) (c .before .before .before .before .before .before .if1 .left) (c .if3 .taken))
+returns c =
+    let a : List ℕ = c .before .before .before .before .before .before .before .before .args .a .now in
+    let b : List ℕ = c .before .before .before .before .before .before .before .before .args .b .now in
+    let i : ℕ = c .before .before .before .before .before .loop .i in
+    let s : Small a = λ j. omega (arith, c .before .before .before .before .before .before .before .shared-slice-known .given j) in
+    let t : Small b = λ j. omega (arith, c .before .before .before .before .before .before .shared-slice-known2 .given j) in
+    c .compare-numbers .ensures ∙ sym (c .before .before .before .before .before .loop .inv .2 ∙ keys-differ a b s t i _ _ (c .before .before .before .key-at .ensures) (c .before .before .key-at2 .ensures) (c .before .if1 .taken))
 
 add-i : tie.Need-add-i Inv-loop μ-loop
 add-i c = search needs
 
 loop-less : tie.Need-loop-less Inv-loop μ-loop
-loop-less c = search needs
+loop-less c =
+    let a : List ℕ = c .before .before .before .before .before .before .before .args .a .now in
+    let b : List ℕ = c .before .before .before .before .before .before .before .args .b .now in
+    let i : ℕ = c .before .before .before .before .loop .i in
+    let h = both-left (length a - i) (length b - i) (c .before .before .before .loop-test .taken) in
+    omega arith
 
 loop-again : tie.Need-loop-again Inv-loop μ-loop
-loop-again c = (omega arith, omega arith, c .before .before .before .before .before .before .before .before .loop .inv .2 ∙ same-here _ _ _ (c .before .before .before .before .before .before .before .loop-test .taken) (c .before .before .before .before .before .before .if1 .left) (c .before .before .before .if2 .left) (c .if3 .left))
+loop-again c =
+    let a : List ℕ = c .before .before .before .before .before .before .before .args .a .now in
+    let b : List ℕ = c .before .before .before .before .before .before .before .args .b .now in
+    let i : ℕ = c .before .before .before .before .loop .i in
+    let s : Small a = λ j. omega (arith, c .before .before .before .before .before .before .shared-slice-known .given j) in
+    let t : Small b = λ j. omega (arith, c .before .before .before .before .before .shared-slice-known2 .given j) in
+    let h = both-left (length a - i) (length b - i) (c .before .before .before .loop-test .taken) in
+    (omega arith, omega arith, c .before .before .before .before .loop .inv .2 ∙ keys-same a b s t i _ _ (c .before .before .key-at .ensures) (c .before .key-at2 .ensures) (c .if1 .left) (omega arith) (omega arith))
 
-returns-4 : tie.Need-returns-4 Inv-loop μ-loop
-returns-4 c = sym (c .before .before .loop .inv .2 ∙ left-ends _ _ _ (c .before .loop-test .left) (c .if4 .taken))
+compare-from-requires : tie.Need-compare-from-requires Inv-loop μ-loop
+compare-from-requires c κs = search needs
 
-returns-5 : tie.Need-returns-5 Inv-loop μ-loop
-returns-5 c = sym (c .before .before .loop .inv .2 ∙ both-end _ _ _ (c .before .loop-test .left) (c .if4 .left))
+returns-2 : tie.Need-returns-2 Inv-loop μ-loop
+returns-2 c = c .compare-from .ensures ∙ sym (c .before .before .loop .inv .2)
 
 pub compare-spec : {M : Type 1} → statement M
 compare-spec =
@@ -60,15 +76,14 @@ compare-spec =
     Inv-loop
     μ-loop
     loop-holds
+    sub-loop
+    sub-loop-2
+    key-at-requires
+    key-at-requires-2
+    compare-numbers-requires
     returns
-    shared-slice-read-if2
-    shared-slice-read-if2-2
-    returns-2
-    shared-slice-read-if3
-    shared-slice-read-if3-2
-    returns-3
     add-i
     loop-less
     loop-again
-    returns-4
-    returns-5)
+    compare-from-requires
+    returns-2)
