@@ -1,17 +1,19 @@
 -- What the functions on texts and properties answer, by what they called.
 use Prim.Native.Nat.{ℕ, zero, suc, _+_, _-_}
 use mathlib.Core.Path.{_≡_, refl, _∙_}
-use mathlib.Core.Bool.{Bool, true, false, _&&_}
+use mathlib.Core.Bool.{Bool, true, false, _&&_, _||_}
 use mathlib.Core.List.{List}
 use native.Mathlib.Omega.{arith}
 use lib.Dec.{ltb, eqb}
 use lib.ListN.{length, getD}
 use Rattle.text.specs.Bytes.{Bytes, orderOf}
 use Rattle.text.specs.declared.Order.{Order}
-use Rattle.values.specs.Names.{isName, isNamespace, isPropertyName, isValue}
+use Rattle.values.specs.Names.{isNamespace, isPropertyName}
+use Rattle.values.specs.ByteRules.{nameClass}
+use Rattle.values.proofs.Ruling.{class-two}
 use Rattle.language.specs.Rules.{isIdentifier}
 use Rattle.sorting.specs.Ascending.{isLess}
-use Rattle.register_form.specs.Dictionary.{spaceOf, nameOf}
+use Rattle.register_form.specs.Dictionary.{spaceOf, nameOf, identifierOf}
 use Rattle.register_form.specs.Form.{textCount, textStart, textAt}
 use Rattle.register_form.specs.Tests.{allTo, isLabelled, isPlain}
 use Rattle.register_test.specs.Loops.{sumTo, climbs}
@@ -43,26 +45,23 @@ module _ (h : Bytes) (x : ℕ) where
   unfolding textTest
   text-tested t a b e f g = rw (f, g, e)
 
-  module _ (n : Bytes) (p a : Bool) (e : n ≡ nameOf (textAt h x)) (f : p ≡ isPlain (textAt h x)) (g : a ≡ isName n) where
-    pub class-name : p ≡ true → a ≡ true → 2 ≡ classOf (textAt h x)
+  module _ (n : Bytes) (p : Bool) (a : ℕ) (e : n ≡ nameOf (textAt h x)) (f : p ≡ isPlain (textAt h x)) (g : a ≡ nameClass n) where
+    pub class-plain : p ≡ true → a ≡ classOf (textAt h x)
     unfolding classOf
-    class-name k l = rw (← f, k, ← e, ← g, l)
+    class-plain k = rw (← f, k, g, e)
 
-    pub class-value : (v : Bool) → p ≡ true → a ≡ false → v ≡ isValue n → v ≡ true → 1 ≡ classOf (textAt h x)
-    unfolding classOf
-    class-value v k l m q = rw (← f, k, ← e, ← g, l, ← m, q)
+    module _ (s : Bytes) (b : ℕ) (k : p ≡ false) (l : s ≡ spaceOf (textAt h x)) (m : b ≡ nameClass s) where
+      names-told : (q : Bool) → ((eqb (length s) 0 || eqb b 2) && eqb a 2) ≡ q → isIdentifier (identifierOf (textAt h x)) ≡ q
+      unfolding isIdentifier isNamespace
+      names-told q r = rw (← l, ← e, ← class-two s, ← class-two n, ← m, ← g) r
 
-    pub class-none : (v : Bool) → p ≡ true → a ≡ false → v ≡ isValue n → v ≡ false → 0 ≡ classOf (textAt h x)
-    unfolding classOf
-    class-none v k l m q = rw (← f, k, ← e, ← g, l, ← m, q)
+      pub class-spaced : ((eqb (length s) 0 || eqb b 2) && eqb a 2) ≡ true → 3 ≡ classOf (textAt h x)
+      unfolding classOf
+      class-spaced q = rw (← f, k, names-told true q)
 
-    pub class-spaced : (s : Bytes) (b : Bool) → p ≡ false → s ≡ spaceOf (textAt h x) → b ≡ isNamespace s → (b && a) ≡ true → 3 ≡ classOf (textAt h x)
-    unfolding classOf isIdentifier
-    class-spaced s b k l m q = rw (← f, k, ← e, ← g, ← l, ← m, q)
-
-    pub class-other : (s : Bytes) (b : Bool) → p ≡ false → s ≡ spaceOf (textAt h x) → b ≡ isNamespace s → (b && a) ≡ false → 0 ≡ classOf (textAt h x)
-    unfolding classOf isIdentifier
-    class-other s b k l m q = rw (← f, k, ← e, ← g, ← l, ← m, q)
+      pub class-other : ((eqb (length s) 0 || eqb b 2) && eqb a 2) ≡ false → 0 ≡ classOf (textAt h x)
+      unfolding classOf
+      class-other q = rw (← f, k, names-told false q)
 
   pub length-is : (a b r : ℕ) → a ≡ textStart h (suc x) → b ≡ textStart h x → r ≡ a - b → r ≡ textLength h x
   unfolding textLength
@@ -82,4 +81,4 @@ module _ (h : Bytes) (p x : ℕ) (e : x ≡ nameNumber h p) where
   property-sum n w s f g k = sum-more (propertyLength h) p s w f (k ∙ g ∙ rw e)
 
 pub ruleset texts =
-    (labelled-is, climbs-first, climbs-on, plain-is, text-tested, class-name, class-value, class-none, class-spaced, class-other, length-is, property-is, property-more, property-sum)
+    (labelled-is, climbs-first, climbs-on, plain-is, text-tested, length-is, property-is, property-more, property-sum)

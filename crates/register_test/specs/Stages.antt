@@ -8,7 +8,8 @@ use lib.ListN.{length, getD}
 use Rattle.text.specs.Bytes.{Bytes}
 use Rattle.values.specs.declared.Kind.{Kind}
 use Rattle.values.specs.Answers.{base}
-use Rattle.values.specs.Names.{isName, isPropertyName, isValue}
+use Rattle.values.specs.Names.{isPropertyName}
+use Rattle.values.specs.ByteRules.{nameClass}
 use Rattle.values.specs.Spelling.{spellNumber}
 use Rattle.language.specs.Rules.{isIdentifier}
 use Rattle.register_form.specs.Numbers.{twoAt}
@@ -23,7 +24,7 @@ use Rattle.register_test.specs.declared.Tally.{Tally}
 unfoldable pub classOf : Bytes → ℕ
 classOf t =
     cond (isPlain t)
-    (cond (isName (nameOf t)) 2 (cond (isValue (nameOf t)) 1 0))
+    (nameClass (nameOf t))
     (cond (isIdentifier (identifierOf t)) 3 0)
 
 -- Of a term that names no text: whether it keeps the rules, the number 65,535, past every table, for that of a text, and how many

@@ -1,6 +1,7 @@
 // The tests of texts and of properties.
 ghost use mathlib.Core.Path.{_≡_};
 ghost use Prim.Native.Nat.{_-_};
+ghost use Rattle.values.specs.ByteRules.{ruleTable};
 ghost use Rattle.register_form.specs.Form.{textCount, textAt};
 ghost use Rattle.register_form.specs.Tests.{allTo, isLabelled, isPlain};
 ghost use Rattle.register_test.specs.Loops.{climbs};
@@ -21,10 +22,9 @@ use tables::put;
 use tables::widen;
 use text::byte_at;
 use text::compare;
-use values::is_name;
-use values::is_namespace;
 use values::is_property_name;
-use values::is_value;
+use values::rules::byte_rules;
+use values::rules::name_class;
 
 // Whether a text's namespace ends within it.
 fn is_labelled(t: &[u8]) -> bool
@@ -57,25 +57,18 @@ fn text_ok(h: &[u8], x: u16) -> bool
     is_labelled(text_at(h, x)) & text_climbs(h, x)
 }
 
-// What text x may be.
-fn class_of(h: &[u8], x: u16) -> u16
+// What text x may be, by the table of the rules for bytes.
+fn class_of<'a>(h: &'a [u8], rules: &'a [u8], x: u16) -> u16
+    requires { ⌜ now rules ≡ ruleTable ⌝ }
     ensures { λ r. ⌜ r ≡ classOf (textAt (now (h .entry)) x) ⌝ }
 {
-    let name = name_at(h, x);
+    let class = name_class(rules, name_at(h, x));
     if is_plain(h, x) {
-        if is_name(name) {
-            return 2;
-        }
-        if is_value(name) {
-            return 1;
-        }
-        return 0;
+        return class;
     }
-    if is_namespace(space_at(h, x)) & is_name(name) {
-        3
-    } else {
-        0
-    }
+    let space = space_at(h, x);
+    let spaced = (space.len() == 0) | (name_class(rules, space) == 2);
+    if spaced & (class == 2) { 3 } else { 0 }
 }
 
 // Whether texts are labelled and ascend; writes the class of each.
@@ -83,11 +76,12 @@ pub fn texts_ok(h: &[u8], classes: &mut [u16]) -> bool
     ensures { λ r. ⌜ (r ≡ allTo (textCount (now (h .entry))) (textTest (now (h .entry)))) × (now (classes .exit) ≡ classesTo (now (h .entry)) (textCount (now (h .entry))) (now (classes .entry))) ⌝ }
 {
     let n = text_count(h);
+    let rules = byte_rules();
     let mut ok = true;
     let mut x: u16 = 0;
     while x < n {
         ok = ok & text_ok(h, x);
-        put(classes, widen(x), class_of(h, x));
+        put(classes, widen(x), class_of(h, &rules, x));
         x += 1;
     }
     ok

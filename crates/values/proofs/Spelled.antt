@@ -181,7 +181,7 @@ neither : (a b : Bool) → a || b ≡ false → (a ≡ false) × (b ≡ false)
 neither true b h = absurd (true≢false h)
 neither false b h = (refl, h)
 
-name-byte : (b : ℕ) → isNameByte b ≡ true → isValueByte b ≡ true
+pub name-byte : (b : ℕ) → isNameByte b ≡ true → isValueByte b ≡ true
 unfolding isNameByte isValueByte
 name-byte b h =
     let t = and-eq-true-iff (leb 32 b && not (eqb b 127)) (not (oneOf "[]|<>:#{}_\"" b)) .0 h in

@@ -2,3 +2,4 @@ pub mod Names
 pub mod Values
 pub mod Answers
 pub mod Spelling
+pub mod ByteRules

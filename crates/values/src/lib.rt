@@ -7,6 +7,9 @@ ghost use Rattle.text.specs.Bytes.{same};
 ghost use Rattle.values.specs.Names.{isName, isPropertyName, isNamespace, isValue, isReference, reference, isSized, last};
 ghost use Rattle.values.specs.Values.{lower, readDigits, readNumber, readBoolean};
 ghost use Rattle.values.specs.Answers.{hasBareEnds, Splits, digitsRead, numberRead, booleanRead, kindRead, kindAt};
+
+pub mod rules; // rules.rt: the rules for bytes, in a table
+
 use text::Class;
 use text::Span;
 use text::all_in;

@@ -11,13 +11,16 @@ use Rattle.register_test.proofs.texts.texts_ok.Statement.{statement}
 use Rattle.register_test.proofs.texts.texts_ok.Tie as tie
 
 abbrev Inv-loop : tie.InvT-loop
-Inv-loop h classes₀ n ok₀ x₀ classes ok x = (x ≤ n) × (ok ≡ allTo x (textTest h)) × (classes ≡ classesTo h x classes₀)
+Inv-loop h classes₀ n rules ok₀ x₀ classes ok x = (x ≤ n) × (ok ≡ allTo x (textTest h)) × (classes ≡ classesTo h x classes₀)
 
 abbrev μ-loop : tie.MeasureT-loop
-μ-loop h classes₀ n ok₀ x₀ classes ok x = n - x
+μ-loop h classes₀ n rules ok₀ x₀ classes ok x = n - x
 
 text-count-requires : tie.Need-text-count-requires Inv-loop μ-loop
 text-count-requires c κs = search needs
+
+byte-rules-requires : tie.Need-byte-rules-requires Inv-loop μ-loop
+byte-rules-requires c κs = search needs
 
 loop-holds : tie.Need-loop-holds Inv-loop μ-loop
 loop-holds c = search (texts, loops, needs)
@@ -28,8 +31,11 @@ text-ok-requires c κs = search needs
 widen-requires : tie.Need-widen-requires Inv-loop μ-loop
 widen-requires c κs = search needs
 
+slice-aggregate-class-of : tie.Need-slice-aggregate-class-of Inv-loop μ-loop
+slice-aggregate-class-of c = search needs
+
 class-of-requires : tie.Need-class-of-requires Inv-loop μ-loop
-class-of-requires c κs = search needs
+class-of-requires c κs = c .before .before .before .before .before .before .byte-rules .ensures
 
 put-requires : tie.Need-put-requires Inv-loop μ-loop
 put-requires c κs = search needs
@@ -56,9 +62,11 @@ texts-ok-spec =
     Inv-loop
     μ-loop
     text-count-requires
+    byte-rules-requires
     loop-holds
     text-ok-requires
     widen-requires
+    slice-aggregate-class-of
     class-of-requires
     put-requires
     add-x

@@ -1,0 +1,43 @@
+// The rules for the bytes of names and values, in a table, so that a text is gone over once for both.
+ghost use mathlib.Core.Path.{_≡_};
+ghost use Rattle.values.specs.ByteRules.{ruleTable, RuledOut, nameClass};
+use crate::has_bare_ends;
+use crate::is_sized;
+use text::byte_at;
+use text::widen;
+
+// A digit for each byte: 0 where a name may have it, 1 where only a value may, 2 where neither may.
+pub fn byte_rules() -> [u8; 256]
+    ensures { λ r. ⌜ r ≡ ruleTable ⌝ }
+{
+    *b"2222222222222222222222222222222200210000000000000000000000102020000000000000000000000000000202010000000000000000000000000001210200000000000000000000000000000000000000000000000000000000000000000000000000000000000000000000000000000000000000000000000000000000"
+}
+
+// The digits of all bytes by a table, their bits put together.
+fn ruled_out<'a>(rules: &'a [u8], s: &'a [u8]) -> u8
+    ensures { λ r. ⌜ RuledOut (now (rules .entry)) (now (s .entry)) r ⌝ }
+{
+    let mut out: u8 = 0;
+    let mut i: usize = 0;
+    while i < s.len() {
+        out = out | byte_at(rules, widen(s[i]));
+        i += 1;
+    }
+    out % 16
+}
+
+// 2 for a name, 1 for a value that is no name, 0 for any other text.
+pub fn name_class<'a>(rules: &'a [u8], s: &'a [u8]) -> u16
+    ensures { λ r. ⌜ (now (rules .entry) ≡ ruleTable → r ≡ nameClass (now (s .entry))) ⌝ }
+{
+    let fit = is_sized(s) & has_bare_ends(s);
+    if !fit {
+        return 0;
+    }
+    let first = byte_at(s, 0);
+    let out = ruled_out(rules, s);
+    if (out < 1) & !((first == 33) | (first == 126) | (first == 43)) {
+        return 2;
+    }
+    if (out < 2) & (first != 126) { 1 } else { 0 }
+}
