@@ -1,14 +1,19 @@
 -- What the functions on terms answer, by what they called.
-use Prim.Native.Nat.{ℕ, _+_, _-_, _≤_, _<_}
-use mathlib.Core.Path.{_≡_, refl, ap, _∙_}
-use mathlib.Core.Bool.{Bool, false, _&&_}
+use Prim.Native.Nat.{ℕ, zero, suc, _+_, _*_, _-_, _≤_, _<_}
+use mathlib.Core.Path.{_≡_, refl, sym, ap, _∙_}
+use mathlib.Core.Bool.{Bool, true, false, cond, _&&_}
 use mathlib.Core.List.{List}
-use lib.Dec.{ltb, leb}
-use lib.ListN.{length, getD}
+use native.Mathlib.Omega.{arith}
+use lib.Dec.{ltb, leb, lit≤}
+use lib.ListN.{length, getD, drop}
 use borrow.Author.Tests.{eq-eqb, ne-eqb, lt-ltb, le-ltb, le-leb, lt-leb}
-use Rattle.text.specs.Bytes.{Bytes}
+use Rattle.text.specs.Bytes.{Bytes, numbers, part}
+use Rattle.text.specs.Keys.{keyTo}
+use Rattle.text.specs.declared.Order.the-variants.{Less, Equal, Greater}
+use Rattle.text.proofs.Keys.{Small, part-small, key-take, key-order}
 use Rattle.values.specs.declared.Kind.{Kind}
 use Rattle.values.specs.Spelling.{spellNumber}
+use Rattle.sorting.specs.Ascending.{isLess}
 use Rattle.register_form.specs.Dictionary.{groupOf, codeOf, numberFrom}
 use Rattle.register_form.specs.Form.{propertyCount, textCount, propertyAt, termAt}
 use Rattle.register_form.specs.Tests.{allTo}
@@ -16,6 +21,15 @@ use Rattle.register_test.specs.Loops.{climbs}
 use Rattle.register_test.specs.Stages.{textLength, noText, booleanLength, spelledLength, judgedIn, judgedText, judgedValue, judgedGroup, judgedTerm, termTest}
 use Rattle.register_test.specs.declared.Judged.{Judged}
 use Rattle.register_test.proofs.Loops.{all-more}
+
+less-number : (x y : ℕ) → isLess (numbers x y) ≡ ltb x y
+unfolding numbers
+less-number x y = go (ltb x y) (ltb y x)
+  where
+    go : (p q : Bool) → isLess (cond p Less (cond q Greater Equal)) ≡ p
+    go true q = refl
+    go false true = refl
+    go false false = refl
 
 pub no-text-is : (ok : Bool) (n : ℕ) → record { ok = ok; text = 65535; bytes = n } ≡ noText ok n
 unfolding noText
@@ -35,6 +49,19 @@ module _ (j k : Judged) (e : j ≡ k) where
 
   pub bytes-of : j .bytes ≡ k .bytes
   bytes-of = rw e
+
+-- Terms that differ in their first eight bytes are ordered by these.
+pub term-keyed : (h : Bytes) → Small h → (f w x y : ℕ) → (f ≡ 0 → ⊥) → w ≡ f - 1 → x ≡ keyTo 8 (drop (5322 + 9 * w) h) → y ≡ keyTo 8 (drop (5322 + 9 * w + 9) h) → (x ≡ y → ⊥) → ltb x y ≡ climbs (termAt h) f
+unfolding climbs termAt
+term-keyed h s zero w x y n e p q d = absurd (n refl)
+term-keyed h s (suc f) w x y n e p q d =
+    let v : w ≡ f = omega arith in
+    let z : 5322 + 9 * w + 9 ≡ 5322 + 9 * suc f = omega arith in
+    let a : x ≡ keyTo 8 (part h (5322 + 9 * f) 9) = p ∙ rw v (sym (key-take 8 9 (drop (5322 + 9 * f) h) (lit≤ tt))) in
+    let b : y ≡ keyTo 8 (part h (5322 + 9 * suc f) 9) = q ∙ rw z (sym (key-take 8 9 (drop (5322 + 9 * suc f) h) (lit≤ tt))) in
+    sym
+    (ap isLess (key-order (part h (5322 + 9 * f) 9) (part h (5322 + 9 * suc f) 9) (part-small h s (5322 + 9 * f) 9) (part-small h s (5322 + 9 * suc f) 9) 8 (λ k. d (a ∙ k ∙ sym b)))
+    ∙ rw (← a, ← b) (less-number x y))
 
 module _ (h : Bytes) where
   pub spelled-spaced : (class x n : ℕ) → n ≡ textLength h x → class ≡ 3 → n ≡ spelledLength h class x

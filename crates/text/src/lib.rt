@@ -92,7 +92,7 @@ pub fn key_of(t: &[u8]) -> u64
 }
 
 // The key of what a string has from a place on.
-fn key_at(s: &[u8], at: usize) -> u64
+pub fn key_at(s: &[u8], at: usize) -> u64
     ensures { λ r. ⌜ r ≡ keyTo 8 (drop at (now (s .entry))) ⌝ }
 {
     key_of(part(s, at, 8))
