@@ -91,4 +91,4 @@ module _ (h : Bytes) where
     page-sum shown i u w r forms s x n m p q k l =
         sum-more (pageLength h shown) i s (m + r .bytes) p (ap₂ _+_ (l ∙ k ∙ rw q) (forms .bytes))
 
-pub ruleset pages = (set-is, used-tested, form-is, behind-none, count-is, form-in, page-is, last-none, last-end, last-length)
+pub ruleset pages = (set-is, used-tested, behind-none, count-is, form-in, page-is, last-none, last-end, last-length)

@@ -3,7 +3,7 @@ ghost use mathlib.Core.Path.{_≡_};
 ghost use Rattle.register_form.specs.Form.{termCount, textCount};
 ghost use Rattle.register_form.specs.Tests.{allTo};
 ghost use Rattle.register_test.specs.Loops.{isSet};
-ghost use Rattle.register_test.specs.Stages.{formOk, FormsTested, pageOk, PagesTested, usedTest};
+ghost use Rattle.register_test.specs.Stages.{FormsTested, pageOk, PagesTested, usedTest};
 use crate::Tally;
 use crate::texts::names_length;
 use register_form::form_at;
@@ -19,30 +19,27 @@ use tables::get;
 use tables::put;
 use tables::widen;
 
-// Whether a page may have term f, where the table has the last page, told by its mark, that has it, and behind says that the form
-// before is a value.
-fn form_ok(h: &[u8], last: &[u16], mark: u16, behind: bool, f: u16) -> bool
-    ensures { λ r. ⌜ r ≡ formOk (now (h .entry)) (now (last .entry)) mark behind f ⌝ }
-{
-    (f < term_count(h)) & (get(last, widen(f)) != mark) & !(behind & (group_at(h, f) == 0))
-}
-
-// Whether the forms of page i are terms, none twice, categories before values; writes the page's mark for each.
+// Whether the forms of page i are terms, none twice, categories before values; writes the page's mark for each. The table had the last
+// page that has a term, told by its mark. Reads and writes of tables stand together, so that one test of the place does for all.
 fn forms_ok(h: &[u8], shown: &[u16], last: &mut [u16], i: u16, mark: u16) -> Tally
     ensures { λ r. ⌜ FormsTested (now (h .entry)) (now (shown .entry)) (now (last .entry)) (now (last .exit)) mark i r ⌝ }
 {
     let start = form_start(h, i);
     let n = minus(form_end(h, i), start);
+    let terms = term_count(h);
     let mut ok = true;
     let mut behind = false;
     let mut bytes: usize = 0;
     let mut j: u16 = 0;
     while j < n {
         let f = form_at(h, start + j);
-        ok = ok & form_ok(h, last, mark, behind, f);
-        behind = group_at(h, f) != 0;
-        bytes += widen(get(shown, widen(f)));
-        put(last, widen(f), mark);
+        let group = group_at(h, f);
+        let at = widen(f);
+        let page = get(last, at);
+        bytes += widen(get(shown, at));
+        put(last, at, mark);
+        ok = ok & ((f < terms) & (page != mark) & !(behind & (group == 0)));
+        behind = group != 0;
         j += 1;
     }
     Tally { ok, bytes }
