@@ -4,4 +4,5 @@ pub mod Members
 pub mod Orders
 pub mod Listings
 pub mod Numbers
+pub mod Feeds
 pub mod Alike

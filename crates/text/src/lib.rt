@@ -72,16 +72,30 @@ pub fn compare_numbers(a: u64, b: u64) -> Order
 }
 
 // The byte at a place as a wider number, 0 past the end.
-fn digit(t: &[u8], i: usize) -> u64
+pub fn digit(t: &[u8], i: usize) -> u64
     ensures { λ r. ⌜ (r ≡ getD (now (t .entry)) i 0) × (r < 256) ⌝ }
 {
     byte_at(t, i) as u64
+}
+
+// The key of a string of eight bytes or more, which is compiled to one load.
+fn key_of_eight(t: &[u8]) -> u64
+    ensures { λ r. ⌜ r ≡ keyTo 8 (now (t .entry)) ⌝ }
+{
+    let a = 256 * digit(t, 0) + digit(t, 1);
+    let b = 256 * digit(t, 2) + digit(t, 3);
+    let c = 256 * digit(t, 4) + digit(t, 5);
+    let d = 256 * digit(t, 6) + digit(t, 7);
+    65536 * (65536 * (65536 * a + b) + c) + d
 }
 
 // The key of a string: its first eight bytes as one number, the first counting most, and 0 for what lies behind the end.
 pub fn key_of(t: &[u8]) -> u64
     ensures { λ r. ⌜ r ≡ keyTo 8 (now (t .entry)) ⌝ }
 {
+    if 8 <= t.len() {
+        return key_of_eight(t);
+    }
     let mut key: u64 = 0;
     let mut i: usize = 0;
     while i < 8 {
