@@ -118,7 +118,7 @@ module _ (h : Bytes) (places : List ℕ) (q : Bytes) where
   -- eval_selector
   module _ (at : ℕ) (selector : Selector) (b : Bool) (is : b ≡ isSubquery selector) where
     pub eval-leaf : (inner : List Bool) (set : PageSet) → b ≡ false → inner ≡ replicate 1 false
-        → Selects h places (textIn q) selector inner pagesOf (set .marks)
+        → Selects h places (textIn q) selector inner (set .marks)
         → Evaluates h places q (suc at) (stackWith q at selector) (record { set = set; next = at })
     unfolding Evaluates Selects S stepped
     eval-leaf inner set e f g R o =
@@ -139,7 +139,7 @@ module _ (h : Bytes) (places : List ℕ) (q : Bytes) where
             leaf (Node.value (named q p) o (constantBy (textIn q) k)) (Core.Selector.value (named q p) o (constantBy (textIn q) k)) (λ st. refl) z
 
     pub eval-within : (inner : Evaluated) (set : PageSet) → b ≡ true → Evaluates h places q at (stackAt q at) inner
-        → Selects h places (textIn q) selector (inner .set .marks) pagesOf (set .marks)
+        → Selects h places (textIn q) selector (inner .set .marks) (set .marks)
         → Evaluates h places q (suc at) (stackWith q at selector) (record { set = set; next = inner .next })
     unfolding Evaluates Selects
     eval-within inner set e i g R o = go selector (sym is ∙ e) (g R o)

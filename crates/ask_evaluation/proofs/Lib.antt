@@ -1,4 +1,3 @@
-pub mod Marks
-pub mod Passing
+pub mod Selecting
 pub mod Evaluating
 pub mod Mixing

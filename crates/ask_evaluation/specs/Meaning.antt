@@ -21,9 +21,7 @@ use Rattle.nodes.specs.Reading.{constantBy, selectorBy}
 use Rattle.nodes.specs.declared.Selector.{Selector}
 use Rattle.nodes.specs.declared.Connective.{Connective}
 use Rattle.register_form.specs.Opened.{pageIn, Opened}
-use Rattle.register_view.specs.Ranges.{CategoryRange, PropertyRange}
-use Rattle.register_view.specs.View.{Agrees}
-use Rattle.register_view.specs.declared.TermRange.{TermRange}
+use Rattle.register_view.specs.View.{marksIn, Agrees}
 use Rattle.ask_evaluation.specs.declared.Evaluated.{Evaluated}
 
 -- A number of pages, as far as a page set has places.
@@ -63,33 +61,14 @@ matches q x R inner (Selector.Subquery p) page = holds x (follows noMixed R inne
 matches q x R inner (Selector.Article c p) page = Ca c (page .identifier .article) x
 matches q x R inner (Selector.Value p c v) page = holds x (Cv noMixed c (constantBy q v)) page
 
--- The range has the terms that a selector with the name x asks for.
-abbrev pub Ranges : Register → Selector → Bytes → TermRange → Type 0
-Ranges R (Selector.Category p) x r = CategoryRange R x r
-Ranges R (Selector.Namespace p) x r = Unit {0}
-Ranges R (Selector.Existence p) x r = PropertyRange R x r
-Ranges R (Selector.Subquery p) x r = PropertyRange R x r
-Ranges R (Selector.Article c p) x r = Unit {0}
-Ranges R (Selector.Value p c v) x r = PropertyRange R x r
-
-unfoldable pub RangeOf : Bytes → Selector → Bytes → TermRange → Type 0
-RangeOf h selector x r = (places : List ℕ) (R : Register) → Opened h places R → Ranges R selector x r
-
 -- How many pages a register has.
 abbrev pub pagesOf : Register → ℕ
 pagesOf R = length (R .pages)
 
--- The marks of the first places: the pages that match, where the set's marks are what the subquery selects.
-unfoldable pub Selects : Bytes → List ℕ → Bytes → Selector → List Bool → (Register → ℕ) → List Bool → Type 0
-Selects h places q selector set count marks =
-    (R : Register) → Opened h places R → (inner : Page → Bool) → Agrees R set inner
-    → marks ≡ tabulate 256 (λ j. ltb j (count R) && matches q (partOf q (nameSpan selector)) R inner selector (pageIn R j))
-
--- The same of the page in one place; x is the selector's name, and the range has its terms.
-unfoldable pub Passes : Bytes → List ℕ → Bytes → Selector → Bytes → TermRange → List Bool → ℕ → Bool → Type 0
-Passes h places q selector x range marks i r =
-    (R : Register) → Opened h places R → i < length (R .pages) → Ranges R selector x range
-    → (inner : Page → Bool) → Agrees R marks inner → r ≡ matches q x R inner selector (pageIn R i)
+-- The marks of the pages that match, where the set's marks are what the subquery selects.
+unfoldable pub Selects : Bytes → List ℕ → Bytes → Selector → List Bool → List Bool → Type 0
+Selects h places q selector set marks =
+    (R : Register) → Opened h places R → (inner : Page → Bool) → Agrees R set inner → marks ≡ marksIn R (matches q (partOf q (nameSpan selector)) R inner selector)
 
 -- Two sets joined by a connective.
 abbrev pub Joined : Connective → List Bool → List Bool → List Bool → Type 0

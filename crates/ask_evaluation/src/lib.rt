@@ -3,7 +3,7 @@ ghost use mathlib.Core.Path.{_≡_};
 ghost use Prim.Native.Nat.{suc};
 ghost use Rattle.nodes.specs.Held.{textIn};
 ghost use Rattle.nodes.specs.Stack.{stackAt};
-ghost use Rattle.ask_evaluation.specs.Meaning.{Capped, nameSpan, isSubquery, isSelection, RangeOf, Selects, pagesOf, Passes, Joined, Evaluates, stackWith};
+ghost use Rattle.ask_evaluation.specs.Meaning.{Capped, nameSpan, isSubquery, isSelection, Selects, Joined, Evaluates, stackWith};
 
 pub mod mismatch; // mismatch.rt: number 23's test
 
@@ -14,22 +14,13 @@ use nodes::Selector;
 use nodes::node_at;
 use nodes::two_at;
 use pageset::PageSet;
-use register_form::page_count;
-use register_view::TermRange;
+use register_view::NameTest;
 use register_view::Test;
-use register_view::article_at;
-use register_view::category_range;
-use register_view::holds_passing;
-use register_view::in_category;
-use register_view::namespace_at;
-use register_view::no_terms;
-use register_view::property_range;
-use register_view::stands_as;
-use tables::widen;
+use register_view::pages_holding;
+use register_view::pages_in_category;
+use register_view::pages_named;
 use text::Span;
-use text::compare;
 use text::part;
-use text::same_bytes;
 use values::Kind;
 
 // The pages that a query selects, and the place where its nodes begin.
@@ -95,63 +86,21 @@ fn is_selection(connective: Connective) -> bool
     }
 }
 
-// The terms that a selector with the name x asks for.
-fn range_of(h: &[u8], selector: Selector, x: &[u8]) -> TermRange
-    ensures { λ r. ⌜ RangeOf (now (h .entry)) selector (now (x .entry)) r ⌝ }
-{
-    match selector {
-        Selector::Category(_) => category_range(h, x),
-        Selector::Namespace(_) => no_terms(),
-        Selector::Existence(_) => property_range(h, x),
-        Selector::Subquery(_) => property_range(h, x),
-        Selector::Article(_, _) => no_terms(),
-        Selector::Value(_, _, _) => property_range(h, x),
-    }
-}
-
-// Whether the page in a place matches a selector with the name x, whose terms the range has; the marks are what its subquery
-// selects.
-fn page_passes(
-    h: &[u8],
-    places: &[u16],
-    q: &[u8],
-    selector: Selector,
-    x: &[u8],
-    range: TermRange,
-    marks: &[bool],
-    i: u16,
-) -> bool
-    ensures { λ r. ⌜ Passes (now (h .entry)) (now (places .entry)) (now (q .entry)) selector (now (x .entry)) range (now (marks .entry)) i r ⌝ }
-{
-    match selector {
-        Selector::Category(_) => in_category(h, i, range),
-        Selector::Namespace(_) => same_bytes(namespace_at(h, i), x),
-        Selector::Existence(_) => holds_passing(h, places, i, range, Test::Any, q, marks),
-        Selector::Subquery(_) => holds_passing(h, places, i, range, Test::Leads, q, marks),
-        Selector::Article(o, _) => stands_as(o, compare(article_at(h, i), x)),
-        Selector::Value(_, o, v) => {
-            holds_passing(h, places, i, range, Test::Stands(o, v), q, marks)
-        }
-    }
-}
-
 // The pages that match a selector; inner are the marks of what its subquery selects.
 fn select(q: &[u8], selector: Selector, inner: &[bool], h: &[u8], places: &[u16]) -> PageSet
-    ensures { λ r. ⌜ Selects (now (h .entry)) (now (places .entry)) (textIn (now (q .entry))) selector (now (inner .entry)) pagesOf (r .marks) ⌝ }
+    ensures { λ r. ⌜ Selects (now (h .entry)) (now (places .entry)) (textIn (now (q .entry))) selector (now (inner .entry)) (r .marks) ⌝ }
 {
     let text = query_text(q);
     let p = name_of(selector);
     let x = part(text, p.start, p.len);
-    let range = range_of(h, selector, x);
-    let n = capped(page_count(h));
-    let mut marks = [false; 256];
-    let mut i: u16 = 0;
-    while i < n {
-        let at = widen(i);
-        marks[at] = page_passes(h, places, text, selector, x, range, inner, i);
-        i += 1;
+    match selector {
+        Selector::Category(_) => pages_in_category(h, x),
+        Selector::Namespace(_) => pages_named(h, NameTest::Namespace, x),
+        Selector::Existence(_) => pages_holding(h, places, x, Test::Any, text, inner),
+        Selector::Subquery(_) => pages_holding(h, places, x, Test::Leads, text, inner),
+        Selector::Article(o, _) => pages_named(h, NameTest::Article(o), x),
+        Selector::Value(_, o, v) => pages_holding(h, places, x, Test::Stands(o, v), text, inner),
     }
-    PageSet { marks: marks }
 }
 
 // Two sets joined by a connective.

@@ -5,4 +5,5 @@ pub mod Opening
 pub mod Covering
 pub mod Ranging
 pub mod Leading
+pub mod Marks
 pub mod Holding

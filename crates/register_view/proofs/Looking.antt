@@ -1,11 +1,11 @@
 -- The terms of a page: what is asked of one, and of one after the other.
 use Prim.Native.Nat.{ℕ, zero, suc, _+_, _-_, _≤_, _<_}
 use mathlib.Core.Path.{_≡_, refl, sym, ap, _∙_}
-use mathlib.Core.Bool.{Bool, true, false, cond, not, _||_, or-false}
+use mathlib.Core.Bool.{Bool, true, false, cond, _&&_, _||_, or-false}
 use mathlib.Core.List.{List, [], _∷_}
 use native.Mathlib.Omega.{arith}
-use borrow.Author.Tests.{ltb-true, ltb-false, not-true, not-false}
-use lib.Dec.{ltb, eqb}
+use borrow.Author.Tests.{ltb-true, ltb-false, lt-ltb, le-ltb, le-leb, lt-leb}
+use lib.Dec.{leb, ltb, eqb}
 use lib.IntN.{pos, negsuc, subℕ}
 use lib.ListN.{getD}
 use Rattle.text.specs.Bytes.{Bytes, part, numbers, orderOf, any}
@@ -23,7 +23,6 @@ use Rattle.nodes.specs.declared.Constant.{Constant}
 use Rattle.register_form.specs.Numbers.{twoAt}
 use Rattle.register_form.specs.Dictionary.{nameOf, codeOf, numberFrom}
 use Rattle.register_form.specs.Form.{formStart, formAt, pageAt, termAt, textAt}
-use Rattle.register_view.specs.Ranges.{within}
 use Rattle.register_view.specs.View.{textNumber, valueAt, marked, leadsInto, passesAt, sought}
 use Rattle.register_view.specs.declared.Test.{Test}
 use Rattle.register_view.specs.declared.TermRange.{TermRange}
@@ -118,17 +117,25 @@ module _ (h : Bytes) (places : List ℕ) (marks : List Bool) (k : Kind) (f : ℕ
     pub passes-leads : (r : Bool) → test ≡ Test.Leads → r ≡ leadsInto h places marks k f → r ≡ passesAt h places q marks k test f
     passes-leads r e g = rw e g
 
--- is_sought
-module _ (h : Bytes) (places : List ℕ) (q : Bytes) (marks : List Bool) (range : TermRange) (test : Test) (f : ℕ) where
-  pub sought-outside : not (within range f) ≡ true → false ≡ sought h places q marks range test f
+-- terms_passing
+module _ (h : Bytes) (places : List ℕ) (q : Bytes) (marks : List Bool) (range : TermRange) (test : Test) (j : ℕ) where
+  pub sought-below : j < range .low → sought h places q marks range test j ≡ false
   unfolding sought
-  sought-outside e = rw (not-true (within range f) e)
+  sought-below l = rw (lt-leb (range .low) j l)
 
-  pub sought-inside : (r : Bool) → not (within range f) ≡ false → r ≡ passesAt h places q marks (range .kind) test f → r ≡ sought h places q marks range test f
+  pub sought-above : range .high ≤ j → sought h places q marks range test j ≡ false
   unfolding sought
-  sought-inside r e g = rw (not-false (within range f) e) g
+  sought-above l = rw (le-ltb j (range .high) l) (go (leb (range .low) j))
+    where
+      go : (b : Bool) → ((b && false) && passesAt h places q marks (range .kind) test j) ≡ false
+      go true = refl
+      go false = refl
 
-pub ruleset passing = (marked-none, marked-one, leads-page, passes-any, passes-stands, passes-leads, sought-outside, sought-inside)
+  pub sought-at : (b : Bool) → range .low ≤ j → j < range .high → b ≡ passesAt h places q marks (range .kind) test j → b ≡ sought h places q marks range test j
+  unfolding sought
+  sought-at b l k e = rw (le-leb (range .low) j l, lt-ltb j (range .high) k) e
+
+pub ruleset passing = (marked-none, marked-one, leads-page, passes-any, passes-stands, passes-leads)
 
 -- A table in which nothing passes, and one more.
 module _ {A : Type 0} (p : A → Bool) (g : ℕ → A) where
@@ -150,7 +157,7 @@ module _ {A : Type 0} (p : A → Bool) (g : ℕ → A) where
           let z : k ≡ n = omega (arith, ltb-false k n s) in
           ap (λ (b : Bool). any p (tabulate n g) || b) (ap (λ (j : ℕ). p (g j)) (sym z) ∙ e) ∙ or-true (any p (tabulate n g))
 
--- some_form: the forms of page i before j do not pass.
+-- has_term: the forms of page i before j do not pass.
 module _ (h : Bytes) (i : ℕ) (p : ℕ → Bool) where
   abbrev pub formFrom : ℕ → ℕ
   formFrom k = formAt h (formStart h i + k)

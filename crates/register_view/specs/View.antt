@@ -4,20 +4,22 @@ use mathlib.Core.Path.{_≡_}
 use mathlib.Core.Bool.{Bool, true, false, _&&_}
 use mathlib.Core.List.{List}
 use mathlib.Core.Option.{Option, some, none}
-use lib.Dec.{eqb}
+use lib.Dec.{ltb, eqb}
 use lib.ListN.{length, getD}
-use Rattle.text.specs.Bytes.{Bytes}
+use Rattle.text.specs.Bytes.{Bytes, same, any}
+use Rattle.text.specs.Table.{tabulate}
 use Rattle.values.specs.declared.Kind.{Kind}
 use Rattle.values.specs.declared.KindRead.{KindRead}
 use Rattle.values.specs.Values.{number, boolean, string, Value, plain, link}
 use Rattle.language.specs.Register.{Page, Register}
-use Rattle.language.specs.Semantics.{Cv, follows, noMixed}
+use Rattle.language.specs.Semantics.{Ca, Cv, follows, noMixed}
 use Rattle.nodes.specs.Reading.{constantBy}
 use Rattle.register_form.specs.Numbers.{twoAt}
 use Rattle.register_form.specs.Dictionary.{nameOf, identifierOf, codeOf, numberFrom}
-use Rattle.register_form.specs.Form.{termAt, textAt}
+use Rattle.register_form.specs.Form.{pageAt, termAt, textAt}
 use Rattle.register_form.specs.Opened.{pageIn}
 use Rattle.register_view.specs.Ranges.{within}
+use Rattle.register_view.specs.declared.NameTest.{NameTest}
 use Rattle.register_view.specs.declared.Test.{Test}
 use Rattle.register_view.specs.declared.TermRange.{TermRange}
 
@@ -59,11 +61,24 @@ passesAt h places q marks k Test.Leads f = leadsInto h places marks k f
 unfoldable pub sought : Bytes → List ℕ → Bytes → List Bool → TermRange → Test → ℕ → Bool
 sought h places q marks range test f = within range f && passesAt h places q marks (range .kind) test f
 
+-- Page i has a marked term.
+abbrev pub hasTerm : Bytes → List Bool → ℕ → Bool
+hasTerm h wanted i = any (λ f. getD wanted f false) (pageAt h i .forms)
+
+-- What a test asks of a page's identifier.
+abbrev pub namePasses : Bytes → NameTest → Page → Bool
+namePasses x NameTest.Namespace p = same (p .identifier .namespace) x
+namePasses x (NameTest.Article c) p = Ca c (p .identifier .article) x
+
 -- What a test asks of a value: its string lies in q, and its set is that of the pages that inner asks for.
 abbrev pub passes : Bytes → Register → (Page → Bool) → Test → Value → Bool
 passes q R inner Test.Any v = true
 passes q R inner (Test.Stands c w) v = Cv noMixed c (constantBy q w) v
 passes q R inner Test.Leads v = follows noMixed R inner v
+
+-- The marks of the pages that pass a test.
+abbrev pub marksIn : Register → (Page → Bool) → List Bool
+marksIn R test = tabulate 256 (λ j. ltb j (length (R .pages)) && test (pageIn R j))
 
 -- The marks are what the test says of the pages in their places.
 unfoldable pub Agrees : Register → List Bool → (Page → Bool) → Type 0

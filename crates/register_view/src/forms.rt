@@ -1,18 +1,11 @@
-// The terms of a page, one after the other: whether one of a range passes a test.
+// The terms that pass a test, and the pages that have one of them.
 ghost use mathlib.Core.Path.{_≡_};
-ghost use mathlib.Core.Bool.{Bool};
-ghost use mathlib.Core.List.{List};
-ghost use Prim.Native.Nat.{ℕ, _<_};
-ghost use lib.ListN.{length};
-ghost use Rattle.text.specs.Bytes.{Bytes, same, any};
-ghost use Rattle.language.specs.Register.{Page, Register, holds};
+ghost use Rattle.text.specs.Table.{tabulate};
 ghost use Rattle.language.specs.Semantics.{Cv, noMixed};
 ghost use Rattle.nodes.specs.Reading.{constantBy};
-ghost use Rattle.register_form.specs.Form.{pageAt};
-ghost use Rattle.register_form.specs.Opened.{pageIn, Opened};
-ghost use Rattle.register_view.specs.Ranges.{CategoryRange, PropertyRange};
-ghost use Rattle.register_view.specs.View.{textNumber, valueAt, marked, leadsInto, passesAt, sought, passes, Agrees};
+ghost use Rattle.register_view.specs.View.{textNumber, valueAt, marked, leadsInto, passesAt, sought, hasTerm};
 use crate::TermRange;
+use crate::TermSet;
 use crate::Test;
 use crate::compare_booleans;
 use crate::stands_as;
@@ -110,71 +103,40 @@ fn term_passes(
     }
 }
 
-// Whether term f is of a range, and passes a test.
-fn is_sought(
+// Which terms are of a range and pass a test: each is tested once.
+pub fn terms_passing(
     h: &[u8],
     places: &[u16],
-    f: u16,
     range: TermRange,
     test: Test,
     q: &[u8],
     marks: &[bool],
-) -> bool
-    ensures { λ r. ⌜ r ≡ sought (now (h .entry)) (now (places .entry)) (now (q .entry)) (now (marks .entry)) range test f ⌝ }
+) -> TermSet
+    ensures { λ r. ⌜ r .marks ≡ tabulate 2048 (sought (now (h .entry)) (now (places .entry)) (now (q .entry)) (now (marks .entry)) range test) ⌝ }
 {
-    let inside = (range.low <= f) & (f < range.high);
-    if !inside {
-        return false;
-    }
     let k = range.kind;
-    term_passes(h, places, f, k, test, q, marks)
+    let high = range.high;
+    let mut wanted = [false; 2048];
+    let mut f = range.low;
+    while (f < high) & (f < 2048) {
+        let at = widen(f);
+        wanted[at] = term_passes(h, places, f, k, test, q, marks);
+        f += 1;
+    }
+    TermSet { marks: wanted }
 }
 
-// Whether some term of the page in place i is of a range and passes a test. The terms are tested in their order, up to the
-// first that passes.
-fn some_form(
-    h: &[u8],
-    places: &[u16],
-    i: u16,
-    range: TermRange,
-    test: Test,
-    q: &[u8],
-    marks: &[bool],
-) -> bool
-    ensures { λ r. ⌜ r ≡ any (sought (now (h .entry)) (now (places .entry)) (now (q .entry)) (now (marks .entry)) range test) (pageAt (now (h .entry)) i .forms) ⌝ }
+// Whether the page in place i has a marked term.
+pub fn has_term(h: &[u8], i: u16, wanted: &[bool]) -> bool
+    ensures { λ r. ⌜ r ≡ hasTerm (now (h .entry)) (now (wanted .entry)) i ⌝ }
 {
     let end = form_end(h, i);
     let mut j = form_start(h, i);
     while j < end {
-        if is_sought(h, places, form_at(h, j), range, test, q, marks) {
+        if mark_at(wanted, widen(form_at(h, j))) {
             return true;
         }
         j += 1;
     }
     false
-}
-
-// Whether the page in place i is in the category whose term the range is.
-pub fn in_category(h: &[u8], i: u16, range: TermRange) -> bool
-    ensures { λ r. ⌜ ((places : List ℕ) (R : Register) (x : Bytes) → Opened (now (h .entry)) places R → CategoryRange R x range → i < length (R .pages) → r ≡ any (same x) (pageIn R i .categories)) ⌝ }
-{
-    let places = [0u16; 1];
-    let marks = [false; 1];
-    some_form(h, &places, i, range, Test::Any, h, &marks)
-}
-
-// Whether the page in place i holds a value that passes a test, under the property whose terms the range has. The test's
-// string lies in q; its set is that of the marks.
-pub fn holds_passing(
-    h: &[u8],
-    places: &[u16],
-    i: u16,
-    range: TermRange,
-    test: Test,
-    q: &[u8],
-    marks: &[bool],
-) -> bool
-    ensures { λ r. ⌜ ((R : Register) (x : Bytes) → Opened (now (h .entry)) (now (places .entry)) R → PropertyRange R x range → i < length (R .pages) → (inner : Page → Bool) → Agrees R (now (marks .entry)) inner → r ≡ holds x (passes (now (q .entry)) R inner test) (pageIn R i)) ⌝ }
-{
-    some_form(h, places, i, range, test, q, marks)
 }

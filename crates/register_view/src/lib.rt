@@ -9,13 +9,15 @@ ghost use Rattle.register_form.specs.Form.{dictionaryIn, registerIn};
 ghost use Rattle.register_form.specs.Opened.{pageIn};
 ghost use Rattle.register_view.specs.View.{kindOf};
 
-pub mod forms; // forms.rt: the terms of a page
+pub mod forms; // forms.rt: the terms that pass a test
+pub mod pages; // pages.rt: the pages that pass a test
 pub mod ranges; // ranges.rt: the terms of a category and of a property
 
-pub use forms::holds_passing;
-pub use forms::in_category;
 use language::Comparator;
 use nodes::Constant;
+pub use pages::pages_holding;
+pub use pages::pages_in_category;
+pub use pages::pages_named;
 pub use ranges::category_range;
 pub use ranges::find;
 pub use ranges::look_up;
@@ -53,6 +55,17 @@ pub struct TermRange {
     pub low: u16,
     pub high: u16,
     pub kind: Kind,
+}
+
+// A set of terms: the mark at a term's number says whether it is in.
+pub struct TermSet {
+    pub marks: [bool; 2048],
+}
+
+// What is asked of a page's identifier: that it has a namespace, or an article name that stands to another as a comparator says.
+pub enum NameTest {
+    Namespace,
+    Article(Comparator),
 }
 
 // What is asked of a value: that it is there, that it stands to a constant as a comparator says, or that it leads to a page of

@@ -1,78 +1,93 @@
-use Prim.Native.Nat.{_-_, _≤_}
-use mathlib.Core.Path.{refl}
-use native.Mathlib.Omega.{arith}
+use Rattle.ask_evaluation.proofs.Selecting.{selecting}
 use borrow.Author.Needs.{needs}
-use Rattle.nodes.specs.Held.{textIn}
-use Rattle.ask_evaluation.specs.Meaning.{Selects}
-use Rattle.ask_evaluation.proofs.Passing.{selects-none, selects-more, selects-all}
 use Rattle.ask_evaluation.proofs.select.Statement.{statement}
 use Rattle.ask_evaluation.proofs.select.Tie as tie
 
-abbrev Inv-loop : tie.InvT-loop
-Inv-loop q selector inner h places text x range n marks₀ i₀ marks i = (i ≤ n) × Selects h places (textIn q) selector inner (λ R. i) marks
-
-abbrev μ-loop : tie.MeasureT-loop
-μ-loop q selector inner h places text x range n marks₀ i₀ marks i = n - i
-
-query-text-requires : tie.Need-query-text-requires Inv-loop μ-loop
+query-text-requires : tie.Need-query-text-requires
 query-text-requires c κs = search needs
 
-name-of-requires : tie.Need-name-of-requires Inv-loop μ-loop
+name-of-requires : tie.Need-name-of-requires
 name-of-requires c κs = search needs
 
-part-requires : tie.Need-part-requires Inv-loop μ-loop
+part-requires : tie.Need-part-requires
 part-requires c κs = search needs
 
-range-of-requires : tie.Need-range-of-requires Inv-loop μ-loop
-range-of-requires c κs = search needs
+enum-told : tie.Need-enum-told
+enum-told c = search needs
 
-page-count-requires : tie.Need-page-count-requires Inv-loop μ-loop
-page-count-requires c κs = search needs
+pages-in-category-requires : tie.Need-pages-in-category-requires
+pages-in-category-requires c κs = search needs
 
-capped-requires : tie.Need-capped-requires Inv-loop μ-loop
-capped-requires c κs = search needs
+enum-told-2 : tie.Need-enum-told-2
+enum-told-2 c = search needs
 
-loop-holds : tie.Need-loop-holds Inv-loop μ-loop
-loop-holds c = (omega arith, selects-none _ _ _ _ _ _ refl)
+pages-named-requires : tie.Need-pages-named-requires
+pages-named-requires c κs = search needs
 
-widen-requires : tie.Need-widen-requires Inv-loop μ-loop
-widen-requires c κs = search needs
+enum-told-3 : tie.Need-enum-told-3
+enum-told-3 c = search needs
 
-page-passes-requires : tie.Need-page-passes-requires Inv-loop μ-loop
-page-passes-requires c κs = search needs
+pages-holding-requires : tie.Need-pages-holding-requires
+pages-holding-requires c κs = search needs
 
-array-write-marks : tie.Need-array-write-marks Inv-loop μ-loop
-array-write-marks c = omega (arith, c .before .before .before .before .capped .ensures .places, c .before .widen .ensures)
+enum-told-4 : tie.Need-enum-told-4
+enum-told-4 c = search needs
 
-add-i : tie.Need-add-i Inv-loop μ-loop
-add-i c = omega arith
+pages-holding-requires-2 : tie.Need-pages-holding-requires-2
+pages-holding-requires-2 c κs = search needs
 
-loop-less : tie.Need-loop-less Inv-loop μ-loop
-loop-less c = omega arith
+enum-known-selector : tie.Need-enum-known-selector
+enum-known-selector c = search needs
 
-loop-again : tie.Need-loop-again Inv-loop μ-loop
-loop-again c = (omega arith, selects-more _ _ _ _ _ _ _ _ (c .before .before .before .before .before .page-count .ensures) (c .before .before .before .before .capped .ensures) _ (c .before .before .before .loop .inv .1) _ _ _ _ _ _ (c .before .before .loop-test .taken) (c .before .before .before .before .before .before .before .before .before .query-text .ensures) (c .before .before .before .before .before .before .before .before .name-of .ensures) (c .before .before .before .before .before .before .before .part .ensures) (c .before .before .before .before .before .before .range-of .ensures) (c .before .widen .ensures) (c .page-passes .ensures))
+pages-named-requires-2 : tie.Need-pages-named-requires-2
+pages-named-requires-2 c κs = search needs
 
-returns : tie.Need-returns Inv-loop μ-loop
-returns c = selects-all _ _ _ _ _ _ _ _ (c .before .before .before .page-count .ensures) (c .before .before .capped .ensures) _ (c .before .loop .inv .1) (c .before .loop .inv .0) (c .loop-test .left)
+enum-known-selector-2 : tie.Need-enum-known-selector-2
+enum-known-selector-2 c = search needs
+
+pages-holding-requires-3 : tie.Need-pages-holding-requires-3
+pages-holding-requires-3 c κs = search needs
+
+returns : tie.Need-returns
+returns c = search (selecting, needs)
+
+returns-2 : tie.Need-returns-2
+returns-2 c = search (selecting, needs)
+
+returns-3 : tie.Need-returns-3
+returns-3 c = search (selecting, needs)
+
+returns-4 : tie.Need-returns-4
+returns-4 c = search (selecting, needs)
+
+returns-5 : tie.Need-returns-5
+returns-5 c = search (selecting, needs)
+
+returns-6 : tie.Need-returns-6
+returns-6 c = search (selecting, needs)
 
 pub select-spec : {M : Type 1} → statement M
 select-spec =
     tie.close
     (tie.spec
-    Inv-loop
-    μ-loop
     query-text-requires
     name-of-requires
     part-requires
-    range-of-requires
-    page-count-requires
-    capped-requires
-    loop-holds
-    widen-requires
-    page-passes-requires
-    array-write-marks
-    add-i
-    loop-less
-    loop-again
-    returns)
+    enum-told
+    pages-in-category-requires
+    enum-told-2
+    pages-named-requires
+    enum-told-3
+    pages-holding-requires
+    enum-told-4
+    pages-holding-requires-2
+    enum-known-selector
+    pages-named-requires-2
+    enum-known-selector-2
+    pages-holding-requires-3
+    returns
+    returns-2
+    returns-3
+    returns-4
+    returns-5
+    returns-6)
