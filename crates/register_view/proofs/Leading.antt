@@ -9,6 +9,7 @@ use lib.Dec.{eqb}
 use lib.IntN.{ℤ}
 use lib.ListN.{length, getD}
 use Rattle.text.specs.Bytes.{Bytes, orderOf, any}
+use Rattle.text.specs.Parts.{partOf}
 use Rattle.text.specs.Table.{bit}
 use Rattle.values.specs.Names.{Identifier, sameIdentifier}
 use Rattle.values.specs.Values.{number, boolean, string, Value, plain, link, kindOf}
@@ -17,8 +18,11 @@ use Rattle.values.proofs.Sameness.{identifier-eq, identifier-refl}
 use Rattle.language.specs.Register.{Held, Page, Register, leads, distinct, samePage}
 use Rattle.language.specs.RegisterText.{emptyPage}
 use Rattle.language.specs.Rules.{magnitude, isStorable}
-use Rattle.language.specs.Semantics.{follows, noMixed}
+use Rattle.language.specs.Semantics.{stands, Cv, follows, noMixed}
+use Rattle.language.specs.declared.Comparator.{Comparator}
 use Rattle.language.proofs.Members.{and-true, any-at, any-none, by-test}
+use Rattle.nodes.specs.Reading.{constantBy}
+use Rattle.nodes.specs.declared.Constant.{Constant}
 use Rattle.sorting.specs.Ascending.{rank}
 use Rattle.sorting.proofs.Canonical.{same-truth}
 use Rattle.register_form.specs.Numbers.{twoAt, eightAt}
@@ -30,9 +34,12 @@ use Rattle.register_form.proofs.Lists.{number-back, number-small}
 use Rattle.register_form.proofs.Codes.{space-back, name-back, number-of-code}
 use Rattle.register_form.proofs.Rules.{value-kept, texts-few}
 use Rattle.register_form.proofs.Decoded.{page-text, value-text, texts-up, terms-up, value-code}
-use Rattle.register_view.specs.Ranges.{termNumber}
-use Rattle.register_view.specs.View.{textNumber, valueAt, marked, leadsInto, Agrees}
+use Rattle.register_view.specs.Ranges.{TestRank, nameOrder, termNumber}
+use Rattle.register_view.specs.View.{textNumber, valueAt, standsAt, marked, leadsInto, Agrees}
+use Rattle.register_view.specs.declared.Rank.{Rank}
+use Rattle.register_view.specs.declared.Test.{Test}
 use Rattle.register_view.proofs.Opening.{Known, known, term-row, text-row, texts-are}
+use Rattle.register_view.proofs.Ordering.{name-order}
 use Rattle.register_view.proofs.Covering.{value-in}
 
 -- A code below 65,536 is its two low bytes.
@@ -85,6 +92,22 @@ module _ {h : Bytes} {R : Register} (d : Known h R) {p : Page} {v : Held} (m : L
       go (link i) e c s texts =
           ap (λ (a : Bytes). link (identifierOf a)) (text-there (identifierText i) (ap (valueCode (textsOf R)) e) (texts (identifierText i) (List·Memᴰ·head refl)))
           ∙ ap link (ident-back i)
+
+  -- it stands to a constant as the value does
+  pub stands-there : (q : Bytes) (r : Rank) (c : Comparator) (w : Constant) → TestRank h q (Test.Stands c w) r → standsAt h q r c w (kindOf (v .value)) form ≡ Cv noMixed c (constantBy q w) (v .value)
+  unfolding Cv TestRank valueCode valueTexts
+  stands-there q r c w f = go (v .value) refl value-there (value-text R m n) w f
+    where
+      go : (u : Value) → v .value ≡ u → valueAt h (kindOf u) form ≡ u → ((t : Bytes) → List·Memᴰ t (valueTexts u) → List·Memᴰ t (textsOf R)) → (w : Constant) → TestRank h q (Test.Stands c w) r → standsAt h q r c w (kindOf u) form ≡ Cv noMixed c (constantBy q w) u
+      go u e at texts (Constant.Number b) f = ap (Cv noMixed c (constantBy q (Constant.Number b))) at
+      go u e at texts (Constant.Boolean b) f = ap (Cv noMixed c (constantBy q (Constant.Boolean b))) at
+      go (plain (number z)) e at texts (Constant.String p) f = refl
+      go (plain (boolean b)) e at texts (Constant.String p) f = refl
+      go (link i) e at texts (Constant.String p) f = refl
+      go (plain (string s)) e at texts (Constant.String p) f =
+          let there = texts (plainText s) (List·Memᴰ·head refl) in
+          ap (λ (j : ℕ). stands c (nameOrder h (partOf q p) r j)) (number-there (plainText s) (ap (valueCode (textsOf R)) e) there)
+          ∙ ap (stands c) (name-order d (partOf q p) r f (plainText s) there [] s refl)
 
 -- The mark of a place, 1 more than a page's
 abbrev markBy : (ℕ → Bool) → ℕ → Bool

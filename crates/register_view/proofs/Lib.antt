@@ -2,6 +2,7 @@ pub mod Names
 pub mod Searching
 pub mod Looking
 pub mod Opening
+pub mod Ordering
 pub mod Covering
 pub mod Ranging
 pub mod Leading

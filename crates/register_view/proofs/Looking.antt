@@ -1,5 +1,5 @@
 -- The terms of a page: what is asked of one, and of one after the other.
-use Prim.Native.Nat.{ℕ, zero, suc, _+_, _-_, _≤_, _<_}
+use Prim.Native.Nat.{ℕ, zero, suc, _+_, _*_, _-_, _≤_, _<_}
 use mathlib.Core.Path.{_≡_, refl, sym, ap, _∙_}
 use mathlib.Core.Bool.{Bool, true, false, cond, _&&_, _||_, or-false}
 use mathlib.Core.List.{List, [], _∷_}
@@ -9,6 +9,7 @@ use lib.Dec.{leb, ltb, eqb}
 use lib.IntN.{pos, negsuc, subℕ}
 use lib.ListN.{getD}
 use Rattle.text.specs.Bytes.{Bytes, part, numbers, orderOf, any}
+use Rattle.text.specs.Parts.{partOf}
 use Rattle.text.specs.Table.{tabulate}
 use Rattle.text.specs.declared.Order.{Order}
 use Rattle.text.specs.declared.Span.{Span}
@@ -16,16 +17,18 @@ use Rattle.text.proofs.Laws.{numbers-less, numbers-greater, numbers-like, any-a
 use Rattle.values.specs.declared.Kind.{Kind}
 use Rattle.values.specs.Values.{orderNumbers, orderBooleans}
 use Rattle.values.specs.Answers.{base}
-use Rattle.language.specs.Semantics.{stands, Cv, noMixed}
+use Rattle.language.specs.Semantics.{stands, Cv}
 use Rattle.language.specs.declared.Comparator.{Comparator}
-use Rattle.nodes.specs.Reading.{constantBy}
 use Rattle.nodes.specs.declared.Constant.{Constant}
 use Rattle.register_form.specs.Numbers.{twoAt}
 use Rattle.register_form.specs.Dictionary.{nameOf, codeOf, numberFrom}
 use Rattle.register_form.specs.Form.{formStart, formAt, pageAt, termAt, textAt}
-use Rattle.register_view.specs.View.{textNumber, valueAt, marked, leadsInto, passesAt, sought}
+use Rattle.register_view.specs.Ranges.{nameOrder}
+use Rattle.register_view.specs.View.{textNumber, standsAt, marked, leadsInto, passesAt, sought}
+use Rattle.register_view.specs.declared.Rank.{Rank}
 use Rattle.register_view.specs.declared.Test.{Test}
 use Rattle.register_view.specs.declared.TermRange.{TermRange}
+use Rattle.register_view.proofs.Ordering.{order-ranked, order-compared}
 
 -- text_number
 pub number-of-text : (h : Bytes) (f : ℕ) (t : Bytes) (r : ℕ) → t ≡ termAt h f → r ≡ twoAt t 1 → r ≡ textNumber h f
@@ -44,13 +47,18 @@ order-codes a b = go (ltb a base) refl (ltb b base) refl
     go false e false f = let k = ltb-false a base e in let l = ltb-false b base f in numbers-like a b (a - base) (b - base) (λ x. omega arith, λ x. omega arith) (λ x. omega arith, λ x. omega arith)
 
 -- value_stands
-module _ (h : Bytes) (f : ℕ) (k : Kind) (c : Comparator) (w : Constant) (q : Bytes) where
+module _ (h : Bytes) (f : ℕ) (k : Kind) (c : Comparator) (w : Constant) (q : Bytes) (rank : Rank) where
   abbrev Stands : Bool → Type 0
-  Stands r = r ≡ Cv noMixed c (constantBy q w) (valueAt h k f)
+  Stands r = r ≡ standsAt h q rank c w k f
 
   pub stands-page : k ≡ Kind.Page → Stands false
   unfolding Cv
-  stands-page e = rw e
+  stands-page e = rw e (go w)
+    where
+      go : (w : Constant) → false ≡ standsAt h q rank c w Kind.Page f
+      go (Constant.Number b) = refl
+      go (Constant.Boolean b) = refl
+      go (Constant.String p) = refl
 
   module _ (e : k ≡ Kind.Number) where
     pub stands-number : (a b : ℕ) (o : Order) (r : Bool) → w ≡ Constant.Number b → a ≡ codeOf (termAt h f) → o ≡ numbers a b → r ≡ stands c o → Stands r
@@ -87,11 +95,17 @@ module _ (h : Bytes) (f : ℕ) (k : Kind) (c : Comparator) (w : Constant) (q : B
     unfolding Cv
     string-boolean b v = rw (e, v)
 
-    pub stands-string : (p : Span) (n : ℕ) (y x : Bytes) (o : Order) (r : Bool) → w ≡ Constant.String p → n ≡ textNumber h f → y ≡ nameOf (textAt h n) → x ≡ part q (p .start) (p .len) → o ≡ orderOf y x → r ≡ stands c o → Stands r
-    unfolding Cv
-    stands-string p n y x o r v is name lies g u = rw (e, v) (u ∙ ap (stands c) (g ∙ rw (name, lies, is)))
+    module _ (p : Span) (n : ℕ) (o : Order) (r : Bool) (v : w ≡ Constant.String p) (is : n ≡ textNumber h f) (u : r ≡ stands c o) where
+      stands-string : o ≡ nameOrder h (partOf q p) rank n → Stands r
+      stands-string g = rw (e, v) (u ∙ ap (stands c) (g ∙ rw is))
 
-pub ruleset standing = (number-of-text, stands-page, stands-number, number-boolean, number-string, boolean-number, stands-boolean, boolean-string, string-number, string-boolean, stands-string)
+      pub stands-ranked : n < rank .plain → o ≡ numbers (1 + 2 * n) (rank .key) → Stands r
+      stands-ranked l g = stands-string (order-ranked h (partOf q p) rank n o l g)
+
+      pub stands-compared : (x : Bytes) → rank .plain ≤ n → x ≡ part q (p .start) (p .len) → o ≡ orderOf (nameOf (textAt h n)) x → Stands r
+      stands-compared x l lies g = stands-string (order-compared h (partOf q p) rank n o l (rw lies at g))
+
+pub ruleset standing = (number-of-text, stands-page, stands-number, number-boolean, number-string, boolean-number, stands-boolean, boolean-string, string-number, string-boolean, stands-ranked, stands-compared)
 
 -- marked_at
 pub marked-none : (marks : List Bool) (place : ℕ) → place ≡ 0 → false ≡ marked marks place
@@ -107,31 +121,31 @@ module _ (h : Bytes) (places : List ℕ) (marks : List Bool) (k : Kind) (f : ℕ
   leads-page n w g r e is v at u = rw e (u ∙ ap (marked marks) (at ∙ ap (λ (j : ℕ). getD places j 0) (v ∙ is)))
 
   -- term_passes
-  module _ (q : Bytes) (test : Test) where
-    pub passes-any : test ≡ Test.Any → true ≡ passesAt h places q marks k test f
+  module _ (q : Bytes) (rank : Rank) (test : Test) where
+    pub passes-any : test ≡ Test.Any → true ≡ passesAt h places q rank marks k test f
     passes-any e = rw e
 
-    pub passes-stands : (c : Comparator) (w : Constant) (r : Bool) → test ≡ Test.Stands c w → r ≡ Cv noMixed c (constantBy q w) (valueAt h k f) → r ≡ passesAt h places q marks k test f
+    pub passes-stands : (c : Comparator) (w : Constant) (r : Bool) → test ≡ Test.Stands c w → r ≡ standsAt h q rank c w k f → r ≡ passesAt h places q rank marks k test f
     passes-stands c w r e g = rw e g
 
-    pub passes-leads : (r : Bool) → test ≡ Test.Leads → r ≡ leadsInto h places marks k f → r ≡ passesAt h places q marks k test f
+    pub passes-leads : (r : Bool) → test ≡ Test.Leads → r ≡ leadsInto h places marks k f → r ≡ passesAt h places q rank marks k test f
     passes-leads r e g = rw e g
 
 -- terms_passing
-module _ (h : Bytes) (places : List ℕ) (q : Bytes) (marks : List Bool) (range : TermRange) (test : Test) (j : ℕ) where
-  pub sought-below : j < range .low → sought h places q marks range test j ≡ false
+module _ (h : Bytes) (places : List ℕ) (q : Bytes) (rank : Rank) (marks : List Bool) (range : TermRange) (test : Test) (j : ℕ) where
+  pub sought-below : j < range .low → sought h places q rank marks range test j ≡ false
   unfolding sought
   sought-below l = rw (lt-leb (range .low) j l)
 
-  pub sought-above : range .high ≤ j → sought h places q marks range test j ≡ false
+  pub sought-above : range .high ≤ j → sought h places q rank marks range test j ≡ false
   unfolding sought
   sought-above l = rw (le-ltb j (range .high) l) (go (leb (range .low) j))
     where
-      go : (b : Bool) → ((b && false) && passesAt h places q marks (range .kind) test j) ≡ false
+      go : (b : Bool) → ((b && false) && passesAt h places q rank marks (range .kind) test j) ≡ false
       go true = refl
       go false = refl
 
-  pub sought-at : (b : Bool) → range .low ≤ j → j < range .high → b ≡ passesAt h places q marks (range .kind) test j → b ≡ sought h places q marks range test j
+  pub sought-at : (b : Bool) → range .low ≤ j → j < range .high → b ≡ passesAt h places q rank marks (range .kind) test j → b ≡ sought h places q rank marks range test j
   unfolding sought
   sought-at b l k e = rw (le-leb (range .low) j l, lt-ltb j (range .high) k) e
 

@@ -26,18 +26,18 @@ use Rattle.register_view.proofs.Covering.{undeclared, none-declared, pr
 
 -- category_range
 module _ (h x : Bytes) where
-  module _ (text : Found) (is : Located h Index.Texts x text) where
+  module _ (text : Found) (is : Located h Index.Names x text) where
     pub range-no-text : (z : TermRange) → text ≡ Found.Nothing → (z .low ≡ 0) × (z .high ≡ 0) → (places : List ℕ) (R : Register) → Opened h places R → CategoryRange R x z
     unfolding Located
     range-no-text z e empty places R o =
         let d = known o in
-        let absent : ascends orderOf (textsOf R) ≡ true → List·Memᴰ (plainText x) (textsOf R) → ⊥ = subst (λ (l : List Bytes). ascends orderOf l ≡ true → List·Memᴰ (plainText x) l → ⊥) (texts-are d) (subst (Located h Index.Texts x) e is) in
+        let absent : ascends orderOf (textsOf R) ≡ true → List·Memᴰ (plainText x) (textsOf R) → ⊥ = subst (λ (l : List Bytes). ascends orderOf l ≡ true → List·Memᴰ (plainText x) l → ⊥) (texts-are d) (subst (Located h Index.Names x) e is) in
         no-text R (d .keeps) (d .limits) x z (absent (texts-up R)) (empty .0) (empty .1)
 
     module _ (k : ℕ) (e : text ≡ Found.At k) where
       text-found : (R : Register) → Known h R → (k < length (textsOf R)) × (getD (textsOf R) k [] ≡ plainText x)
       unfolding Located
-      text-found R d = subst (λ (l : List Bytes). (k < length l) × (getD l k [] ≡ plainText x)) (texts-are d) (subst (Located h Index.Texts x) e is)
+      text-found R d = subst (λ (l : List Bytes). (k < length l) × (getD l k [] ≡ plainText x)) (texts-are d) (subst (Located h Index.Names x) e is)
 
       module _ (term : Found) (at : Located h Index.Terms (termOf 0 k) term) where
         pub range-no-term : (z : TermRange) → term ≡ Found.Nothing → (z .low ≡ 0) × (z .high ≡ 0) → (places : List ℕ) (R : Register) → Opened h places R → CategoryRange R x z

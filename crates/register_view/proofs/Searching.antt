@@ -9,10 +9,11 @@ use lib.ListN.{length, getD, drop, set, replicate, length-drop}
 use lib.Seq.{take-all}
 use Rattle.text.specs.Bytes.{Bytes, part, orderOf}
 use Rattle.text.specs.declared.Order.{Order}
-use Rattle.text.specs.declared.Order.the-variants.{Less, Equal, Greater}
+use Rattle.text.specs.declared.Order.the-variants.{Less, Greater}
 use Rattle.text.proofs.Laws.{order-refl, order-eq}
 use Rattle.text.proofs.Tables.{length-tabulate, getD-tabulate}
 use Rattle.sorting.specs.Ascending.{isLess, isEqual, ascends, rank}
+use Rattle.sorting.proofs.Canonical.{equal-is}
 use Rattle.sorting.proofs.Orders.{bytes-total}
 use Rattle.sorting.proofs.Ranks.{rank-most, rank-above, rank-below}
 use Rattle.register_form.specs.Dictionary.{labelled, termOf}
@@ -54,11 +55,18 @@ module _ (t x : Bytes) where
 -- compare_entry, entry_count
 module _ (h : Bytes) (index : Index) where
   module _ (m : ℕ) (key t : Bytes) (r : Order) where
-    pub entry-text : index ≡ Index.Texts → t ≡ textAt h m → r ≡ orderOf t (plainText key) → r ≡ orderOf (entryAt h index m) (keyOf index key)
+    pub entry-name : index ≡ Index.Names → t ≡ textAt h m → r ≡ orderOf t (plainText key) → r ≡ orderOf (entryAt h index m) (keyOf index key)
+    entry-name e f g = rw (e, ← f) g
+
+    pub entry-text : index ≡ Index.Texts → t ≡ textAt h m → r ≡ orderOf t key → r ≡ orderOf (entryAt h index m) (keyOf index key)
     entry-text e f g = rw (e, ← f) g
 
     pub entry-term : index ≡ Index.Terms → t ≡ termAt h m → r ≡ orderOf t key → r ≡ orderOf (entryAt h index m) (keyOf index key)
     entry-term e f g = rw (e, ← f) g
+
+  pub count-names : (r : ℕ) → index ≡ Index.Names → r ≡ textCount h → r ≡ length (entriesIn h index)
+  unfolding dictionaryIn
+  count-names r e f = rw e (f ∙ sym (length-tabulate (textCount h) (textAt h)))
 
   pub count-texts : (r : ℕ) → index ≡ Index.Texts → r ≡ textCount h → r ≡ length (entriesIn h index)
   unfolding dictionaryIn
@@ -68,8 +76,9 @@ module _ (h : Bytes) (index : Index) where
   unfolding dictionaryIn
   count-terms r e f = rw e (f ∙ sym (length-tabulate (termCount h) (termAt h)))
 
-entry-in : (h : Bytes) (index : Index) (m : ℕ) → m < length (entriesIn h index) → getD (entriesIn h index) m [] ≡ entryAt h index m
+pub entry-in : (h : Bytes) (index : Index) (m : ℕ) → m < length (entriesIn h index) → getD (entriesIn h index) m [] ≡ entryAt h index m
 unfolding dictionaryIn
+entry-in h Index.Names m l = getD-tabulate (textCount h) (textAt h) [] m (omega (arith, length-tabulate (textCount h) (textAt h)))
 entry-in h Index.Texts m l = getD-tabulate (textCount h) (textAt h) [] m (omega (arith, length-tabulate (textCount h) (textAt h)))
 entry-in h Index.Terms m l = getD-tabulate (termCount h) (termAt h) [] m (omega (arith, length-tabulate (termCount h) (termAt h)))
 
@@ -112,12 +121,7 @@ module _ (h : Bytes) (index : Index) (key : Bytes) where
 
       pub located-at : b ≡ true → Located h index key (Found.At m)
       unfolding Located
-      located-at t = (omega arith, order-eq _ _ (sym order-there ∙ equal r (sym g ∙ t)))
-        where
-          equal : (r : Order) → isEqual r ≡ true → r ≡ Equal
-          equal Less h = absurd (true≢false (sym h))
-          equal Equal h = refl
-          equal Greater h = absurd (true≢false (sym h))
+      located-at t = (omega arith, order-eq _ _ (sym order-there ∙ equal-is r (sym g ∙ t)))
 
       pub located-none : b ≡ false → Located h index key Found.Nothing
       unfolding Located Ranked
@@ -130,7 +134,7 @@ pub place-small : (h key : Bytes) (r : Found) (f : ℕ) → ((i : ℕ) → getD 
 unfolding Located dictionaryIn
 place-small h key r f bytes at e = omega (arith, subst (Located h Index.Terms key) e at .0, length-tabulate (termCount h) (termAt h), two-small h 4 bytes)
 
-pub ruleset searching = (plain-empty, plain-spaced, plain-name, entry-text, entry-term, count-texts, count-terms, located-past, located-at, located-none)
+pub ruleset searching = (plain-empty, plain-spaced, plain-name, entry-name, entry-text, entry-term, count-names, count-texts, count-terms, located-past, located-at, located-none)
 
 -- category_term: the bytes of its key
 pub category-located : (h : Bytes) (k : ℕ) (r : Found) → k < 65536 → Located h Index.Terms (set (set (replicate 9 0) 1 (k % 256)) 2 (k / 256)) r → Located h Index.Terms (termOf 0 k) r

@@ -7,19 +7,23 @@ use mathlib.Core.Option.{Option, some, none}
 use lib.Dec.{ltb, eqb}
 use lib.ListN.{length, getD}
 use Rattle.text.specs.Bytes.{Bytes, same, any}
+use Rattle.text.specs.Parts.{partOf}
 use Rattle.text.specs.Table.{tabulate}
 use Rattle.values.specs.declared.Kind.{Kind}
 use Rattle.values.specs.declared.KindRead.{KindRead}
 use Rattle.values.specs.Values.{number, boolean, string, Value, plain, link}
 use Rattle.language.specs.Register.{Page, Register}
-use Rattle.language.specs.Semantics.{Ca, Cv, follows, noMixed}
+use Rattle.language.specs.Semantics.{stands, Ca, Cv, follows, noMixed}
+use Rattle.language.specs.declared.Comparator.{Comparator}
 use Rattle.nodes.specs.Reading.{constantBy}
+use Rattle.nodes.specs.declared.Constant.{Constant}
 use Rattle.register_form.specs.Numbers.{twoAt}
 use Rattle.register_form.specs.Dictionary.{nameOf, identifierOf, codeOf, numberFrom}
-use Rattle.register_form.specs.Form.{pageAt, termAt, textAt}
+use Rattle.register_form.specs.Form.{registerIn, pageAt, termAt, textAt}
 use Rattle.register_form.specs.Opened.{pageIn}
-use Rattle.register_view.specs.Ranges.{within}
+use Rattle.register_view.specs.Ranges.{nameOrder, within}
 use Rattle.register_view.specs.declared.NameTest.{NameTest}
+use Rattle.register_view.specs.declared.Rank.{Rank}
 use Rattle.register_view.specs.declared.Test.{Test}
 use Rattle.register_view.specs.declared.TermRange.{TermRange}
 
@@ -39,6 +43,15 @@ module _ (h : Bytes) where
   valueAt Kind.Boolean f = plain (boolean (eqb (codeOf (termAt h f)) 1))
   valueAt Kind.String f = plain (string (nameOf (textAt h (textNumber f))))
 
+-- The value of a kind that term f is stands to a constant; a string by the rank of the constant's.
+abbrev pub standsAt : Bytes → Bytes → Rank → Comparator → Constant → Kind → ℕ → Bool
+standsAt h q r c (Constant.String p) Kind.String f = stands c (nameOrder h (partOf q p) r (textNumber h f))
+standsAt h q r c (Constant.String p) Kind.Page f = false
+standsAt h q r c (Constant.String p) Kind.Number f = false
+standsAt h q r c (Constant.String p) Kind.Boolean f = false
+standsAt h q r c (Constant.Number b) k f = Cv noMixed c (constantBy q (Constant.Number b)) (valueAt h k f)
+standsAt h q r c (Constant.Boolean b) k f = Cv noMixed c (constantBy q (Constant.Boolean b)) (valueAt h k f)
+
 -- The mark of a place that is one more than a page's; 0 is that of no page.
 abbrev pub marked : List Bool → ℕ → Bool
 marked marks zero = false
@@ -52,14 +65,14 @@ leadsInto h places marks Kind.Boolean f = false
 leadsInto h places marks Kind.String f = false
 
 -- The value of term f passes the test.
-abbrev pub passesAt : Bytes → List ℕ → Bytes → List Bool → Kind → Test → ℕ → Bool
-passesAt h places q marks k Test.Any f = true
-passesAt h places q marks k (Test.Stands c w) f = Cv noMixed c (constantBy q w) (valueAt h k f)
-passesAt h places q marks k Test.Leads f = leadsInto h places marks k f
+abbrev pub passesAt : Bytes → List ℕ → Bytes → Rank → List Bool → Kind → Test → ℕ → Bool
+passesAt h places q r marks k Test.Any f = true
+passesAt h places q r marks k (Test.Stands c w) f = standsAt h q r c w k f
+passesAt h places q r marks k Test.Leads f = leadsInto h places marks k f
 
 -- Term f is of the range, and passes the test.
-unfoldable pub sought : Bytes → List ℕ → Bytes → List Bool → TermRange → Test → ℕ → Bool
-sought h places q marks range test f = within range f && passesAt h places q marks (range .kind) test f
+unfoldable pub sought : Bytes → List ℕ → Bytes → Rank → List Bool → TermRange → Test → ℕ → Bool
+sought h places q r marks range test f = within range f && passesAt h places q r marks (range .kind) test f
 
 -- Page i has a marked term.
 abbrev pub hasTerm : Bytes → List Bool → ℕ → Bool
@@ -69,6 +82,11 @@ hasTerm h wanted i = any (λ f. getD wanted f false) (pageAt h i .forms)
 abbrev pub namePasses : Bytes → NameTest → Page → Bool
 namePasses x NameTest.Namespace p = same (p .identifier .namespace) x
 namePasses x (NameTest.Article c) p = Ca c (p .identifier .article) x
+
+-- The same of page i, x having a rank.
+abbrev pub namePassesAt : Bytes → Bytes → Rank → NameTest → ℕ → Bool
+namePassesAt h x r NameTest.Namespace i = same (pageIn (registerIn h) i .identifier .namespace) x
+namePassesAt h x r (NameTest.Article c) i = stands c (nameOrder h x r (pageAt h i .identifier))
 
 -- What a test asks of a value: its string lies in q, and its set is that of the pages that inner asks for.
 abbrev pub passes : Bytes → Register → (Page → Bool) → Test → Value → Bool

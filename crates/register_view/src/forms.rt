@@ -1,13 +1,14 @@
 // The terms that pass a test, and the pages that have one of them.
 ghost use mathlib.Core.Path.{_≡_};
 ghost use Rattle.text.specs.Table.{tabulate};
-ghost use Rattle.language.specs.Semantics.{Cv, noMixed};
-ghost use Rattle.nodes.specs.Reading.{constantBy};
-ghost use Rattle.register_view.specs.View.{textNumber, valueAt, marked, leadsInto, passesAt, sought, hasTerm};
+ghost use Rattle.register_view.specs.View.{textNumber, standsAt, marked, leadsInto, passesAt, sought, hasTerm};
+use crate::Rank;
 use crate::TermRange;
 use crate::TermSet;
 use crate::Test;
 use crate::compare_booleans;
+use crate::ranks::compare_name;
+use crate::ranks::order_by;
 use crate::stands_as;
 use language::Comparator;
 use nodes::Constant;
@@ -16,12 +17,10 @@ use register_form::code_at;
 use register_form::form_at;
 use register_form::form_end;
 use register_form::form_start;
-use register_form::name_at;
 use register_form::term_at;
 use register_form::two_at;
 use tables::num_at;
 use tables::widen;
-use text::compare;
 use text::compare_numbers;
 use text::part;
 use values::Kind;
@@ -33,9 +32,9 @@ fn text_number(h: &[u8], f: u16) -> u16
     two_at(term_at(h, f), 1)
 }
 
-// Whether the value of term f, of a kind, stands to a constant; the constant's string lies in q. Two kinds never do.
-fn value_stands(h: &[u8], f: u16, k: Kind, c: Comparator, w: Constant, q: &[u8]) -> bool
-    ensures { λ r. ⌜ r ≡ Cv noMixed c (constantBy (now (q .entry)) w) (valueAt (now (h .entry)) k f) ⌝ }
+// Whether the value of term f, of a kind, stands to a constant; the constant's string lies in q and has a rank. Two kinds never do.
+fn value_stands(h: &[u8], f: u16, k: Kind, c: Comparator, w: Constant, q: &[u8], rank: Rank) -> bool
+    ensures { λ r. ⌜ r ≡ standsAt (now (h .entry)) (now (q .entry)) rank c w k f ⌝ }
 {
     match k {
         Kind::Page => false,
@@ -53,10 +52,12 @@ fn value_stands(h: &[u8], f: u16, k: Kind, c: Comparator, w: Constant, q: &[u8])
             Constant::Number(_) => false,
             Constant::Boolean(_) => false,
             Constant::String(p) => {
-                stands_as(
-                    c,
-                    compare(name_at(h, text_number(h, f)), part(q, p.start, p.len)),
-                )
+                let n = text_number(h, f);
+                if n < rank.plain {
+                    stands_as(c, order_by(rank, n))
+                } else {
+                    stands_as(c, compare_name(h, n, part(q, p.start, p.len)))
+                }
             }
         },
     }
@@ -92,13 +93,14 @@ fn term_passes(
     k: Kind,
     test: Test,
     q: &[u8],
+    rank: Rank,
     marks: &[bool],
 ) -> bool
-    ensures { λ r. ⌜ r ≡ passesAt (now (h .entry)) (now (places .entry)) (now (q .entry)) (now (marks .entry)) k test f ⌝ }
+    ensures { λ r. ⌜ r ≡ passesAt (now (h .entry)) (now (places .entry)) (now (q .entry)) rank (now (marks .entry)) k test f ⌝ }
 {
     match test {
         Test::Any => true,
-        Test::Stands(c, w) => value_stands(h, f, k, c, w, q),
+        Test::Stands(c, w) => value_stands(h, f, k, c, w, q, rank),
         Test::Leads => leads_into(h, places, f, k, marks),
     }
 }
@@ -110,9 +112,10 @@ pub fn terms_passing(
     range: TermRange,
     test: Test,
     q: &[u8],
+    rank: Rank,
     marks: &[bool],
 ) -> TermSet
-    ensures { λ r. ⌜ r .marks ≡ tabulate 2048 (sought (now (h .entry)) (now (places .entry)) (now (q .entry)) (now (marks .entry)) range test) ⌝ }
+    ensures { λ r. ⌜ r .marks ≡ tabulate 2048 (sought (now (h .entry)) (now (places .entry)) (now (q .entry)) rank (now (marks .entry)) range test) ⌝ }
 {
     let k = range.kind;
     let high = range.high;
@@ -120,7 +123,7 @@ pub fn terms_passing(
     let mut f = range.low;
     while (f < high) & (f < 2048) {
         let at = widen(f);
-        wanted[at] = term_passes(h, places, f, k, test, q, marks);
+        wanted[at] = term_passes(h, places, f, k, test, q, rank, marks);
         f += 1;
     }
     TermSet { marks: wanted }

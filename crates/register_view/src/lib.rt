@@ -12,6 +12,7 @@ ghost use Rattle.register_view.specs.View.{kindOf};
 pub mod forms; // forms.rt: the terms that pass a test
 pub mod pages; // pages.rt: the pages that pass a test
 pub mod ranges; // ranges.rt: the terms of a category and of a property
+pub mod ranks; // ranks.rt: names compared by the numbers of their texts
 
 use language::Comparator;
 use nodes::Constant;
@@ -38,8 +39,9 @@ use text::same_bytes;
 use values::Kind;
 use values::KindRead;
 
-// The two lists of a dictionary that are in ascending order.
+// The two lists of a dictionary that are in ascending order; texts by a name with no namespace, or by a text.
 pub enum Index {
+    Names,
     Texts,
     Terms,
 }
@@ -55,6 +57,13 @@ pub struct TermRange {
     pub low: u16,
     pub high: u16,
     pub kind: Kind,
+}
+
+// Where a name belongs among the texts: the first ones, so many as it says, have no namespace, and the name of text n stands to
+// the given one as 1 + 2 n stands to the key.
+pub struct Rank {
+    pub plain: u16,
+    pub key: u64,
 }
 
 // A set of terms: the mark at a term's number says whether it is in.

@@ -7,23 +7,29 @@ ghost use lib.Dec.{ltb};
 ghost use Rattle.text.specs.Bytes.{same, any};
 ghost use Rattle.text.specs.Table.{tabulate};
 ghost use Rattle.language.specs.Register.{Page, Register, holds};
-ghost use Rattle.register_form.specs.Form.{pageCount, registerIn};
-ghost use Rattle.register_form.specs.Opened.{pageIn, Opened};
-ghost use Rattle.register_view.specs.View.{sought, hasTerm, namePasses, passes, Agrees, marksIn};
+ghost use Rattle.register_form.specs.Form.{pageCount};
+ghost use Rattle.register_form.specs.Opened.{Opened};
+ghost use Rattle.register_view.specs.View.{sought, hasTerm, namePasses, namePassesAt, passes, Agrees, marksIn};
 use crate::NameTest;
+use crate::Rank;
 use crate::TermRange;
 use crate::Test;
-use crate::article_at;
 use crate::forms::has_term;
 use crate::forms::terms_passing;
 use crate::namespace_at;
 use crate::ranges::category_range;
 use crate::ranges::property_range;
+use crate::ranks::compare_name;
+use crate::ranks::no_rank;
+use crate::ranks::order_by;
+use crate::ranks::rank_for;
+use crate::ranks::rank_of;
 use crate::stands_as;
 use pageset::PageSet;
+use register_form::identifier_number;
+use register_form::minus;
 use register_form::page_count;
 use tables::widen;
-use text::compare;
 use text::same_bytes;
 
 // The pages that have a marked term.
@@ -48,11 +54,12 @@ fn pages_passing(
     range: TermRange,
     test: Test,
     q: &[u8],
+    rank: Rank,
     marks: &[bool],
 ) -> PageSet
-    ensures { λ r. ⌜ r .marks ≡ tabulate 256 (λ j. ltb j (pageCount (now (h .entry))) && hasTerm (now (h .entry)) (tabulate 2048 (sought (now (h .entry)) (now (places .entry)) (now (q .entry)) (now (marks .entry)) range test)) j) ⌝ }
+    ensures { λ r. ⌜ r .marks ≡ tabulate 256 (λ j. ltb j (pageCount (now (h .entry))) && hasTerm (now (h .entry)) (tabulate 2048 (sought (now (h .entry)) (now (places .entry)) (now (q .entry)) rank (now (marks .entry)) range test)) j) ⌝ }
 {
-    let terms = terms_passing(h, places, range, test, q, marks);
+    let terms = terms_passing(h, places, range, test, q, rank, marks);
     let wanted = terms.marks;
     pages_with(h, &wanted)
 }
@@ -63,7 +70,8 @@ pub fn pages_in_category(h: &[u8], x: &[u8]) -> PageSet
 {
     let places = [0u16; 1];
     let marks = [false; 1];
-    pages_passing(h, &places, category_range(h, x), Test::Any, h, &marks)
+    let range = category_range(h, x);
+    pages_passing(h, &places, range, Test::Any, h, no_rank(), &marks)
 }
 
 // The pages that hold, under the property x, a value that passes a test. The test's string lies in q; its set is that of the
@@ -78,16 +86,25 @@ pub fn pages_holding(
 ) -> PageSet
     ensures { λ r. ⌜ ((R : Register) → Opened (now (h .entry)) (now (places .entry)) R → (inner : Page → Bool) → Agrees R (now (marks .entry)) inner → r .marks ≡ marksIn R (holds (now (x .entry)) (passes (now (q .entry)) R inner test))) ⌝ }
 {
-    pages_passing(h, places, property_range(h, x), test, q, marks)
+    let range = property_range(h, x);
+    let rank = rank_for(h, test, q, minus(range.high, range.low));
+    pages_passing(h, places, range, test, q, rank, marks)
 }
 
-// Whether the page in place i has a namespace or an article name that stands to x as a test asks.
-fn name_passes(h: &[u8], i: u16, test: NameTest, x: &[u8]) -> bool
-    ensures { λ r. ⌜ r ≡ namePasses (now (x .entry)) test (pageIn (registerIn (now (h .entry))) i) ⌝ }
+// Whether the page in place i has a namespace or an article name that stands to x, which has a rank, as a test asks.
+fn name_passes(h: &[u8], i: u16, test: NameTest, x: &[u8], rank: Rank) -> bool
+    ensures { λ r. ⌜ r ≡ namePassesAt (now (h .entry)) (now (x .entry)) rank test i ⌝ }
 {
     match test {
         NameTest::Namespace => same_bytes(namespace_at(h, i), x),
-        NameTest::Article(c) => stands_as(c, compare(article_at(h, i), x)),
+        NameTest::Article(c) => {
+            let n = identifier_number(h, i);
+            if n < rank.plain {
+                stands_as(c, order_by(rank, n))
+            } else {
+                stands_as(c, compare_name(h, n, x))
+            }
+        }
     }
 }
 
@@ -96,11 +113,12 @@ pub fn pages_named(h: &[u8], test: NameTest, x: &[u8]) -> PageSet
     ensures { λ r. ⌜ ((places : List ℕ) (R : Register) → Opened (now (h .entry)) places R → r .marks ≡ marksIn R (namePasses (now (x .entry)) test)) ⌝ }
 {
     let n = page_count(h);
+    let rank = rank_of(h, x, n);
     let mut marks = [false; 256];
     let mut i: u16 = 0;
     while (i < n) & (i < 256) {
         let at = widen(i);
-        marks[at] = name_passes(h, i, test, x);
+        marks[at] = name_passes(h, i, test, x, rank);
         i += 1;
     }
     PageSet { marks: marks }

@@ -43,21 +43,23 @@ fn compare_plain(t: &[u8], x: &[u8]) -> Order
     compare(part(t, 1, t.len()), x)
 }
 
-// How entry m of a list stands to a key: a name's text, or a term.
-fn compare_entry(h: &[u8], index: Index, m: u16, key: &[u8]) -> Order
+// How entry m of a list stands to a key: the text of a name, a text, or a term.
+pub fn compare_entry(h: &[u8], index: Index, m: u16, key: &[u8]) -> Order
     ensures { λ r. ⌜ r ≡ orderOf (entryAt (now (h .entry)) index m) (keyOf index (now (key .entry))) ⌝ }
 {
     match index {
-        Index::Texts => compare_plain(text_at(h, m), key),
+        Index::Names => compare_plain(text_at(h, m), key),
+        Index::Texts => compare(text_at(h, m), key),
         Index::Terms => compare(term_at(h, m), key),
     }
 }
 
 // How many entries a list has.
-fn entry_count(h: &[u8], index: Index) -> u16
+pub fn entry_count(h: &[u8], index: Index) -> u16
     ensures { λ r. ⌜ r ≡ length (entriesIn (now (h .entry)) index) ⌝ }
 {
     match index {
+        Index::Names => text_count(h),
         Index::Texts => text_count(h),
         Index::Terms => term_count(h),
     }
@@ -120,7 +122,7 @@ fn category_term(h: &[u8], k: u16) -> Found
 pub fn category_range(h: &[u8], x: &[u8]) -> TermRange
     ensures { λ r. ⌜ ((places : List ℕ) (R : Register) → Opened (now (h .entry)) places R → CategoryRange R (now (x .entry)) r) ⌝ }
 {
-    let text = look_up(h, Index::Texts, x);
+    let text = look_up(h, Index::Names, x);
     let Found::At(k) = text else {
         return no_terms();
     };

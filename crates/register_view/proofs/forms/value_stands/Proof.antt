@@ -63,17 +63,20 @@ enum-known-w-3 c = search needs
 text-number-requires : tie.Need-text-number-requires
 text-number-requires c κs = search needs
 
-name-at-requires : tie.Need-name-at-requires
-name-at-requires c κs = search needs
+order-by-requires : tie.Need-order-by-requires
+order-by-requires c κs = search needs
+
+stands-as-requires-3 : tie.Need-stands-as-requires-3
+stands-as-requires-3 c κs = search needs
 
 part-requires : tie.Need-part-requires
 part-requires c κs = search needs
 
-compare-requires : tie.Need-compare-requires
-compare-requires c κs = search needs
+compare-name-requires : tie.Need-compare-name-requires
+compare-name-requires c κs = search needs
 
-stands-as-requires-3 : tie.Need-stands-as-requires-3
-stands-as-requires-3 c κs = search needs
+stands-as-requires-4 : tie.Need-stands-as-requires-4
+stands-as-requires-4 c κs = search needs
 
 returns : tie.Need-returns
 returns c = search (standing, needs)
@@ -105,6 +108,9 @@ returns-9 c = search (standing, needs)
 returns-10 : tie.Need-returns-10
 returns-10 c = search (standing, needs)
 
+returns-11 : tie.Need-returns-11
+returns-11 c = search (standing, needs)
+
 pub value-stands-spec : {M : Type 1} → statement M
 value-stands-spec =
     tie.close
@@ -129,10 +135,11 @@ value-stands-spec =
     enum-told-10
     enum-known-w-3
     text-number-requires
-    name-at-requires
-    part-requires
-    compare-requires
+    order-by-requires
     stands-as-requires-3
+    part-requires
+    compare-name-requires
+    stands-as-requires-4
     returns
     returns-2
     returns-3
@@ -142,4 +149,5 @@ value-stands-spec =
     returns-7
     returns-8
     returns-9
-    returns-10)
+    returns-10
+    returns-11)

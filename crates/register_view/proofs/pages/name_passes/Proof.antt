@@ -15,20 +15,29 @@ same-bytes-requires c κs = search needs
 enum-known-test : tie.Need-enum-known-test
 enum-known-test c = search needs
 
-article-at-requires : tie.Need-article-at-requires
-article-at-requires c κs = search needs
+identifier-number-requires : tie.Need-identifier-number-requires
+identifier-number-requires c κs = search needs
 
-compare-requires : tie.Need-compare-requires
-compare-requires c κs = search needs
+order-by-requires : tie.Need-order-by-requires
+order-by-requires c κs = search needs
 
 stands-as-requires : tie.Need-stands-as-requires
 stands-as-requires c κs = search needs
+
+compare-name-requires : tie.Need-compare-name-requires
+compare-name-requires c κs = search needs
+
+stands-as-requires-2 : tie.Need-stands-as-requires-2
+stands-as-requires-2 c κs = search needs
 
 returns : tie.Need-returns
 returns c = search (naming-pages, needs)
 
 returns-2 : tie.Need-returns-2
 returns-2 c = search (naming-pages, needs)
+
+returns-3 : tie.Need-returns-3
+returns-3 c = search (naming-pages, needs)
 
 pub name-passes-spec : {M : Type 1} → statement M
 name-passes-spec =
@@ -38,8 +47,11 @@ name-passes-spec =
     namespace-at-requires
     same-bytes-requires
     enum-known-test
-    article-at-requires
-    compare-requires
+    identifier-number-requires
+    order-by-requires
     stands-as-requires
+    compare-name-requires
+    stands-as-requires-2
     returns
-    returns-2)
+    returns-2
+    returns-3)
