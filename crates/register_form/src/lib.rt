@@ -165,7 +165,7 @@ pub fn minus(b: u16, a: u16) -> u16
     if a <= b { b - a } else { 0 }
 }
 
-// Text x, its namespace and its name.
+// Text x.
 pub fn text_at(h: &[u8], x: u16) -> &[u8]
     ensures { λ r. ⌜ now r ≡ textAt (now (h .entry)) x ⌝ }
 {
@@ -173,13 +173,14 @@ pub fn text_at(h: &[u8], x: u16) -> &[u8]
     part(h, 28492 + widen(start), widen(minus(text_end(h, x), start)))
 }
 
-fn space_of(t: &[u8]) -> &[u8]
+// The namespace and the name in a text; in text x.
+pub fn space_of(t: &[u8]) -> &[u8]
     ensures { λ r. ⌜ now r ≡ spaceOf (now (t .entry)) ⌝ }
 {
     part(t, 1, widen(wide(byte_at(t, 0))))
 }
 
-fn name_of(t: &[u8]) -> &[u8]
+pub fn name_of(t: &[u8]) -> &[u8]
     ensures { λ r. ⌜ now r ≡ nameOf (now (t .entry)) ⌝ }
 {
     part(t, 1 + widen(wide(byte_at(t, 0))), t.len())

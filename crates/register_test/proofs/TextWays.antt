@@ -6,6 +6,7 @@ use mathlib.Core.List.{List}
 use native.Mathlib.Omega.{arith}
 use lib.Dec.{ltb, eqb}
 use lib.ListN.{length, getD}
+use borrow.Author.Tests.{eq-eqb, ne-eqb}
 use Rattle.text.specs.Bytes.{Bytes, orderOf}
 use Rattle.text.specs.declared.Order.{Order}
 use Rattle.values.specs.Names.{isNamespace, isPropertyName}
@@ -37,6 +38,24 @@ module _ (f : ℕ → Bytes) where
   pub climbs-on : (i : ℕ) (s t : Bytes) (o : Order) (r : Bool) → (i ≡ 0 → ⊥) → s ≡ f (i - 1) → t ≡ f i → o ≡ orderOf s t → r ≡ isLess o → r ≡ climbs f i
   climbs-on i s t o r n e k m q = q ∙ rw (m, e, k) (climbs-at i n)
 
+module _ (t n : Bytes) (z a : ℕ) (e : n ≡ nameOf t) (f : z ≡ getD t 0 0) (g : a ≡ nameClass n) where
+  pub class-plain : z ≡ 0 → a ≡ classOf t
+  unfolding classOf
+  class-plain k = rw (← f, eq-eqb z 0 k, g, e)
+
+  module _ (s : Bytes) (b : ℕ) (k : z ≡ 0 → ⊥) (l : s ≡ spaceOf t) (m : b ≡ nameClass s) where
+    names-told : (q : Bool) → ((eqb (length s) 0 || eqb b 2) && eqb a 2) ≡ q → isIdentifier (identifierOf t) ≡ q
+    unfolding isIdentifier isNamespace
+    names-told q r = rw (← l, ← e, ← class-two s, ← class-two n, ← m, ← g) r
+
+    pub class-spaced : ((eqb (length s) 0 || eqb b 2) && eqb a 2) ≡ true → 3 ≡ classOf t
+    unfolding classOf
+    class-spaced q = rw (← f, ne-eqb z 0 k, names-told true q)
+
+    pub class-other : ((eqb (length s) 0 || eqb b 2) && eqb a 2) ≡ false → 0 ≡ classOf t
+    unfolding classOf
+    class-other q = rw (← f, ne-eqb z 0 k, names-told false q)
+
 module _ (h : Bytes) (x : ℕ) where
   pub plain-is : (t : Bytes) (b : ℕ) → t ≡ textAt h x → b ≡ getD t 0 0 → eqb b 0 ≡ isPlain (textAt h x)
   plain-is t b e f = rw (f, e)
@@ -44,24 +63,6 @@ module _ (h : Bytes) (x : ℕ) where
   pub text-tested : (t : Bytes) (a b : Bool) → t ≡ textAt h x → a ≡ isLabelled t → b ≡ climbs (textAt h) x → (a && b) ≡ textTest h x
   unfolding textTest
   text-tested t a b e f g = rw (f, g, e)
-
-  module _ (n : Bytes) (p : Bool) (a : ℕ) (e : n ≡ nameOf (textAt h x)) (f : p ≡ isPlain (textAt h x)) (g : a ≡ nameClass n) where
-    pub class-plain : p ≡ true → a ≡ classOf (textAt h x)
-    unfolding classOf
-    class-plain k = rw (← f, k, g, e)
-
-    module _ (s : Bytes) (b : ℕ) (k : p ≡ false) (l : s ≡ spaceOf (textAt h x)) (m : b ≡ nameClass s) where
-      names-told : (q : Bool) → ((eqb (length s) 0 || eqb b 2) && eqb a 2) ≡ q → isIdentifier (identifierOf (textAt h x)) ≡ q
-      unfolding isIdentifier isNamespace
-      names-told q r = rw (← l, ← e, ← class-two s, ← class-two n, ← m, ← g) r
-
-      pub class-spaced : ((eqb (length s) 0 || eqb b 2) && eqb a 2) ≡ true → 3 ≡ classOf (textAt h x)
-      unfolding classOf
-      class-spaced q = rw (← f, k, names-told true q)
-
-      pub class-other : ((eqb (length s) 0 || eqb b 2) && eqb a 2) ≡ false → 0 ≡ classOf (textAt h x)
-      unfolding classOf
-      class-other q = rw (← f, k, names-told false q)
 
   pub length-is : (a b r : ℕ) → a ≡ textStart h (suc x) → b ≡ textStart h x → r ≡ a - b → r ≡ textLength h x
   unfolding textLength

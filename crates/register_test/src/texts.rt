@@ -10,8 +10,9 @@ use crate::Tally;
 use register_form::minus;
 use register_form::name_at;
 use register_form::name_number;
+use register_form::name_of;
 use register_form::property_count;
-use register_form::space_at;
+use register_form::space_of;
 use register_form::text_at;
 use register_form::text_count;
 use register_form::text_end;
@@ -40,33 +41,35 @@ fn is_plain(h: &[u8], x: u16) -> bool
     byte_at(text_at(h, x), 0) == 0
 }
 
-// Whether the text before text x, if there is one, is less.
-fn text_climbs(h: &[u8], x: u16) -> bool
+// Whether the text before text x, which is t, if there is one, is less.
+fn text_climbs<'a>(h: &'a [u8], t: &'a [u8], x: u16) -> bool
+    requires { ⌜ now t ≡ textAt (now h) x ⌝ }
     ensures { λ r. ⌜ r ≡ climbs (textAt (now (h .entry))) x ⌝ }
 {
     if x == 0 {
         return true;
     }
     let before = x - 1;
-    is_less(compare(text_at(h, before), text_at(h, x)))
+    is_less(compare(text_at(h, before), t))
 }
 
-fn text_ok(h: &[u8], x: u16) -> bool
+fn text_ok<'a>(h: &'a [u8], t: &'a [u8], x: u16) -> bool
+    requires { ⌜ now t ≡ textAt (now h) x ⌝ }
     ensures { λ r. ⌜ r ≡ textTest (now (h .entry)) x ⌝ }
 {
-    is_labelled(text_at(h, x)) & text_climbs(h, x)
+    is_labelled(t) & text_climbs(h, t, x)
 }
 
-// What text x may be, by the table of the rules for bytes.
-fn class_of<'a>(h: &'a [u8], rules: &'a [u8], x: u16) -> u16
+// What a text may be, by the table of the rules for bytes.
+fn class_of<'a>(t: &'a [u8], rules: &'a [u8]) -> u16
     requires { ⌜ now rules ≡ ruleTable ⌝ }
-    ensures { λ r. ⌜ r ≡ classOf (textAt (now (h .entry)) x) ⌝ }
+    ensures { λ r. ⌜ r ≡ classOf (now (t .entry)) ⌝ }
 {
-    let class = name_class(rules, name_at(h, x));
-    if is_plain(h, x) {
+    let class = name_class(rules, name_of(t));
+    if byte_at(t, 0) == 0 {
         return class;
     }
-    let space = space_at(h, x);
+    let space = space_of(t);
     let spaced = (space.len() == 0) | (name_class(rules, space) == 2);
     if spaced & (class == 2) { 3 } else { 0 }
 }
@@ -80,8 +83,9 @@ pub fn texts_ok(h: &[u8], classes: &mut [u16]) -> bool
     let mut ok = true;
     let mut x: u16 = 0;
     while x < n {
-        ok = ok & text_ok(h, x);
-        put(classes, widen(x), class_of(h, &rules, x));
+        let t = text_at(h, x);
+        ok = ok & text_ok(h, t, x);
+        put(classes, widen(x), class_of(t, &rules));
         x += 1;
     }
     ok

@@ -1,5 +1,5 @@
-use borrow.Author.Needs.{needs}
 use Rattle.register_test.proofs.TextWays.{texts}
+use borrow.Author.Needs.{needs}
 use Rattle.register_test.proofs.texts.text_climbs.Statement.{statement}
 use Rattle.register_test.proofs.texts.text_climbs.Tie as tie
 
@@ -11,9 +11,6 @@ sub-before c = search needs
 
 text-at-requires : tie.Need-text-at-requires
 text-at-requires c κs = search needs
-
-text-at-requires-2 : tie.Need-text-at-requires-2
-text-at-requires-2 c κs = search needs
 
 compare-requires : tie.Need-compare-requires
 compare-requires c κs = search needs
@@ -27,11 +24,4 @@ returns-2 c = search (texts, needs)
 pub text-climbs-spec : {M : Type 1} → statement M
 text-climbs-spec =
     tie.close
-    (tie.spec
-    returns
-    sub-before
-    text-at-requires
-    text-at-requires-2
-    compare-requires
-    is-less-requires
-    returns-2)
+    (tie.spec returns sub-before text-at-requires compare-requires is-less-requires returns-2)

@@ -1,10 +1,7 @@
-use borrow.Author.Needs.{needs}
 use Rattle.register_test.proofs.TextWays.{texts}
+use borrow.Author.Needs.{needs}
 use Rattle.register_test.proofs.texts.text_ok.Statement.{statement}
 use Rattle.register_test.proofs.texts.text_ok.Tie as tie
-
-text-at-requires : tie.Need-text-at-requires
-text-at-requires c κs = search needs
 
 is-labelled-requires : tie.Need-is-labelled-requires
 is-labelled-requires c κs = search needs
@@ -16,5 +13,4 @@ returns : tie.Need-returns
 returns c = search (texts, needs)
 
 pub text-ok-spec : {M : Type 1} → statement M
-text-ok-spec =
-    tie.close (tie.spec text-at-requires is-labelled-requires text-climbs-requires returns)
+text-ok-spec = tie.close (tie.spec is-labelled-requires text-climbs-requires returns)

@@ -1,8 +1,9 @@
 use Prim.Native.Nat.{_≤_, _-_}
-use mathlib.Core.Path.{_≡_}
+use mathlib.Core.Path.{_≡_, ap, _∙_}
+use Rattle.register_form.specs.Form.{textAt}
 use Rattle.register_form.specs.Tests.{allTo}
 use Rattle.register_test.proofs.Loops.{all-more, written-more}
-use Rattle.register_test.specs.Stages.{textTest, classesTo}
+use Rattle.register_test.specs.Stages.{classOf, textTest, classesTo}
 use native.Mathlib.Omega.{arith}
 use borrow.Author.Needs.{needs}
 use Rattle.register_test.proofs.Loops.{loops}
@@ -25,6 +26,9 @@ byte-rules-requires c κs = search needs
 loop-holds : tie.Need-loop-holds Inv-loop μ-loop
 loop-holds c = search (texts, loops, needs)
 
+text-at-requires : tie.Need-text-at-requires Inv-loop μ-loop
+text-at-requires c κs = search needs
+
 text-ok-requires : tie.Need-text-ok-requires Inv-loop μ-loop
 text-ok-requires c κs = search needs
 
@@ -35,7 +39,7 @@ slice-aggregate-class-of : tie.Need-slice-aggregate-class-of Inv-loop μ-loop
 slice-aggregate-class-of c = search needs
 
 class-of-requires : tie.Need-class-of-requires Inv-loop μ-loop
-class-of-requires c κs = c .before .before .before .before .before .before .byte-rules .ensures
+class-of-requires c κs = c .before .before .before .before .before .before .before .byte-rules .ensures
 
 put-requires : tie.Need-put-requires Inv-loop μ-loop
 put-requires c κs = search needs
@@ -47,7 +51,9 @@ loop-less : tie.Need-loop-less Inv-loop μ-loop
 loop-less c = omega arith
 
 loop-again : tie.Need-loop-again Inv-loop μ-loop
-loop-again c = (omega arith, search (all-more, needs), search (written-more, needs))
+loop-again c =
+    let k : c .before .before .before .class-of .result ≡ classOf (textAt (c .before .before .before .before .before .before .before .before .before .before .before .before .before .before .before .args .h .now) (c .before .before .before .before .before .before .before .before .before .before .loop .x)) = c .before .before .before .class-of .ensures ∙ ap classOf (c .before .before .before .before .before .before .before .before .text-at .ensures) in
+    (omega arith, search (all-more, needs), search (written-more, needs))
 
 same-length : tie.Need-same-length Inv-loop μ-loop
 same-length c = search (loops, needs)
@@ -64,6 +70,7 @@ texts-ok-spec =
     text-count-requires
     byte-rules-requires
     loop-holds
+    text-at-requires
     text-ok-requires
     widen-requires
     slice-aggregate-class-of
