@@ -10,7 +10,7 @@ use borrow.Author.Tests.{eq-eqb, ne-eqb}
 use Rattle.text.specs.Bytes.{Bytes}
 use Rattle.text.proofs.Tables.{length-tabulate, getD-tabulate}
 use Rattle.values.specs.declared.Kind.{Kind}
-use Rattle.register_form.specs.Numbers.{eightBytes}
+use Rattle.buffer.specs.Numbers.{eightBytes}
 use Rattle.register_form.specs.Dictionary.{termOf}
 use Rattle.register_form.specs.Form.{kindFrom, joined}
 use Rattle.register_bytes.specs.Writing.{written}

@@ -15,7 +15,7 @@ use Rattle.text.specs.Bytes.{Bytes, any}
 use Rattle.text.specs.Table.{tabulate}
 use Rattle.text.proofs.Laws.{any-append}
 use Rattle.register_form.specs.Draft.{onceBehind, filtered}
-use Rattle.register_form.proofs.Parts.{flat-more}
+use Rattle.buffer.proofs.Parts.{flat-more}
 use Rattle.register_form.specs.Tables.{range, formsAt}
 use Rattle.register_assembly.specs.Keeping.{wants, passed, added, keptBy, keptOn, keptUpTo, Listed, Keeping, Kept, PassKept, Ready, PagesKept, Fresh, Within}
 

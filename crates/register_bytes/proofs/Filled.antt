@@ -7,11 +7,11 @@ use native.Mathlib.Omega.{arith}
 use lib.ListN.{length, take, drop, length-append, replicate-append-replicate, take-append-drop}
 use lib.Seq.{length-take-le}
 use Rattle.text.specs.Bytes.{Bytes}
-use Rattle.register_form.specs.Numbers.{zeros, padded}
+use Rattle.buffer.specs.Numbers.{zeros, padded}
 use Rattle.register_form.specs.Dictionary.{Dictionary}
 use Rattle.register_form.specs.Form.{registerSize, countBytes, bytesOf}
 use Rattle.register_form.specs.Tests.{Bounded}
-use Rattle.register_form.proofs.Regions.{length-zeros, length-padded}
+use Rattle.buffer.proofs.Regions.{length-zeros, length-padded}
 use Rattle.register_form.proofs.Holding.{Lengths, lengths}
 use Rattle.register_bytes.specs.Writing.{written, Region, putRegions, regionsOf}
 use Rattle.register_bytes.proofs.Written.{written-here, written-skip, written-over}

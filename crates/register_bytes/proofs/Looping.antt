@@ -12,7 +12,7 @@ use Rattle.text.specs.Bytes.{Bytes}
 use Rattle.text.proofs.Tables.{length-tabulate, getD-tabulate}
 use Rattle.sorting.specs.Listing.{listed}
 use Rattle.sorting.proofs.Listings.{length-listed, getD-listed}
-use Rattle.register_form.specs.Numbers.{twoBytes, zeros, startsFrom}
+use Rattle.buffer.specs.Numbers.{twoBytes, zeros, startsFrom}
 use Rattle.register_form.specs.Form.{propertyBytes, numberBytes, joined}
 use Rattle.register_bytes.specs.Writing.{written, rowOf, picked, firstOf, rowsOf}
 use Rattle.register_bytes.proofs.Written.{written-past, written-then, written-none, length-written}

@@ -9,7 +9,7 @@ use lib.ListN.{length, getD, drop, set, length-set, length-take}
 use lib.Seq.{length-sets, set-out, set-append-left}
 use Rattle.text.specs.Bytes.{Bytes, part}
 use Rattle.dictionary.specs.Items.{textAt}
-use Rattle.register_form.specs.Numbers.{twoBytes, eightBytes}
+use Rattle.buffer.specs.Numbers.{twoBytes, eightBytes}
 use Rattle.register_form.specs.Form.{kindCode, kindFrom, propertyBytes}
 use Rattle.register_bytes.specs.Writing.{written, rowOf, fourBytes}
 

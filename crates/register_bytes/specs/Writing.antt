@@ -5,7 +5,7 @@ use lib.ListN.{getD}
 use lib.Seq.{sets}
 use Rattle.text.specs.Bytes.{Bytes}
 use Rattle.text.specs.Table.{tabulate}
-use Rattle.register_form.specs.Numbers.{twoBytes, startsFrom}
+use Rattle.buffer.specs.Numbers.{twoBytes, startsFrom}
 use Rattle.register_form.specs.Dictionary.{PropertyRow, Dictionary}
 use Rattle.register_form.specs.Form.{formsOf, joined, countBytes, propertyBytes, numberBytes, kindFrom}
 

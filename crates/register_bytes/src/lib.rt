@@ -3,7 +3,7 @@ ghost use mathlib.Core.Path.{_≡_};
 ghost use mathlib.Core.List.{[], _∷_};
 ghost use mathlib.Core.Logic.{_⊎_};
 ghost use Prim.Native.Nat.{_≤_};
-ghost use Rattle.register_form.specs.Numbers.{twoBytes, eightBytes, zeros};
+ghost use Rattle.buffer.specs.Numbers.{twoBytes, eightBytes, zeros};
 ghost use Rattle.register_form.specs.Form.{kindCode, kindFrom, propertyBytes};
 ghost use Rattle.register_bytes.specs.Writing.{written, rowOf, fourBytes};
 use tables::widen;

@@ -4,7 +4,7 @@ ghost use mathlib.Core.List.{flatMap};
 ghost use lib.ListN.{length};
 ghost use Rattle.sorting.specs.Listing.{listed};
 ghost use Rattle.dictionary.specs.Items.{textAt};
-ghost use Rattle.register_form.specs.Numbers.{startsFrom};
+ghost use Rattle.buffer.specs.Numbers.{startsFrom};
 ghost use Rattle.register_form.specs.Form.{propertyBytes, numberBytes, joined};
 ghost use Rattle.register_bytes.specs.Writing.{written, picked, firstOf, rowsOf};
 use crate::put_bytes;

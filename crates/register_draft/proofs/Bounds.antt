@@ -29,7 +29,7 @@ use Rattle.rows.specs.Rows.{isProp}
 use Rattle.register_form.specs.Dictionary.{PageRow, Dictionary, labelled, termOf}
 use Rattle.register_form.specs.Encoding.{plainText, identifierText, valueTexts, placeAmong}
 use Rattle.register_form.specs.Form.{joined}
-use Rattle.register_form.proofs.Parts.{flat-append}
+use Rattle.buffer.proofs.Parts.{flat-append}
 use Rattle.register_draft.specs.Drafting.{noDraft, onLast, codeIn, withValue, added, draftFrom, draftOf}
 use Rattle.register_draft.specs.Sizes.{Sized, Fits}
 

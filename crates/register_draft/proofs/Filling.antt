@@ -26,7 +26,7 @@ use Rattle.register_form.specs.Dictionary.{PropertyRow, PageRow, Dictionary, la
 use Rattle.register_form.specs.Encoding.{identifierText, valueTexts}
 use Rattle.register_form.specs.Form.{kindCode, kindFrom, joined}
 use Rattle.register_form.specs.Tables.{draftIn}
-use Rattle.register_form.proofs.Parts.{part-before}
+use Rattle.buffer.proofs.Parts.{part-before}
 use Rattle.register_draft.specs.declared.Counts.{Counts}
 use Rattle.register_draft.specs.declared.Ends.{Ends}
 use Rattle.register_draft.specs.Drafting.{withForm, onLast}

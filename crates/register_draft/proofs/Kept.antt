@@ -26,7 +26,7 @@ use Rattle.register_form.specs.Tests.{isLabelled, isPlainNumber, isTerm, termTe
 use Rattle.register_form.specs.Draft.{pageOnce, drafted, Draft}
 use Rattle.register_form.proofs.Codes.{name-back, labelled-is}
 use Rattle.register_form.proofs.Lists.{mem-at, mem-used}
-use Rattle.register_form.proofs.Parts.{flat-append}
+use Rattle.buffer.proofs.Parts.{flat-append}
 use Rattle.register_draft.specs.Drafting.{noDraft, withForm, onLast, codeIn, withValue, added, draftFrom, draftOf}
 use Rattle.register_draft.proofs.Growing.{Front, front-self, front-there, front-at, Grows, grows-self, grows-trans, grows-added, grows-from, kept}
 use Rattle.register_draft.proofs.Entries.{placed, passed-good}

@@ -30,7 +30,7 @@ use Rattle.register_form.specs.Form.{joined}
 use Rattle.register_form.specs.Draft.{drafted, Draft}
 use Rattle.register_form.specs.Tables.{tablesOf, range, draftIn}
 use Rattle.register_form.proofs.Lists.{mem-at}
-use Rattle.register_form.proofs.Parts.{part-before}
+use Rattle.buffer.proofs.Parts.{part-before}
 use Rattle.register_draft.specs.declared.Counts.{Counts}
 use Rattle.register_draft.specs.Drafting.{noDraft, added, draftFrom, draftOf}
 use Rattle.register_draft.specs.Sizes.{Fits, Good}

@@ -18,7 +18,7 @@ use Rattle.register_form.specs.Encoding.{valueTexts, placeAmong}
 use Rattle.register_form.specs.Form.{formsOf}
 use Rattle.register_form.specs.Draft.{onceBehind, once, pageOnce}
 use Rattle.register_form.proofs.Codes.{space-back, name-back}
-use Rattle.register_form.proofs.Parts.{flat-append}
+use Rattle.buffer.proofs.Parts.{flat-append}
 use Rattle.register_draft.specs.Drafting.{withForm, onLast, codeIn, withValue, added, draftFrom}
 use Rattle.register_draft.proofs.Growing.{Front, front-at, Grows, grows-trans, grows-from}
 use Rattle.register_draft.proofs.Entries.{Placed, done, a-prop, a-page, a-cat, a-val, a-close}

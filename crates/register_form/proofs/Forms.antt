@@ -18,14 +18,14 @@ use Rattle.language.specs.Rules.{isRegister}
 use Rattle.language.proofs.Members.{and-true, both-true, by-test}
 use Rattle.language.proofs.Rules.{register-rules}
 use Rattle.sorting.proofs.Canonical.{same-truth}
-use Rattle.register_form.specs.Numbers.{twoAt}
+use Rattle.buffer.specs.Numbers.{twoAt}
 use Rattle.register_form.specs.Dictionary.{Dictionary, decode}
 use Rattle.register_form.specs.Encoding.{encode}
 use Rattle.register_form.specs.Form.{registerSize, bytesOf, formOf, propertyAt, termAt, dictionaryIn, registerIn, isForm, heldRegister}
 use Rattle.register_form.specs.Tests.{isLaid, isCanonical, keepsRules, tested}
 use Rattle.register_form.specs.Formed.{Formed}
 use Rattle.register_form.proofs.Truths.{each}
-use Rattle.register_form.proofs.Parts.{getD-part}
+use Rattle.buffer.proofs.Parts.{getD-part}
 use Rattle.register_form.proofs.Numbers.{term-back}
 use Rattle.register_form.proofs.Lists.{mem-place}
 use Rattle.register_form.proofs.Holding.{length-bytes}

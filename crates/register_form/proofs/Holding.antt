@@ -6,12 +6,12 @@ use native.Mathlib.Omega.{arith}
 use lib.ListN.{length, getD, drop, length-append, length-drop, length-map}
 use lib.Seq.{take-all}
 use Rattle.text.specs.Bytes.{Bytes, part}
-use Rattle.register_form.specs.Numbers.{padded, startsFrom}
+use Rattle.buffer.specs.Numbers.{padded, startsFrom}
 use Rattle.register_form.specs.Dictionary.{Dictionary, noProperty}
 use Rattle.register_form.specs.Form.{registerSize, formsOf, joined, countBytes, propertyBytes, numberBytes, bytesOf}
 use Rattle.register_form.specs.Tests.{Bounded, termUses}
-use Rattle.register_form.proofs.Parts.{both, part-rest}
-use Rattle.register_form.proofs.Regions.{length-padded}
+use Rattle.buffer.proofs.Parts.{both, part-rest}
+use Rattle.buffer.proofs.Regions.{length-padded}
 use Rattle.register_form.proofs.Rows.{length-rows, length-numbers}
 use Rattle.register_form.proofs.Starts.{length-starts, piece-before}
 

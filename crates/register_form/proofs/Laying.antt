@@ -11,11 +11,12 @@ use lib.ListN.{length, getD}
 use borrow.Author.Tests.{eqb-true, leb-true, ltb-true, eq-eqb, le-leb, lt-ltb}
 use Rattle.text.specs.Bytes.{Bytes}
 use Rattle.text.proofs.Laws.{part-length}
-use Rattle.register_form.specs.Numbers.{twoAt}
+use Rattle.buffer.specs.Numbers.{twoAt}
 use Rattle.register_form.specs.Form.{registerSize, textCount, formStart, textStart, textAt}
-use Rattle.register_form.specs.Tests.{allTo, zerosAt, rises, isCounted, isPadded, isLaid}
+use Rattle.register_form.specs.Tests.{rises, isCounted, isPadded, isLaid}
+use Rattle.buffer.specs.Tests.{allTo, zerosAt}
 use Rattle.register_form.proofs.Truths.{each}
-use Rattle.register_form.proofs.Regions.{all-to, to-all}
+use Rattle.buffer.proofs.Regions.{all-to, to-all}
 
 pub record Rises (f : ℕ → ℕ) (n most : ℕ) : Type 0 where
   pub first : f 0 ≡ 0

@@ -1,8 +1,6 @@
 pub mod Truths
 pub mod Totals
-pub mod Parts
 pub mod Numbers
-pub mod Regions
 pub mod Rows
 pub mod Starts
 pub mod Laying

@@ -16,7 +16,7 @@ use Rattle.sorting.proofs.Canonical.{sorted-ascends, member-sorted, canonical-e
 use Rattle.sorting.proofs.Ranks.{getD-rank, rank-at}
 use Rattle.sorting.proofs.Orders.{bytes-total}
 use Rattle.register_form.specs.Tests.{everyUsed}
-use Rattle.register_form.proofs.Regions.{all-to, to-all}
+use Rattle.buffer.proofs.Regions.{all-to, to-all}
 
 module _ {A : Type 0} where
   -- Tests of some member.

@@ -8,43 +8,10 @@ use native.Mathlib.Omega.{arith}
 use lib.ListN.{length, getD, take, drop, length-drop}
 use lib.Seq.{drop-cons, take-all}
 use Rattle.text.specs.Bytes.{Bytes, part}
-use Rattle.register_form.specs.Numbers.{twoBytes, eightBytes, twoAt, eightAt}
+use Rattle.buffer.specs.Numbers.{twoBytes, eightBytes, twoAt, eightAt}
 use Rattle.register_form.specs.Dictionary.{termOf, groupOf, codeOf}
-use Rattle.register_form.proofs.Parts.{both, getD-part, part-add}
-
--- Two bytes.
-two-low : (n : ℕ) → n % 256 + 256 * (n / 256 % 256) ≡ n % 65536
-two-low n = omega arith
-
-two-back : (n : ℕ) → n < 65536 → n % 256 + 256 * (n / 256 % 256) ≡ n
-two-back n h = omega (arith, two-low n)
-
--- the number whose bytes stand at a place
-pub two-there : (h : Bytes) (at n : ℕ) → n < 65536 → part h at 2 ≡ twoBytes n → twoAt h at ≡ n
-unfolding twoAt
-two-there h at n b e =
-    let low : getD h at 0 ≡ n % 256 = ap (λ i. getD h i 0) (let z : at ≡ at + 0 = omega arith in z) ∙ sym (getD-part h at 2 0 (omega arith)) ∙ ap (λ (r : Bytes). getD r 0 0) e in
-    let high : getD h (at + 1) 0 ≡ n / 256 % 256 = sym (getD-part h at 2 1 (omega arith)) ∙ ap (λ (r : Bytes). getD r 1 0) e in
-    rw (low, high) (two-back n b)
-
--- the bytes of the number that two bytes tell
-two-of : (a b : ℕ) → a < 256 → b < 256 → twoBytes (a + 256 * b) ≡ a ∷ b ∷ []
-two-of a b p q =
-    let low : (a + 256 * b) % 256 ≡ a = omega arith in
-    let above : (a + 256 * b) / 256 ≡ b = omega arith in
-    let high : (a + 256 * b) / 256 % 256 ≡ b = rw above (mod-eq-of-lt q) in
-    ap₂ (λ (x y : ℕ). x ∷ y ∷ []) low high
-
--- what stands at a place is the bytes of the number there
-pub two-here : (h : Bytes) (at : ℕ) → at + 2 ≤ length h → ((i : ℕ) → getD h i 0 < 256) → part h at 2 ≡ twoBytes (twoAt h at)
-unfolding twoAt
-two-here h at l b =
-    ap (take 2) (drop-cons h at 0 (omega arith) ∙ ap (λ (r : Bytes). getD h at 0 ∷ r) (drop-cons h (suc at) 0 (omega arith)))
-    ∙ rw (← add-one at) (sym (two-of (getD h at 0) (getD h (at + 1) 0) (b at) (b (at + 1))))
-
-pub two-small : (h : Bytes) (at : ℕ) → ((i : ℕ) → getD h i 0 < 256) → twoAt h at < 65536
-unfolding twoAt
-two-small h at b = omega (arith, b at, b (at + 1))
+use Rattle.buffer.proofs.Numbers.{two-low, two-back, two-here, two-small}
+use Rattle.buffer.proofs.Parts.{both, getD-part, part-add}
 
 -- Eight bytes behind one.
 pub code-back : (g c : ℕ) → c < 2 ^ 64 → codeOf (termOf g c) ≡ c

@@ -9,13 +9,13 @@ use Rattle.text.specs.Bytes.{Bytes, part}
 use Rattle.text.specs.Table.{tabulate}
 use Rattle.text.proofs.Tables.{is-tabulate}
 use Rattle.values.specs.declared.Kind.{Kind}
-use Rattle.register_form.specs.Numbers.{twoBytes, twoAt, padded, startsFrom}
+use Rattle.buffer.specs.Numbers.{twoBytes, twoAt, padded, startsFrom}
 use Rattle.register_form.specs.Dictionary.{Dictionary, PageRow, noProperty, propertyIn, termIn, textIn}
 use Rattle.register_form.specs.Form.{formsOf, joined, countBytes, propertyBytes, numberBytes, bytesOf, kindCode, kindFrom, propertyAt, formStart, formAt, pageAt, termAt, textStart, textAt, dictionaryIn}
 use Rattle.register_form.specs.Tests.{Bounded, Small, termUses}
-use Rattle.register_form.proofs.Parts.{getD-part, part-part, flat-map}
-use Rattle.register_form.proofs.Numbers.{two-there}
-use Rattle.register_form.proofs.Regions.{part-region}
+use Rattle.buffer.proofs.Parts.{getD-part, part-part, flat-map}
+use Rattle.buffer.proofs.Numbers.{two-there}
+use Rattle.buffer.proofs.Regions.{part-region}
 use Rattle.register_form.proofs.Rows.{row-in, number-in}
 use Rattle.register_form.proofs.Starts.{length-starts, start-most, table-step, table-most, table-piece, table-piece-at}
 use Rattle.register_form.proofs.Holding.{Holds, holds-bytes}

@@ -10,12 +10,12 @@ use lib.Seq.{drop-cons}
 use Rattle.text.specs.Bytes.{Bytes, part}
 use Rattle.text.specs.Table.{tabulate}
 use Rattle.text.proofs.Tables.{length-tabulate, getD-tabulate}
-use Rattle.register_form.specs.Numbers.{twoBytes, twoAt, padded, startsFrom}
+use Rattle.buffer.specs.Numbers.{twoBytes, twoAt, padded, startsFrom}
 use Rattle.register_form.specs.Form.{formsOf, joined, countBytes, propertyBytes, numberBytes, bytesOf, kindCode, kindFrom, propertyAt, formStart, formAt, pageAt, termAt, textStart, textAt, dictionaryIn}
 use Rattle.register_form.specs.Tests.{isLaid, Bounded, Small, termUses}
-use Rattle.register_form.proofs.Parts.{both, length-part, part-add, flat-map, map-tabulate}
-use Rattle.register_form.proofs.Numbers.{two-here, two-small}
-use Rattle.register_form.proofs.Regions.{region, zeros-one-more}
+use Rattle.buffer.proofs.Parts.{both, length-part, part-add, flat-map, map-tabulate}
+use Rattle.buffer.proofs.Numbers.{two-here, two-small}
+use Rattle.buffer.proofs.Regions.{region, zeros-one-more}
 use Rattle.register_form.proofs.Rows.{region-rows, region-numbers}
 use Rattle.register_form.proofs.Starts.{starts-tabulate, pieces-joined}
 use Rattle.register_form.proofs.Laying.{rises-to, Laid, laid-facts}

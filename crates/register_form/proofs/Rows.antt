@@ -9,12 +9,13 @@ use lib.ListN.{length, getD, length-append}
 use lib.Seq.{take-at}
 use Rattle.text.specs.Bytes.{Bytes, part}
 use Rattle.text.specs.Table.{tabulate}
-use Rattle.register_form.specs.Numbers.{twoBytes, twoAt, padded}
+use Rattle.buffer.specs.Numbers.{twoBytes, twoAt, padded}
 use Rattle.register_form.specs.Form.{numberBytes}
-use Rattle.register_form.specs.Tests.{zerosAt, Small}
-use Rattle.register_form.proofs.Parts.{both, length-part, part-add, part-behind, flat-more}
-use Rattle.register_form.proofs.Numbers.{two-there, two-here}
-use Rattle.register_form.proofs.Regions.{region, part-region}
+use Rattle.register_form.specs.Tests.{Small}
+use Rattle.buffer.specs.Tests.{zerosAt}
+use Rattle.buffer.proofs.Parts.{both, length-part, part-add, part-behind, flat-more}
+use Rattle.buffer.proofs.Numbers.{two-there, two-here}
+use Rattle.buffer.proofs.Regions.{region, part-region}
 
 module _ {A : Type 0} (enc : A → Bytes) (w : ℕ) where
   -- records of a list, each w bytes long

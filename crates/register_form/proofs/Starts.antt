@@ -9,10 +9,10 @@ use lib.Seq.{take-append-seam, drop-append-seam}
 use Rattle.text.specs.Bytes.{Bytes, part}
 use Rattle.text.specs.Table.{tabulate}
 use Rattle.text.proofs.Tables.{length-tabulate, getD-tabulate, is-tabulate}
-use Rattle.register_form.specs.Numbers.{startsFrom}
+use Rattle.buffer.specs.Numbers.{startsFrom}
 use Rattle.register_form.specs.Form.{joined}
 use Rattle.register_form.proofs.Laying.{Rises}
-use Rattle.register_form.proofs.Parts.{both, getD-part, part-before, flat-more}
+use Rattle.buffer.proofs.Parts.{both, getD-part, part-before, flat-more}
 
 -- The table of starts: its length, its first and last entry, a step.
 pub length-starts : (at : ℕ) (l : List Bytes) → length (startsFrom at l) ≡ suc (length l)

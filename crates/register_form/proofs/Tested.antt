@@ -6,12 +6,12 @@ use mathlib.Core.List.{[], map, flatMap, append-nil}
 use native.Mathlib.Omega.{arith}
 use lib.ListN.{length, length-map}
 use Rattle.text.specs.Bytes.{Bytes}
-use Rattle.register_form.specs.Numbers.{twoAt, startsFrom}
+use Rattle.buffer.specs.Numbers.{twoAt, startsFrom}
 use Rattle.register_form.specs.Dictionary.{Dictionary, propertyIn}
 use Rattle.register_form.specs.Form.{registerSize, formsOf, joined, propertyBytes, numberBytes, bytesOf, formStart, textStart}
 use Rattle.register_form.specs.Tests.{isLaid, Bounded, termUses}
-use Rattle.register_form.proofs.Parts.{flat-map}
-use Rattle.register_form.proofs.Regions.{zeros-one-more, zeros-region}
+use Rattle.buffer.proofs.Parts.{flat-map}
+use Rattle.buffer.proofs.Regions.{zeros-one-more, zeros-region}
 use Rattle.register_form.proofs.Starts.{table-last, table-rises}
 use Rattle.register_form.proofs.Laying.{Padded, Laid, facts-laid}
 use Rattle.register_form.proofs.Holding.{Holds, Lengths, lengths, holds-bytes, length-bytes}

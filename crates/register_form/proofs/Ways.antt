@@ -7,10 +7,10 @@ use lib.ListN.{length, getD, take, drop, length-drop, List·getD-eq-default}
 use lib.Seq.{drop-drop, take-all}
 use Rattle.text.specs.Bytes.{Bytes, part}
 use Rattle.values.specs.declared.Kind.{Kind}
-use Rattle.register_form.specs.Numbers.{twoAt, eightAt}
+use Rattle.buffer.specs.Numbers.{twoAt, eightAt}
 use Rattle.register_form.specs.Dictionary.{spaceOf, nameOf, groupOf, codeOf}
 use Rattle.register_form.specs.Form.{kindFrom, propertyAt, pageAt, formStart, formAt, termAt, textStart, textAt}
-use Rattle.register_form.proofs.Parts.{getD-part}
+use Rattle.buffer.proofs.Parts.{getD-part}
 
 two-past : (h : Bytes) (i : ℕ) → length h ≤ i → 0 ≡ twoAt h i
 unfolding twoAt

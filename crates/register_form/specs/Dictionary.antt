@@ -12,7 +12,7 @@ use Rattle.values.specs.Names.{Identifier}
 use Rattle.values.specs.Values.{Constant, number, boolean, string, Value, plain, link}
 use Rattle.values.specs.Answers.{base}
 use Rattle.language.specs.Register.{Property, Held, Page, Register}
-use Rattle.register_form.specs.Numbers.{eightBytes, eightAt}
+use Rattle.buffer.specs.Numbers.{eightBytes, eightAt}
 
 pub record PropertyRow : Type 0 where
   pub kind : Kind

@@ -11,7 +11,7 @@ use Rattle.values.specs.declared.Kind.{Kind}
 use Rattle.language.specs.Answer.{Answer, refused, accepted, onlyIf}
 use Rattle.language.specs.Register.{Register}
 use Rattle.language.specs.Rules.{isRegister}
-use Rattle.register_form.specs.Numbers.{twoBytes, twoAt, padded, startsFrom}
+use Rattle.buffer.specs.Numbers.{twoBytes, twoAt, padded, startsFrom}
 use Rattle.register_form.specs.Dictionary.{PropertyRow, PageRow, Dictionary, decode}
 use Rattle.register_form.specs.Encoding.{encode}
 

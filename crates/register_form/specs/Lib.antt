@@ -1,4 +1,3 @@
-pub mod Numbers
 pub mod Dictionary
 pub mod Encoding
 pub mod Form

@@ -12,17 +12,9 @@ use Rattle.values.specs.Spelling.{spelling}
 use Rattle.language.specs.Register.{distinct}
 use Rattle.language.specs.Rules.{isIdentifier, isStorable, total}
 use Rattle.sorting.specs.Ascending.{ascends}
+use Rattle.buffer.specs.Tests.{allTo, zerosAt}
 use Rattle.register_form.specs.Dictionary.{PropertyRow, PageRow, Dictionary, spaceOf, nameOf, identifierOf, groupOf, codeOf, isCategory, textIn, termIn, propertyIn, categoryOf, heldOf}
 use Rattle.register_form.specs.Form.{pageCount, propertyCount, termCount, textCount, registerSize, formsOf, joined, formStart, textStart, dictionaryIn}
-
--- The test holds for each number below n.
-unfoldable pub allTo : ℕ → (ℕ → Bool) → Bool
-allTo zero f = true
-allTo (suc n) f = allTo n f && f n
-
--- Of the layout. The n bytes from a place on are 0.
-unfoldable pub zerosAt : Bytes → ℕ → ℕ → Bool
-zerosAt h from n = allTo n (λ i. eqb (getD h (from + i) 0) 0)
 
 -- A table of n numbers and one more begins with 0, does not fall, and ends at most at a number.
 unfoldable pub rises : (ℕ → ℕ) → ℕ → ℕ → Bool

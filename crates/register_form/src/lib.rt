@@ -1,7 +1,7 @@
 // The held register: reading its rows. Every number is one of 16 bits, so that no place overflows; what lies behind the bytes is 0.
 ghost use mathlib.Core.Path.{_≡_};
 ghost use Prim.Native.Nat.{suc, _+_, _*_, _-_};
-ghost use Rattle.register_form.specs.Numbers.{twoAt, eightAt};
+ghost use Rattle.buffer.specs.Numbers.{twoAt, eightAt};
 ghost use Rattle.register_form.specs.Dictionary.{spaceOf, nameOf, groupOf, codeOf};
 ghost use Rattle.register_form.specs.Form.{kindByte, pageCount, propertyCount, termCount, textCount, kindFrom, propertyAt, pageAt, formStart, formAt, termAt, textStart, textAt};
 

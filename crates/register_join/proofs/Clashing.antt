@@ -24,7 +24,7 @@ use Rattle.register_form.specs.Form.{kindByte, propertyCount, kindCode, kindFro
 use Rattle.register_form.specs.Tests.{isPlainNumber}
 use Rattle.register_form.specs.Draft.{onceBehind}
 use Rattle.register_form.proofs.Lists.{any-mem, mem-at, mem-place}
-use Rattle.register_form.proofs.Parts.{map-tabulate}
+use Rattle.buffer.proofs.Parts.{map-tabulate}
 use Rattle.register_form.proofs.Laying.{Laid, laid-facts}
 use Rattle.register_form.proofs.Rewritten.{kind-again}
 use Rattle.register_form.proofs.Described.{plain-below}

@@ -12,7 +12,7 @@ use Rattle.values.specs.declared.Kind.{Kind}
 use Rattle.values.specs.Values.{Value}
 use Rattle.language.specs.Register.{Held}
 use Rattle.language.proofs.Members.{and-true, both-true, all-at, by-test}
-use Rattle.register_form.specs.Numbers.{twoAt, eightAt}
+use Rattle.buffer.specs.Numbers.{twoAt, eightAt}
 use Rattle.register_form.specs.Dictionary.{PropertyRow, Dictionary, nameOf, termOf, groupOf, codeOf, isCategory, valueFrom, textIn, propertyIn, noProperty, categoryOf, heldOf, categoriesIn, valuesIn}
 use Rattle.register_form.specs.Tests.{isPlain, isPlainNumber, isCode, isTerm, codeTexts, termTexts}
 use Rattle.register_form.proofs.Lists.{mem-at}

@@ -12,7 +12,7 @@ use Rattle.language.specs.Register.{Page}
 use Rattle.register_form.specs.Dictionary.{PropertyRow, PageRow, Dictionary, identifierOf, textIn, termIn, categoriesIn, valuesIn, decodePage}
 use Rattle.register_form.specs.Form.{formsOf}
 use Rattle.register_form.specs.Tests.{termUses}
-use Rattle.register_form.proofs.Parts.{map-tabulate}
+use Rattle.buffer.proofs.Parts.{map-tabulate}
 use Rattle.register_form.proofs.Rewritten.{tabulate-add}
 use Rattle.register_join.specs.Sheets.{Sheet, termsOn, numberedFrom, draftOf}
 

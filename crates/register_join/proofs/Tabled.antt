@@ -24,7 +24,7 @@ use Rattle.register_form.specs.Tests.{termUses}
 use Rattle.register_form.specs.Draft.{onceBehind, once}
 use Rattle.register_form.specs.Tables.{draftIn}
 use Rattle.register_form.proofs.Lists.{mem-at}
-use Rattle.register_form.proofs.Parts.{map-tabulate, flat-append, flat-more}
+use Rattle.buffer.proofs.Parts.{map-tabulate, flat-append, flat-more}
 use Rattle.register_form.proofs.Described.{Canon, form-below}
 use Rattle.register_form.specs.Formed.{Formed}
 use Rattle.register_merge.specs.Merged.{Itemed, Merged}

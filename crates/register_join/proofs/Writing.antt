@@ -14,7 +14,7 @@ use Rattle.text.specs.Table.{tabulate}
 use Rattle.text.proofs.Tables.{length-tabulate, getD-tabulate}
 use Rattle.register_form.specs.Dictionary.{PageRow, termOf, groupOf, codeOf}
 use Rattle.register_form.specs.Form.{pageCount, pageAt, formStart, formAt, termAt, dictionaryIn}
-use Rattle.register_form.proofs.Parts.{flat-more}
+use Rattle.buffer.proofs.Parts.{flat-more}
 use Rattle.register_join.specs.Sheets.{Sheet, termsOn}
 use Rattle.register_join.specs.Joined.{noPage, formsIn}
 use Rattle.register_join.specs.Drafting.{newGroup, newCode, newTerm, newTerms, Written, TermsPut, newSheet, Paged, PagesPut}

@@ -9,7 +9,7 @@ use lib.ListN.{length, getD, take, drop, set, length-set, take-append-drop}
 use lib.Seq.{paste, length-take-le, take-length, take-at, drop-at, getD-set-same, getD-set-other}
 use Rattle.text.specs.Bytes.{Bytes, part}
 use Rattle.dictionary.specs.Items.{textAt}
-use Rattle.register_form.proofs.Parts.{part-before}
+use Rattle.buffer.proofs.Parts.{part-before}
 use Rattle.register_merge.specs.Merging.{Pasted, Added}
 
 -- What is pasted is there, and what lies before it stays.

@@ -15,10 +15,11 @@ use Rattle.language.specs.Rules.{total}
 use Rattle.sorting.proofs.Canonical.{left-of, right-of}
 use Rattle.register_form.specs.Dictionary.{PageRow, spaceOf, nameOf, isCategory, textIn, termIn}
 use Rattle.register_form.specs.Form.{pageCount, propertyCount, termCount, textCount, formsOf, propertyAt, pageAt, termAt, textAt, dictionaryIn}
-use Rattle.register_form.specs.Tests.{allTo, isLabelled, isPlain, termTexts, textUses, termUses, everyUsed, termBytes, countedBytes}
-use Rattle.register_form.proofs.Parts.{map-tabulate}
+use Rattle.register_form.specs.Tests.{isLabelled, isPlain, termTexts, textUses, termUses, everyUsed, termBytes, countedBytes}
+use Rattle.buffer.specs.Tests.{allTo}
+use Rattle.buffer.proofs.Parts.{map-tabulate}
 use Rattle.register_form.proofs.Laying.{Laid}
-use Rattle.register_form.proofs.Regions.{all-to}
+use Rattle.buffer.proofs.Regions.{all-to}
 use Rattle.register_test.specs.Loops.{sumTo, isSet}
 use Rattle.register_test.specs.Stages.{classOf, textLength, nameNumber, propertyOk, namesTo, propertyTest, propertyLength, judgedTerm, termTest, namedTo, shownTo, formCount, formIn, behindAt, formOk, lastBy, formTest, formLength, identifierAt, lastTo, placesTo, pageOk, pageTest, pageLength, usedTest}
 use Rattle.register_test.proofs.Loops.{all-ext, length-written}

@@ -15,8 +15,9 @@ use Rattle.language.specs.Register.{distinct}
 use Rattle.sorting.specs.Ascending.{ascends}
 use Rattle.register_form.specs.Dictionary.{PropertyRow, nameOf, textIn, termIn, propertyIn, noProperty}
 use Rattle.register_form.specs.Form.{propertyCount, termCount, textCount, propertyAt, termAt, textStart, textAt, dictionaryIn}
-use Rattle.register_form.specs.Tests.{allTo, isLabelled, isPlain, isPlainNumber, keepsProperty}
-use Rattle.register_form.proofs.Parts.{map-tabulate}
+use Rattle.register_form.specs.Tests.{isLabelled, isPlain, isPlainNumber, keepsProperty}
+use Rattle.buffer.specs.Tests.{allTo}
+use Rattle.buffer.proofs.Parts.{map-tabulate}
 use Rattle.register_form.proofs.Laying.{Laid, text-length as text-ends}
 use Rattle.register_test.specs.Loops.{written, isSet, climbs}
 use Rattle.register_test.specs.Stages.{textTest, textLength, nameNumber, propertyOk, namesTo, propertyTest}

@@ -7,7 +7,7 @@ use native.Mathlib.Omega.{arith}
 use native.Mathlib.Nat.{le-refl}
 use native.Mathlib.Numerals.{add-one}
 use lib.ListN.{length, set, length-set}
-use Rattle.register_form.specs.Tests.{allTo}
+use Rattle.buffer.specs.Tests.{allTo}
 use Rattle.register_test.specs.Loops.{written, sumTo}
 
 -- Tests.

@@ -10,7 +10,7 @@ use lib.ListN.{length, getD}
 use Rattle.text.specs.Bytes.{Bytes}
 use Rattle.register_form.specs.Dictionary.{groupOf}
 use Rattle.register_form.specs.Form.{termCount, textCount, formStart, formAt, termAt}
-use Rattle.register_form.specs.Tests.{allTo}
+use Rattle.buffer.specs.Tests.{allTo}
 use Rattle.register_test.specs.Loops.{sumTo, isSet}
 use Rattle.register_test.specs.Stages.{textLength, formCount, formIn, behindAt, formOk, lastBy, formTest, formLength, FormsTested, identifierAt, lastTo, placesTo, pageOk, pageTest, pageLength, usedTest}
 use Rattle.register_test.specs.declared.Tally.{Tally}

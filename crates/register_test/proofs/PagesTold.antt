@@ -13,10 +13,11 @@ use Rattle.language.specs.Register.{distinct}
 use Rattle.language.specs.Rules.{isIdentifier}
 use Rattle.register_form.specs.Dictionary.{identifierOf, isCategory, textIn, termIn}
 use Rattle.register_form.specs.Form.{pageCount, termCount, textCount, formsOf, pageAt, termAt, textAt, dictionaryIn}
-use Rattle.register_form.specs.Tests.{allTo, inOrder, isPageRow, everyUsed, termUses, keepsPage}
-use Rattle.register_form.proofs.Parts.{map-tabulate}
+use Rattle.register_form.specs.Tests.{inOrder, isPageRow, everyUsed, termUses, keepsPage}
+use Rattle.buffer.specs.Tests.{allTo}
+use Rattle.buffer.proofs.Parts.{map-tabulate}
 use Rattle.register_form.proofs.Laying.{Laid}
-use Rattle.register_form.proofs.Regions.{all-to}
+use Rattle.buffer.proofs.Regions.{all-to}
 use Rattle.register_test.specs.Loops.{isSet}
 use Rattle.register_test.specs.Stages.{classOf, formCount, formIn, behindAt, formOk, lastBy, formTest, identifierAt, lastTo, placesTo, pageOk, pageTest}
 use Rattle.register_test.proofs.Loops.{all-ext}

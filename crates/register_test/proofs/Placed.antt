@@ -15,10 +15,10 @@ use Rattle.text.proofs.Tables.{length-tabulate}
 use Rattle.sorting.proofs.Canonical.{left-of, right-of}
 use Rattle.register_form.specs.Dictionary.{PageRow}
 use Rattle.register_form.specs.Form.{pageCount, textCount, pageAt, dictionaryIn}
-use Rattle.register_form.specs.Tests.{allTo}
+use Rattle.buffer.specs.Tests.{allTo}
 use Rattle.register_form.specs.Opened.{next, placeOf, Places}
 use Rattle.register_form.proofs.Laying.{Laid}
-use Rattle.register_form.proofs.Regions.{all-to}
+use Rattle.buffer.proofs.Regions.{all-to}
 use Rattle.register_test.specs.Loops.{written}
 use Rattle.register_test.specs.Stages.{formCount, formTest, identifierAt, lastTo, placesTo, pageOk, pageTest}
 use Rattle.register_test.proofs.Loops.{length-written}

@@ -19,8 +19,9 @@ use Rattle.sorting.specs.Ascending.{isLess, ascends, below}
 use Rattle.sorting.proofs.Canonical.{ascends-snoc}
 use Rattle.sorting.proofs.Orders.{bytes-total}
 use Rattle.register_form.specs.Dictionary.{isCategory}
-use Rattle.register_form.specs.Tests.{allTo, inOrder}
-use Rattle.register_form.proofs.Parts.{flat-more}
+use Rattle.register_form.specs.Tests.{inOrder}
+use Rattle.buffer.specs.Tests.{allTo}
+use Rattle.buffer.proofs.Parts.{flat-more}
 use Rattle.register_test.specs.Loops.{written, sumTo, climbs}
 use Rattle.register_test.proofs.Loops.{and-true, length-written}
 

@@ -16,7 +16,7 @@ use Rattle.values.specs.Spelling.{spellNumber}
 use Rattle.sorting.specs.Ascending.{isLess}
 use Rattle.register_form.specs.Dictionary.{groupOf, codeOf, numberFrom}
 use Rattle.register_form.specs.Form.{propertyCount, textCount, propertyAt, termAt}
-use Rattle.register_form.specs.Tests.{allTo}
+use Rattle.buffer.specs.Tests.{allTo}
 use Rattle.register_test.specs.Loops.{climbs}
 use Rattle.register_test.specs.Stages.{textLength, noText, booleanLength, spelledLength, judgedIn, judgedText, judgedValue, judgedGroup, judgedTerm, termTest}
 use Rattle.register_test.specs.declared.Judged.{Judged}

@@ -12,9 +12,10 @@ use Rattle.text.specs.Table.{tabulate}
 use Rattle.sorting.specs.Ascending.{ascends}
 use Rattle.sorting.proofs.Canonical.{left-of}
 use Rattle.register_form.specs.Form.{termCount, textCount, termAt, textAt, dictionaryIn}
-use Rattle.register_form.specs.Tests.{allTo, isLabelled, isTerm, termTexts, keepsTerm, termBytes}
+use Rattle.register_form.specs.Tests.{isLabelled, isTerm, termTexts, keepsTerm, termBytes}
+use Rattle.buffer.specs.Tests.{allTo}
 use Rattle.register_form.proofs.Laying.{Laid}
-use Rattle.register_form.proofs.Regions.{all-to}
+use Rattle.buffer.proofs.Regions.{all-to}
 use Rattle.register_test.specs.Loops.{climbs}
 use Rattle.register_test.specs.Stages.{classOf, judgedTerm, termTest, shownTo}
 use Rattle.register_test.proofs.Loops.{all-ext}

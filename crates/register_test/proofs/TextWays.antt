@@ -16,7 +16,8 @@ use Rattle.language.specs.Rules.{isIdentifier}
 use Rattle.sorting.specs.Ascending.{isLess}
 use Rattle.register_form.specs.Dictionary.{spaceOf, nameOf, identifierOf}
 use Rattle.register_form.specs.Form.{textCount, textStart, textAt}
-use Rattle.register_form.specs.Tests.{allTo, isLabelled, isPlain}
+use Rattle.register_form.specs.Tests.{isLabelled, isPlain}
+use Rattle.buffer.specs.Tests.{allTo}
 use Rattle.register_test.specs.Loops.{sumTo, climbs}
 use Rattle.register_test.specs.Stages.{classOf, textTest, textLength, nameNumber, propertyOk, namesTo, propertyTest, propertyLength}
 use Rattle.register_test.proofs.Loops.{all-more, sum-more}

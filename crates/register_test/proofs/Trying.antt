@@ -10,7 +10,8 @@ use lib.Seq.{ext-getD}
 use borrow.Author.Tests.{not-true, not-false}
 use Rattle.text.specs.Bytes.{Bytes}
 use Rattle.register_form.specs.Form.{pageCount, termCount, textCount}
-use Rattle.register_form.specs.Tests.{allTo, isLaid}
+use Rattle.register_form.specs.Tests.{isLaid}
+use Rattle.buffer.specs.Tests.{allTo}
 use Rattle.register_form.proofs.Forms.{tested-is}
 use Rattle.register_test.specs.Loops.{written, isSet}
 use Rattle.register_test.specs.Stages.{textTest, classesTo, PropertiesTested, TermsTested, PagesTested, usedTest, identifierAt}

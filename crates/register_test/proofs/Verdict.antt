@@ -13,7 +13,8 @@ use Rattle.sorting.specs.Ascending.{ascends}
 use Rattle.sorting.proofs.Canonical.{same-truth, left-of, right-of}
 use Rattle.register_form.specs.Dictionary.{Dictionary}
 use Rattle.register_form.specs.Form.{pageCount, propertyCount, termCount, textCount, textAt, dictionaryIn}
-use Rattle.register_form.specs.Tests.{allTo, isLaid, isLabelled, isPlainNumber, isTerm, isPageRow, isCanonical, keepsProperty, keepsTerm, keepsPage, countedBytes, keepsRules, tested}
+use Rattle.register_form.specs.Tests.{isLaid, isLabelled, isPlainNumber, isTerm, isPageRow, isCanonical, keepsProperty, keepsTerm, keepsPage, countedBytes, keepsRules, tested}
+use Rattle.buffer.specs.Tests.{allTo}
 use Rattle.register_form.specs.Opened.{Places}
 use Rattle.register_form.proofs.Laying.{Laid, laid-facts}
 use Rattle.register_form.proofs.Truths.{each}

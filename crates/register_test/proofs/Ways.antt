@@ -8,10 +8,11 @@ use lib.Dec.{ltb, leb, eqb}
 use lib.ListN.{length, getD, length-take, List·getD-eq-default}
 use borrow.Author.Tests.{eq-eqb, ne-eqb, not-true, not-false}
 use Rattle.text.specs.Bytes.{Bytes, part}
-use Rattle.register_form.specs.Numbers.{twoAt}
+use Rattle.buffer.specs.Numbers.{twoAt}
 use Rattle.register_form.specs.Form.{pageCount, propertyCount, termCount, textCount, registerSize, formStart, textStart}
-use Rattle.register_form.specs.Tests.{allTo, zerosAt, rises, isCounted, isPadded, isLaid}
-use Rattle.register_form.proofs.Parts.{getD-part}
+use Rattle.register_form.specs.Tests.{rises, isCounted, isPadded, isLaid}
+use Rattle.buffer.specs.Tests.{allTo, zerosAt}
+use Rattle.buffer.proofs.Parts.{getD-part}
 use Rattle.register_test.specs.Stages.{areRowsPadded, kindTest, startAt, riseTest}
 use Rattle.register_test.proofs.Loops.{all-end, all-ext, all-rest}
 

@@ -12,10 +12,11 @@ use Rattle.values.specs.Names.{isPropertyName}
 use Rattle.values.specs.ByteRules.{nameClass}
 use Rattle.values.specs.Spelling.{spellNumber}
 use Rattle.language.specs.Rules.{isIdentifier}
-use Rattle.register_form.specs.Numbers.{twoAt}
+use Rattle.buffer.specs.Numbers.{twoAt}
 use Rattle.register_form.specs.Dictionary.{nameOf, identifierOf, groupOf, codeOf, isCategory, numberFrom}
 use Rattle.register_form.specs.Form.{pageCount, propertyCount, termCount, textCount, propertyAt, pageAt, formStart, formAt, termAt, textStart, textAt}
-use Rattle.register_form.specs.Tests.{allTo, zerosAt, isLabelled, isPlain}
+use Rattle.register_form.specs.Tests.{isLabelled, isPlain}
+use Rattle.buffer.specs.Tests.{allTo, zerosAt}
 use Rattle.register_test.specs.Loops.{written, sumTo, climbs, isSet}
 use Rattle.register_test.specs.declared.Judged.{Judged}
 use Rattle.register_test.specs.declared.Tally.{Tally}

@@ -2,7 +2,8 @@
 ghost use mathlib.Core.Path.{_≡_};
 ghost use Prim.Native.Nat.{_+_, _-_};
 ghost use Rattle.register_form.specs.Form.{propertyCount};
-ghost use Rattle.register_form.specs.Tests.{allTo, zerosAt, rises, isCounted, isPadded, isLaid};
+ghost use Rattle.register_form.specs.Tests.{rises, isCounted, isPadded, isLaid};
+ghost use Rattle.buffer.specs.Tests.{allTo, zerosAt};
 ghost use Rattle.register_test.specs.Stages.{areRowsPadded, kindTest, startAt, riseTest};
 use register_form::REGISTER_BYTES;
 use register_form::form_start;

@@ -1,7 +1,7 @@
 // The tests of pages and their forms, and that each text and term is used.
 ghost use mathlib.Core.Path.{_≡_};
 ghost use Rattle.register_form.specs.Form.{termCount, textCount};
-ghost use Rattle.register_form.specs.Tests.{allTo};
+ghost use Rattle.buffer.specs.Tests.{allTo};
 ghost use Rattle.register_test.specs.Loops.{isSet};
 ghost use Rattle.register_test.specs.Stages.{FormsTested, pageOk, PagesTested, usedTest};
 use crate::Tally;

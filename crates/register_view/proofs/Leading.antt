@@ -25,7 +25,7 @@ use Rattle.nodes.specs.Reading.{constantBy}
 use Rattle.nodes.specs.declared.Constant.{Constant}
 use Rattle.sorting.specs.Ascending.{rank}
 use Rattle.sorting.proofs.Canonical.{same-truth}
-use Rattle.register_form.specs.Numbers.{twoAt, eightAt}
+use Rattle.buffer.specs.Numbers.{twoAt, eightAt}
 use Rattle.register_form.specs.Dictionary.{Dictionary, nameOf, identifierOf, codeOf, numberFrom}
 use Rattle.register_form.specs.Encoding.{plainText, identifierText, valueTexts, textsOf, valueCode, valueTerm, termsOf, encodePage, encode}
 use Rattle.register_form.specs.Form.{termAt, textAt, dictionaryIn}

@@ -20,7 +20,7 @@ use Rattle.values.specs.Answers.{base}
 use Rattle.language.specs.Semantics.{stands, Cv}
 use Rattle.language.specs.declared.Comparator.{Comparator}
 use Rattle.nodes.specs.declared.Constant.{Constant}
-use Rattle.register_form.specs.Numbers.{twoAt}
+use Rattle.buffer.specs.Numbers.{twoAt}
 use Rattle.register_form.specs.Dictionary.{nameOf, codeOf, numberFrom}
 use Rattle.register_form.specs.Form.{formStart, formAt, pageAt, termAt, textAt}
 use Rattle.register_view.specs.Ranges.{nameOrder}

@@ -19,7 +19,7 @@ use Rattle.sorting.proofs.Ranks.{rank-most, rank-above, rank-below}
 use Rattle.register_form.specs.Dictionary.{labelled, termOf}
 use Rattle.register_form.specs.Encoding.{plainText}
 use Rattle.register_form.specs.Form.{termCount, textCount, termAt, textAt, dictionaryIn}
-use Rattle.register_form.proofs.Numbers.{two-small}
+use Rattle.buffer.proofs.Numbers.{two-small}
 use Rattle.register_form.proofs.Lists.{number-back, number-small}
 use Rattle.register_view.specs.Ranges.{entriesIn, entryAt, keyOf, Ranked, Located}
 use Rattle.register_view.specs.declared.Index.{Index}

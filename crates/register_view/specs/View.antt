@@ -17,7 +17,7 @@ use Rattle.language.specs.Semantics.{stands, Ca, Cv, follows, noMixed}
 use Rattle.language.specs.declared.Comparator.{Comparator}
 use Rattle.nodes.specs.Reading.{constantBy}
 use Rattle.nodes.specs.declared.Constant.{Constant}
-use Rattle.register_form.specs.Numbers.{twoAt}
+use Rattle.buffer.specs.Numbers.{twoAt}
 use Rattle.register_form.specs.Dictionary.{nameOf, identifierOf, codeOf, numberFrom}
 use Rattle.register_form.specs.Form.{registerIn, pageAt, termAt, textAt}
 use Rattle.register_form.specs.Opened.{pageIn}

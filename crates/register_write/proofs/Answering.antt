@@ -13,7 +13,7 @@ use Rattle.language.specs.Answer.{Answered}
 use Rattle.language.specs.Rules.{total}
 use Rattle.sorting.specs.Listing.{listed}
 use Rattle.dictionary.specs.Items.{textAt}
-use Rattle.register_form.specs.Numbers.{zeros}
+use Rattle.buffer.specs.Numbers.{zeros}
 use Rattle.register_form.specs.Form.{registerSize, placed}
 use Rattle.register_bytes.specs.Writing.{written, firstOf, Region, putRegions}
 use Rattle.register_bytes.proofs.Filled.{dictionary-written}

@@ -13,12 +13,12 @@ use Rattle.language.specs.Answer.{Answer, refused, Answered}
 use Rattle.language.specs.Rules.{isWithinLimits}
 use Rattle.sorting.specs.Listing.{Numbering}
 use Rattle.dictionary.specs.Items.{textAt}
-use Rattle.register_form.specs.Numbers.{zeros, padded}
+use Rattle.buffer.specs.Numbers.{zeros, padded}
 use Rattle.register_form.specs.Dictionary.{Dictionary}
 use Rattle.register_form.specs.Form.{joined, formOf, stored}
 use Rattle.register_form.specs.Tests.{Bounded}
 use Rattle.register_form.specs.Draft.{assembled, drafted, writeInto}
-use Rattle.register_form.proofs.Regions.{length-padded}
+use Rattle.buffer.proofs.Regions.{length-padded}
 use Rattle.register_form.proofs.Rows.{length-rows, row-in}
 use Rattle.register_form.proofs.Rules.{within}
 use Rattle.register_form.proofs.Renumbered.{properties-many, pages-many}

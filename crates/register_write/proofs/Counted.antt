@@ -25,7 +25,7 @@ use Rattle.register_form.specs.Tests.{isLabelled, isPlain, isCode, termUses, te
 use Rattle.register_form.specs.Draft.{onceBehind}
 use Rattle.register_form.proofs.Lists.{mem-at, mem-place, of-flat}
 use Rattle.register_form.proofs.Numbers.{code-back}
-use Rattle.register_form.proofs.Parts.{flat-map, map-tabulate}
+use Rattle.buffer.proofs.Parts.{flat-map, map-tabulate}
 use Rattle.register_bytes.specs.Writing.{rowOf, rowsOf, firstOf}
 use Rattle.register_form.specs.Tables.{Tables, formsAt, draftIn}
 use Rattle.register_assembly.specs.Terms.{codeFor, codeBy, termBy}

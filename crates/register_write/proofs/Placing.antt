@@ -10,9 +10,9 @@ use Rattle.text.proofs.Tables.{length-tabulate, is-tabulate}
 use Rattle.sorting.specs.Listing.{listed}
 use Rattle.sorting.proofs.Listings.{length-listed}
 use Rattle.dictionary.specs.Items.{textAt}
-use Rattle.register_form.specs.Numbers.{startsFrom}
+use Rattle.buffer.specs.Numbers.{startsFrom}
 use Rattle.register_form.specs.Form.{formsOf, joined, countBytes, propertyBytes, numberBytes}
-use Rattle.register_form.proofs.Parts.{map-tabulate, flat-more}
+use Rattle.buffer.proofs.Parts.{map-tabulate, flat-more}
 use Rattle.register_form.proofs.Laying.{rises-to}
 use Rattle.register_form.proofs.Starts.{starts-tabulate}
 use Rattle.register_bytes.specs.Writing.{written, picked, firstOf, rowsOf, fourBytes, Region, putRegions, regionsOf}

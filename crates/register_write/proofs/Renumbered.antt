@@ -21,7 +21,7 @@ use Rattle.register_form.specs.Tests.{isPlain, isPlainNumber, isCode, isTerm}
 use Rattle.register_form.specs.Draft.{Draft, sortedTexts, newNumber, newCode, newTerm, sortedTerms, newForm}
 use Rattle.register_form.proofs.Lists.{mem-at}
 use Rattle.register_form.proofs.Numbers.{code-back}
-use Rattle.register_form.proofs.Parts.{map-tabulate}
+use Rattle.buffer.proofs.Parts.{map-tabulate}
 use Rattle.register_bytes.specs.Writing.{rowOf}
 use Rattle.register_form.specs.Tables.{Tables, draftIn}
 use Rattle.register_assembly.specs.Terms.{codeFor, codeBy, termBy}

@@ -21,7 +21,7 @@ use Rattle.register_form.specs.Form.{formsOf, kindFrom}
 use Rattle.register_form.specs.Tests.{isPlain, isPlainNumber}
 use Rattle.register_form.specs.Draft.{Draft, onceBehind, filtered, newNumber, newForm, newForms, assembled}
 use Rattle.register_form.proofs.Lists.{mem-at, mem-flat}
-use Rattle.register_form.proofs.Parts.{map-tabulate}
+use Rattle.buffer.proofs.Parts.{map-tabulate}
 use Rattle.register_bytes.specs.Writing.{rowOf, rowsOf}
 use Rattle.register_form.specs.Tables.{Tables, range, formsAt, draftIn}
 use Rattle.register_assembly.specs.Terms.{termBy}

@@ -11,7 +11,7 @@ use Rattle.language.specs.Answer.{Answer, refused, Answered}
 use Rattle.language.specs.Rules.{total}
 use Rattle.sorting.specs.Listing.{listed, Numbered}
 use Rattle.dictionary.specs.Items.{textAt}
-use Rattle.register_form.specs.Numbers.{startsFrom}
+use Rattle.buffer.specs.Numbers.{startsFrom}
 use Rattle.register_form.specs.Dictionary.{PageRow, Dictionary}
 use Rattle.register_form.specs.Form.{joined, propertyBytes, numberBytes, bytesOf, placed}
 use Rattle.register_form.specs.Tests.{termUses, countedBytes, Bounded}

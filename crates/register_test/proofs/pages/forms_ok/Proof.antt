@@ -1,7 +1,7 @@
 use mathlib.Core.List.{List}
 use Prim.Native.Nat.{ℕ, _≤_, _-_, _*_}
 use mathlib.Core.Path.{_≡_}
-use Rattle.register_form.specs.Tests.{allTo}
+use Rattle.buffer.specs.Tests.{allTo}
 use Rattle.register_test.specs.Loops.{sumTo}
 use Rattle.register_test.specs.Stages.{formTest, behindAt, formLength, lastBy}
 use Rattle.register_test.proofs.PageWays.{form-is, form-in, behind-more, form-more, form-sum}

@@ -1,7 +1,7 @@
 use Prim.Native.Nat.{_≤_, _-_}
 use mathlib.Core.Path.{_≡_, ap, _∙_}
 use Rattle.register_form.specs.Form.{textAt}
-use Rattle.register_form.specs.Tests.{allTo}
+use Rattle.buffer.specs.Tests.{allTo}
 use Rattle.register_test.proofs.Loops.{all-more, written-more}
 use Rattle.register_test.specs.Stages.{classOf, textTest, classesTo}
 use native.Mathlib.Omega.{arith}

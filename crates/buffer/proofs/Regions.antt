@@ -10,9 +10,9 @@ use lib.ListN.{length, getD, take, length-append, length-replicate, getD-replica
 use lib.Seq.{drop-at, take-all, ext-getD}
 use borrow.Author.Tests.{eqb-true, eq-eqb}
 use Rattle.text.specs.Bytes.{Bytes, part}
-use Rattle.register_form.specs.Numbers.{zeros, padded}
-use Rattle.register_form.specs.Tests.{allTo, zerosAt}
-use Rattle.register_form.proofs.Parts.{both, length-part, getD-part, part-add, part-part, part-before}
+use Rattle.buffer.specs.Numbers.{zeros, padded}
+use Rattle.buffer.specs.Tests.{allTo, zerosAt}
+use Rattle.buffer.proofs.Parts.{both, length-part, getD-part, part-add, part-part, part-before}
 
 -- Tests of all numbers below one.
 pub all-to : (n : ℕ) (f : ℕ → Bool) → allTo n f ≡ true → (i : ℕ) → i < n → f i ≡ true

@@ -1,0 +1,1 @@
+// Numbers in bytes, and regions of a buffer with zeros behind what they hold.
