@@ -1,0 +1,7 @@
+pub mod Texts
+pub mod Reading
+pub mod Cleaning
+pub mod Spells
+pub mod Laying
+pub mod Cheapest
+pub mod Some

@@ -1,0 +1,11 @@
+pub mod Builds
+pub mod Items
+pub mod Heights
+pub mod Trees
+pub mod Counts
+pub mod Samples
+pub mod Small
+pub mod Rows
+pub mod Exact
+pub mod Tested
+pub mod Held

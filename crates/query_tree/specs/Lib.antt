@@ -1,0 +1,5 @@
+pub mod Nodes
+pub mod Pass
+pub mod Building
+pub mod Form
+pub mod Testing
