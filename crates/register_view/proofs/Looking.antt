@@ -151,60 +151,40 @@ module _ (h : Bytes) (places : List ℕ) (q : Bytes) (rank : Rank) (marks : List
 
 pub ruleset passing = (marked-none, marked-one, leads-page, passes-any, passes-stands, passes-leads)
 
--- A table in which nothing passes, and one more.
-module _ {A : Type 0} (p : A → Bool) (g : ℕ → A) where
-  pub any-more : (n : ℕ) → any p (tabulate (suc n) g) ≡ (any p (tabulate n g) || p (g n))
-  unfolding tabulate any
-  any-more n = any-append p (tabulate n g) (g n ∷ []) ∙ rw (or-false (p (g n)))
-
-  pub any-hit : (n k : ℕ) → k < n → p (g k) ≡ true → any p (tabulate n g) ≡ true
-  any-hit zero k l e = absurd (omega arith)
-  any-hit (suc n) k l e = any-more n ∙ go (ltb k n) refl (any-hit n k)
-    where
-      or-true : (b : Bool) → (b || true) ≡ true
-      or-true true = refl
-      or-true false = refl
-
-      go : (s : Bool) → ltb k n ≡ s → (k < n → p (g k) ≡ true → any p (tabulate n g) ≡ true) → (any p (tabulate n g) || p (g n)) ≡ true
-      go true s ih = rw (ih (ltb-true k n s) e)
-      go false s ih =
-          let z : k ≡ n = omega (arith, ltb-false k n s) in
-          ap (λ (b : Bool). any p (tabulate n g) || b) (ap (λ (j : ℕ). p (g j)) (sym z) ∙ e) ∙ or-true (any p (tabulate n g))
-
--- has_term: the forms of page i before j do not pass.
+-- has_term: whether one of the forms of page i before j passes.
 module _ (h : Bytes) (i : ℕ) (p : ℕ → Bool) where
   abbrev pub formFrom : ℕ → ℕ
   formFrom k = formAt h (formStart h i + k)
 
-  pub record Looked (j : ℕ) : Type 0 where
+  pub record Looked (j : ℕ) (some : Bool) : Type 0 where
     pub from : formStart h i ≤ j
     pub most : j - formStart h i ≤ formStart h (suc i) - formStart h i
-    pub none : any p (tabulate (j - formStart h i) formFrom) ≡ false
+    pub is : any p (tabulate (j - formStart h i) formFrom) ≡ some
 
-  pub looked-start : (j : ℕ) → j ≡ formStart h i → Looked j
+  pub looked-start : (j : ℕ) → j ≡ formStart h i → Looked j false
   unfolding tabulate any
   looked-start j e =
       let z : j - formStart h i ≡ 0 = omega arith in
-      record { from = omega arith; most = omega arith; none = rw z }
+      record { from = omega arith; most = omega arith; is = rw z }
 
-  module _ (j end : ℕ) (a : Looked j) (e : end ≡ formStart h (suc i)) where
-    pub looked-end : end ≤ j → false ≡ any p (pageAt h i .forms)
+  module _ (j end : ℕ) (some : Bool) (a : Looked j some) (e : end ≡ formStart h (suc i)) where
+    pub looked-end : end ≤ j → some ≡ any p (pageAt h i .forms)
     unfolding pageAt
     looked-end l =
         let z : formStart h (suc i) - formStart h i ≡ j - formStart h i = omega (arith, a .from, a .most) in
-        sym (rw z (a .none))
+        sym (rw z (a .is))
 
-    module _ (l : j < end) (f : ℕ) (b : Bool) (at : f ≡ formAt h j) (is : b ≡ p f) where
-      here : p (formFrom (j - formStart h i)) ≡ b
-      here =
-          let z : formStart h i + (j - formStart h i) ≡ j = omega (arith, a .from) in
-          sym (is ∙ ap p (at ∙ ap (formAt h) (sym z)))
-
-      pub looked-hit : b ≡ true → true ≡ any p (pageAt h i .forms)
-      unfolding pageAt
-      looked-hit t = sym (any-hit p formFrom (formStart h (suc i) - formStart h i) (j - formStart h i) (omega (arith, a .from)) (here ∙ t))
-
-      pub looked-more : b ≡ false → Looked (j + 1)
-      looked-more t =
-          let z : (j + 1) - formStart h i ≡ suc (j - formStart h i) = omega (arith, a .from) in
-          record { from = omega (arith, a .from); most = omega (arith, a .from); none = rw (z, any-more p formFrom (j - formStart h i), a .none, here) t }
+    pub looked-more : (f : ℕ) (b : Bool) → j < end → f ≡ formAt h j → b ≡ p f → Looked (j + 1) (some || b)
+    unfolding tabulate any
+    looked-more f b l at is =
+        let y : formStart h i + (j - formStart h i) ≡ j = omega (arith, a .from) in
+        let z : (j + 1) - formStart h i ≡ suc (j - formStart h i) = omega (arith, a .from) in
+        let here : p (formFrom (j - formStart h i)) ≡ b = sym (is ∙ ap p (at ∙ ap (formAt h) (sym y))) in
+        record {
+          from = omega (arith, a .from);
+          most = omega (arith, a .from);
+          is =
+              rw z
+              (any-append p (tabulate (j - formStart h i) formFrom) (formFrom (j - formStart h i) ∷ [])
+              ∙ rw (a .is, here, or-false b));
+        }

@@ -129,17 +129,16 @@ pub fn terms_passing(
     TermSet { marks: wanted }
 }
 
-// Whether the page in place i has a marked term.
+// Whether the page in place i has a marked term. All are looked at: leaving at the first gains nothing.
 pub fn has_term(h: &[u8], i: u16, wanted: &[bool]) -> bool
     ensures { λ r. ⌜ r ≡ hasTerm (now (h .entry)) (now (wanted .entry)) i ⌝ }
 {
     let end = form_end(h, i);
+    let mut some = false;
     let mut j = form_start(h, i);
     while j < end {
-        if mark_at(wanted, widen(form_at(h, j))) {
-            return true;
-        }
+        some = some | mark_at(wanted, widen(form_at(h, j)));
         j += 1;
     }
-    false
+    some
 }

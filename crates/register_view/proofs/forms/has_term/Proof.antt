@@ -3,16 +3,16 @@ use mathlib.Core.Path.{_∙_}
 use mathlib.Core.Bool.{false}
 use native.Mathlib.Omega.{arith}
 use lib.ListN.{getD}
-use Rattle.register_view.proofs.Looking.{Looked, looked-start, looked-hit, looked-more, looked-end}
+use Rattle.register_view.proofs.Looking.{Looked, looked-start, looked-more, looked-end}
 use borrow.Author.Needs.{needs}
 use Rattle.register_view.proofs.forms.has_term.Statement.{statement}
 use Rattle.register_view.proofs.forms.has_term.Tie as tie
 
 abbrev Inv-loop : tie.InvT-loop
-Inv-loop h i wanted end j₀ j = Looked h i (λ f. getD wanted f false) j
+Inv-loop h i wanted end some₀ j₀ some j = Looked h i (λ f. getD wanted f false) j some
 
 abbrev μ-loop : tie.MeasureT-loop
-μ-loop h i wanted end j₀ j = end - j
+μ-loop h i wanted end some₀ j₀ some j = end - j
 
 form-end-requires : tie.Need-form-end-requires Inv-loop μ-loop
 form-end-requires c κs = search needs
@@ -32,9 +32,6 @@ widen-requires c κs = search needs
 mark-at-requires : tie.Need-mark-at-requires Inv-loop μ-loop
 mark-at-requires c κs = search needs
 
-returns : tie.Need-returns Inv-loop μ-loop
-returns c = looked-hit _ _ _ _ _ (c .before .before .before .before .before .loop .inv) (c .before .before .before .before .before .before .before .form-end .ensures) (c .before .before .before .before .loop-test .taken) _ _ (c .before .before .before .form-at .ensures) (c .before .mark-at .ensures ∙ rw (c .before .before .widen .ensures)) (c .if1 .taken)
-
 add-j : tie.Need-add-j Inv-loop μ-loop
 add-j c = omega arith
 
@@ -42,10 +39,10 @@ loop-less : tie.Need-loop-less Inv-loop μ-loop
 loop-less c = omega arith
 
 loop-again : tie.Need-loop-again Inv-loop μ-loop
-loop-again c = looked-more _ _ _ _ _ (c .before .before .before .before .before .loop .inv) (c .before .before .before .before .before .before .before .form-end .ensures) (c .before .before .before .before .loop-test .taken) _ _ (c .before .before .before .form-at .ensures) (c .before .mark-at .ensures ∙ rw (c .before .before .widen .ensures)) (c .if1 .left)
+loop-again c = looked-more _ _ _ _ _ _ (c .before .before .before .before .loop .inv) (c .before .before .before .before .before .before .form-end .ensures) _ _ (c .before .before .before .loop-test .taken) (c .before .before .form-at .ensures) (c .mark-at .ensures ∙ rw (c .before .widen .ensures))
 
-returns-2 : tie.Need-returns-2 Inv-loop μ-loop
-returns-2 c = looked-end _ _ _ _ _ (c .before .loop .inv) (c .before .before .before .form-end .ensures) (c .loop-test .left)
+returns : tie.Need-returns Inv-loop μ-loop
+returns c = looked-end _ _ _ _ _ _ (c .before .loop .inv) (c .before .before .before .form-end .ensures) (c .loop-test .left)
 
 pub has-term-spec : {M : Type 1} → statement M
 has-term-spec =
@@ -59,8 +56,7 @@ has-term-spec =
     form-at-requires
     widen-requires
     mark-at-requires
-    returns
     add-j
     loop-less
     loop-again
-    returns-2)
+    returns)
