@@ -7,11 +7,12 @@ use mathlib.Core.Option.{Option, some, none}
 use native.Mathlib.Omega.{arith}
 use lib.Dec.{ltb, leb, eqb}
 use lib.IntN.{subℕ}
-use lib.ListN.{length, drop-of-length-le}
+use lib.ListN.{length, getD, drop-of-length-le}
 use lib.Seq.{take-nil}
 use borrow.Author.Tests.{lt-leb, ne-eqb}
 use Rattle.text.specs.Bytes.{Bytes, part}
 use Rattle.text.specs.Parts.{partOf}
+use Rattle.text.specs.declared.Span.{Span}
 use Rattle.values.specs.Names.{isName, isPropertyName, isNamespace, isValue}
 use Rattle.values.specs.Values.{number, boolean}
 use Rattle.values.specs.Answers.{base}
@@ -86,22 +87,24 @@ selected-reads : (s : Bytes) (r : NodeRead) (o : Option Node) (b : Bool) (y : Se
 selected-reads s r o true y e f g = record { is = rw g e; keeps = rw g (f refl) }
 selected-reads s r o false y e f g = record { is = rw g e; keeps = rw g }
 
--- Article and value comparisons.
-module _ (s : Bytes) (x : Slot) (q : ComparatorRead) (e : q ≡ comparatorRead (comparatorFrom (x .comparator))) where
-  pub article-none : q ≡ ComparatorRead.Nothing → Reads s (nodeOf s 6 x) NodeRead.Nothing
-  unfolding nodeOf nodeFrom
-  article-none f = record { is = rw (no-comparator q (comparatorFrom (x .comparator)) e f) (only-none (isName (partOf s (x .second)))); keeps = refl }
+-- Article comparisons, by the slot's bytes.
+module _ (s b : Bytes) (k : ℕ) (q : ComparatorRead) (w : k ≡ getD b 1 0) (e : q ≡ comparatorRead (comparatorFrom k)) where
+  pub article-none : q ≡ ComparatorRead.Nothing → Reads s (nodeOf s 6 (slotFrom b)) NodeRead.Nothing
+  unfolding nodeOf nodeFrom slotFrom
+  article-none f = record { is = rw (← w, no-comparator q (comparatorFrom k) e f) (only-none (isName (partOf s (slotFrom b .second)))); keeps = refl }
 
+  pub article-reads : (c : Comparator) (x : Span) (t : Bytes) (fit : Bool) (r : NodeRead) → q ≡ ComparatorRead.Is c → x ≡ slotFrom b .second → t ≡ partOf s x → fit ≡ isName t → r ≡ selected fit (Selector.Article c x) → Reads s (nodeOf s 6 (slotFrom b)) r
+  unfolding nodeOf nodeFrom slotFrom
+  article-reads c x t fit r f l p j g =
+      selected-reads s r _ fit _ (rw (← w, read-comparator q (comparatorFrom k) e c f, j, p, l)) (λ h. rw (← p, ← j) h) g
+
+-- Value comparisons.
+module _ (s : Bytes) (x : Slot) (q : ComparatorRead) (e : q ≡ comparatorRead (comparatorFrom (x .comparator))) where
   pub value-none : q ≡ ComparatorRead.Nothing → Reads s (nodeOf s 7 x) NodeRead.Nothing
   unfolding nodeOf nodeFrom
   value-none f = record { is = rw (no-comparator q (comparatorFrom (x .comparator)) e f) (only-none (isPropertyName (partOf s (x .first)))); keeps = refl }
 
   module _ (c : Comparator) (f : q ≡ ComparatorRead.Is c) where
-    pub article-reads : (t : Bytes) (b : Bool) (r : NodeRead) → t ≡ partOf s (x .second) → b ≡ isName t → r ≡ selected b (Selector.Article c (x .second)) → Reads s (nodeOf s 6 x) r
-    unfolding nodeOf nodeFrom
-    article-reads t b r p k g =
-        selected-reads s r _ b _ (rw (read-comparator q (comparatorFrom (x .comparator)) e c f, k, p)) (λ h. rw (← p, ← k) h) g
-
     module _ (v : ConstantRead) (u : ConstantReads s x v) where
       pub constant-missing : v ≡ ConstantRead.Nothing → Reads s (nodeOf s 7 x) NodeRead.Nothing
       unfolding nodeOf nodeFrom
@@ -113,35 +116,38 @@ module _ (s : Bytes) (x : Slot) (q : ComparatorRead) (e : q ≡ comparatorRead (
       value-reads k t b r g p w l =
           selected-reads s r _ b _ (rw (read-comparator q (comparatorFrom (x .comparator)) e c f, u .is, g, w, p)) (λ h. rw (← p, ← w, h) (rw g at (u .keeps))) l
 
--- The node of a slot, by its tag.
-module _ (s : Bytes) (x : Slot) (r : NodeRead) (tag : ℕ) where
-  pub and-reads : tag ≡ 0 → r ≡ joining Connective.And → Reads s (nodeOf s tag x) r
+-- The node of a slot's bytes, by its tag.
+module _ (s b : Bytes) (r : NodeRead) (tag : ℕ) where
+  pub and-reads : tag ≡ 0 → r ≡ joining Connective.And → Reads s (nodeOf s tag (slotFrom b)) r
   unfolding nodeOf nodeFrom
   and-reads e g = record { is = rw (e, g); keeps = rw g }
 
-  pub or-reads : tag ≡ 1 → r ≡ joining Connective.Or → Reads s (nodeOf s tag x) r
+  pub or-reads : tag ≡ 1 → r ≡ joining Connective.Or → Reads s (nodeOf s tag (slotFrom b)) r
   unfolding nodeOf nodeFrom
   or-reads e g = record { is = rw (e, g); keeps = rw g }
 
-  module _ (t : Bytes) (b : Bool) (p : t ≡ partOf s (x .first)) where
-    pub category-reads : tag ≡ 2 → b ≡ isName t → r ≡ selected b (Selector.Category (x .first)) → Reads s (nodeOf s tag x) r
+  module _ (x : Span) (w : x ≡ slotFrom b .first) (t : Bytes) (fit : Bool) (p : t ≡ partOf s x) where
+    pub category-reads : tag ≡ 2 → fit ≡ isName t → r ≡ selected fit (Selector.Category x) → Reads s (nodeOf s tag (slotFrom b)) r
     unfolding nodeOf nodeFrom
-    category-reads e k g = selected-reads s r _ b _ (rw (e, k, p)) (λ h. rw (← p, ← k) h) g
+    category-reads e k g = selected-reads s r _ fit _ (rw (e, k, p, w)) (λ h. rw (← p, ← k) h) g
 
-    pub namespace-reads : tag ≡ 3 → b ≡ isNamespace t → r ≡ selected b (Selector.Namespace (x .first)) → Reads s (nodeOf s tag x) r
+    pub namespace-reads : tag ≡ 3 → fit ≡ isNamespace t → r ≡ selected fit (Selector.Namespace x) → Reads s (nodeOf s tag (slotFrom b)) r
     unfolding nodeOf nodeFrom
-    namespace-reads e k g = selected-reads s r _ b _ (rw (e, k, p)) (λ h. rw (← p, ← k) h) g
+    namespace-reads e k g = selected-reads s r _ fit _ (rw (e, k, p, w)) (λ h. rw (← p, ← k) h) g
 
-    pub existence-reads : tag ≡ 4 → b ≡ isPropertyName t → r ≡ selected b (Selector.Existence (x .first)) → Reads s (nodeOf s tag x) r
+    pub existence-reads : tag ≡ 4 → fit ≡ isPropertyName t → r ≡ selected fit (Selector.Existence x) → Reads s (nodeOf s tag (slotFrom b)) r
     unfolding nodeOf nodeFrom
-    existence-reads e k g = selected-reads s r _ b _ (rw (e, k, p)) (λ h. rw (← p, ← k) h) g
+    existence-reads e k g = selected-reads s r _ fit _ (rw (e, k, p, w)) (λ h. rw (← p, ← k) h) g
 
-    pub subquery-reads : tag ≡ 5 → b ≡ isPropertyName t → r ≡ selected b (Selector.Subquery (x .first)) → Reads s (nodeOf s tag x) r
+    pub subquery-reads : tag ≡ 5 → fit ≡ isPropertyName t → r ≡ selected fit (Selector.Subquery x) → Reads s (nodeOf s tag (slotFrom b)) r
     unfolding nodeOf nodeFrom
-    subquery-reads e k g = selected-reads s r _ b _ (rw (e, k, p)) (λ h. rw (← p, ← k) h) g
+    subquery-reads e k g = selected-reads s r _ fit _ (rw (e, k, p, w)) (λ h. rw (← p, ← k) h) g
 
-  pub tag-reads : (k : ℕ) → tag ≡ k → Reads s (nodeOf s k x) r → Reads s (nodeOf s tag x) r
-  tag-reads k e h = rw e h
+  pub article-tag : tag ≡ 6 → Reads s (nodeOf s 6 (slotFrom b)) r → Reads s (nodeOf s tag (slotFrom b)) r
+  article-tag e h = rw e h
+
+  pub value-tag : (x : Slot) → tag ≡ 7 → x ≡ slotFrom b → Reads s (nodeOf s 7 x) r → Reads s (nodeOf s tag (slotFrom b)) r
+  value-tag x e w h = rw (e, ← w) h
 
 pub no-tag : (s : Bytes) (x : Slot) (tag : ℕ) → (tag ≡ 0 → ⊥) × (tag ≡ 1 → ⊥) × (tag ≡ 2 → ⊥) × (tag ≡ 3 → ⊥) × (tag ≡ 4 → ⊥) × (tag ≡ 5 → ⊥) × (tag ≡ 6 → ⊥) × (tag ≡ 7 → ⊥) → Reads s (nodeOf s tag x) NodeRead.Nothing
 unfolding nodeOf nodeFrom
@@ -159,6 +165,6 @@ slot-past h i l =
     let k : length h ≤ slot i = omega arith in
     rw (drop-of-length-le h k, take-nil)
 
-pub in-place : (h t b : Bytes) (i n : ℕ) (x : Slot) (r : NodeRead) → n ≡ twoAt h 0 → t ≡ part h 4 n → b ≡ part h (slot i) 20 → x ≡ slotFrom b → Reads t (nodeOf t (x .tag) x) r → Reads (textIn h) (nodeIn h i) r
-unfolding nodeIn
-in-place h t b i n x r e f g k u = rw (← e, ← f, ← g, ← k) u
+pub in-place : (h t b : Bytes) (i n tag : ℕ) (r : NodeRead) → n ≡ twoAt h 0 → t ≡ part h 4 n → b ≡ part h (slot i) 20 → tag ≡ getD b 0 0 → Reads t (nodeOf t tag (slotFrom b)) r → Reads (textIn h) (nodeIn h i) r
+unfolding nodeIn slotFrom nodeOf constantOf
+in-place h t b i n tag r e f g k u = rw (← e, ← f, ← g, ← k) u

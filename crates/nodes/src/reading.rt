@@ -84,15 +84,51 @@ fn selected_if(fit: bool, s: Selector) -> NodeRead
     }
 }
 
-// An article comparison, a slot of tag 6.
-fn article_from(text: &[u8], x: Slot) -> NodeRead
-    ensures { λ r. ⌜ Reads (now (text .entry)) (nodeOf (now (text .entry)) 6 x) r ⌝ }
+// The two texts in a node's bytes.
+fn first_of(b: &[u8]) -> Span
+    ensures { λ r. ⌜ r ≡ slotFrom (now (b .entry)) .first ⌝ }
 {
-    let read = comparator_from(x.comparator);
+    Span {
+        start: two_at(b, 4),
+        len: two_at(b, 6),
+    }
+}
+
+fn second_of(b: &[u8]) -> Span
+    ensures { λ r. ⌜ r ≡ slotFrom (now (b .entry)) .second ⌝ }
+{
+    Span {
+        start: two_at(b, 8),
+        len: two_at(b, 10),
+    }
+}
+
+// The numbers in a node's bytes.
+fn slot_from(b: &[u8]) -> Slot
+    ensures { λ r. ⌜ r ≡ slotFrom (now (b .entry)) ⌝ }
+{
+    let first = first_of(b);
+    let second = second_of(b);
+    Slot {
+        tag: byte_at(b, 0),
+        comparator: byte_at(b, 1),
+        kind: byte_at(b, 2),
+        truth: byte_at(b, 3),
+        first,
+        second,
+        number: eight_at(b, 12),
+    }
+}
+
+// An article comparison, the bytes of a slot of tag 6.
+fn article_from(text: &[u8], b: &[u8]) -> NodeRead
+    ensures { λ r. ⌜ Reads (now (text .entry)) (nodeOf (now (text .entry)) 6 (slotFrom (now (b .entry)))) r ⌝ }
+{
+    let read = comparator_from(byte_at(b, 1));
     let ComparatorRead::Is(c) = read else {
         return NodeRead::Nothing;
     };
-    let p = x.second;
+    let p = second_of(b);
     let fit = is_name(part(text, p.start, p.len));
     selected_if(fit, Selector::Article(c, p))
 }
@@ -125,45 +161,41 @@ fn joined(connective: Connective) -> NodeRead
     })
 }
 
-// The node of a slot by its tag.
-fn node_from(text: &[u8], tag: u8, x: Slot) -> NodeRead
-    ensures { λ r. ⌜ Reads (now (text .entry)) (nodeOf (now (text .entry)) tag x) r ⌝ }
+// The node of a slot by its tag; no more is read than the tag asks for.
+fn node_from(text: &[u8], tag: u8, b: &[u8]) -> NodeRead
+    ensures { λ r. ⌜ Reads (now (text .entry)) (nodeOf (now (text .entry)) tag (slotFrom (now (b .entry)))) r ⌝ }
 {
-    let p = x.first;
-    let name = part(text, p.start, p.len);
     match tag {
         0 => joined(Connective::And),
         1 => joined(Connective::Or),
-        2 => selected_if(is_name(name), Selector::Category(p)),
-        3 => selected_if(is_namespace(name), Selector::Namespace(p)),
-        4 => selected_if(is_property_name(name), Selector::Existence(p)),
-        5 => selected_if(is_property_name(name), Selector::Subquery(p)),
-        6 => article_from(text, x),
-        7 => value_from(text, x),
+        2 => {
+            let p = first_of(b);
+            selected_if(is_name(part(text, p.start, p.len)), Selector::Category(p))
+        }
+        3 => {
+            let p = first_of(b);
+            selected_if(
+                is_namespace(part(text, p.start, p.len)),
+                Selector::Namespace(p),
+            )
+        }
+        4 => {
+            let p = first_of(b);
+            selected_if(
+                is_property_name(part(text, p.start, p.len)),
+                Selector::Existence(p),
+            )
+        }
+        5 => {
+            let p = first_of(b);
+            selected_if(
+                is_property_name(part(text, p.start, p.len)),
+                Selector::Subquery(p),
+            )
+        }
+        6 => article_from(text, b),
+        7 => value_from(text, slot_from(b)),
         _ => NodeRead::Nothing,
-    }
-}
-
-// The numbers in a node's bytes.
-fn slot_from(b: &[u8]) -> Slot
-    ensures { λ r. ⌜ r ≡ slotFrom (now (b .entry)) ⌝ }
-{
-    let first = Span {
-        start: two_at(b, 4),
-        len: two_at(b, 6),
-    };
-    let second = Span {
-        start: two_at(b, 8),
-        len: two_at(b, 10),
-    };
-    Slot {
-        tag: byte_at(b, 0),
-        comparator: byte_at(b, 1),
-        kind: byte_at(b, 2),
-        truth: byte_at(b, 3),
-        first,
-        second,
-        number: eight_at(b, 12),
     }
 }
 
@@ -204,6 +236,6 @@ pub fn node_at(h: &[u8], i: usize) -> NodeRead
     ensures { λ r. ⌜ Reads (textIn (now (h .entry))) (nodeIn (now (h .entry)) i) r ⌝ }
 {
     let text = part(h, 4, two_at(h, 0));
-    let x = slot_from(slot_bytes(h, i));
-    node_from(text, x.tag, x)
+    let b = slot_bytes(h, i);
+    node_from(text, byte_at(b, 0), b)
 }

@@ -3,6 +3,9 @@ use borrow.Author.Needs.{needs}
 use Rattle.nodes.proofs.reading.article_from.Statement.{statement}
 use Rattle.nodes.proofs.reading.article_from.Tie as tie
 
+byte-at-requires : tie.Need-byte-at-requires
+byte-at-requires c κs = search needs
+
 comparator-from-requires : tie.Need-comparator-from-requires
 comparator-from-requires c κs = search needs
 
@@ -14,6 +17,9 @@ enum-told c = search needs
 
 returns : tie.Need-returns
 returns c = search ways
+
+second-of-requires : tie.Need-second-of-requires
+second-of-requires c κs = search needs
 
 part-requires : tie.Need-part-requires
 part-requires c κs = search needs
@@ -31,10 +37,12 @@ pub article-from-spec : {M : Type 1} → statement M
 article-from-spec =
     tie.close
     (tie.spec
+    byte-at-requires
     comparator-from-requires
     enum-known-read
     enum-told
     returns
+    second-of-requires
     part-requires
     is-name-requires
     selected-if-requires

@@ -12,8 +12,8 @@ part-requires c κs = search needs
 slot-bytes-requires : tie.Need-slot-bytes-requires
 slot-bytes-requires c κs = search needs
 
-slot-from-requires : tie.Need-slot-from-requires
-slot-from-requires c κs = search needs
+byte-at-requires : tie.Need-byte-at-requires
+byte-at-requires c κs = search needs
 
 node-from-requires : tie.Need-node-from-requires
 node-from-requires c κs = search needs
@@ -28,6 +28,6 @@ node-at-spec =
     two-at-requires
     part-requires
     slot-bytes-requires
-    slot-from-requires
+    byte-at-requires
     node-from-requires
     returns)

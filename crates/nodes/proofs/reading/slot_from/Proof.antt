@@ -3,17 +3,11 @@ use borrow.Author.Needs.{needs}
 use Rattle.nodes.proofs.reading.slot_from.Statement.{statement}
 use Rattle.nodes.proofs.reading.slot_from.Tie as tie
 
-two-at-requires : tie.Need-two-at-requires
-two-at-requires c κs = search needs
+first-of-requires : tie.Need-first-of-requires
+first-of-requires c κs = search needs
 
-two-at-requires-2 : tie.Need-two-at-requires-2
-two-at-requires-2 c κs = search needs
-
-two-at-requires-3 : tie.Need-two-at-requires-3
-two-at-requires-3 c κs = search needs
-
-two-at-requires-4 : tie.Need-two-at-requires-4
-two-at-requires-4 c κs = search needs
+second-of-requires : tie.Need-second-of-requires
+second-of-requires c κs = search needs
 
 byte-at-requires : tie.Need-byte-at-requires
 byte-at-requires c κs = search needs
@@ -38,10 +32,8 @@ pub slot-from-spec : {M : Type 1} → statement M
 slot-from-spec =
     tie.close
     (tie.spec
-    two-at-requires
-    two-at-requires-2
-    two-at-requires-3
-    two-at-requires-4
+    first-of-requires
+    second-of-requires
     byte-at-requires
     byte-at-requires-2
     byte-at-requires-3
