@@ -15,6 +15,9 @@ use entries::Tag;
 use entries::table::item_at;
 use tables::num_at;
 
+// Up to so many rows are compared in pairs.
+const FEW: usize = 12;
+
 // Whether some of the first n rows fails a check.
 pub fn some_row(s: &[u8], t: &[u16], n: usize, props: &[u16], m: usize, check: Check) -> bool
     ensures { λ r. ⌜ r ≡ someFails check (now (s .entry)) (now (t .entry)) n (now (props .entry)) m ⌝ }
@@ -56,7 +59,7 @@ fn twice_by_pairs(s: &[u8], t: &[u16], rows: &[u16], m: usize) -> bool
 }
 
 // The same: some are alike where sorting what they declare leaves fewer. Rows that no text gives are compared in pairs.
-pub fn twice(s: &[u8], t: &[u16], rows: &[u16], m: usize) -> bool
+fn twice_by_sorting(s: &[u8], t: &[u16], rows: &[u16], m: usize) -> bool
     ensures { λ r. ⌜ r ≡ twiceIn (now (s .entry)) (now (t .entry)) (now (rows .entry)) m ⌝ }
 {
     let mut starts = [0u32; 2560];
@@ -67,6 +70,16 @@ pub fn twice(s: &[u8], t: &[u16], rows: &[u16], m: usize) -> bool
     let mut refs = [0u16; 2560];
     let mut reps = [0u16; 2560];
     build(s, &starts, &lens, m as u16, &mut refs, &mut reps) < m
+}
+
+// The same, of few and of many.
+pub fn twice(s: &[u8], t: &[u16], rows: &[u16], m: usize) -> bool
+    ensures { λ r. ⌜ r ≡ twiceIn (now (s .entry)) (now (t .entry)) (now (rows .entry)) m ⌝ }
+{
+    if m <= FEW {
+        return twice_by_pairs(s, t, rows, m);
+    }
+    twice_by_sorting(s, t, rows, m)
 }
 
 // Whether an entry is a cat or val form.

@@ -2,8 +2,8 @@ use native.Mathlib.Omega.{arith}
 use borrow.Author.Tests.{not-false}
 use Rattle.rows.proofs.Counted.{twice-sorted}
 use borrow.Author.Needs.{needs}
-use Rattle.rows.proofs.tests.twice.Statement.{statement}
-use Rattle.rows.proofs.tests.twice.Tie as tie
+use Rattle.rows.proofs.tests.twice_by_sorting.Statement.{statement}
+use Rattle.rows.proofs.tests.twice_by_sorting.Tie as tie
 
 slice-aggregate-list-names : tie.Need-slice-aggregate-list-names
 slice-aggregate-list-names c = search needs
@@ -41,8 +41,8 @@ build-requires c κs = search needs
 returns-2 : tie.Need-returns-2
 returns-2 c = let few = c .before .before .before .before .before .before .before .before .before .before .list-names .ensures (not-false _ (c .before .before .before .before .before .before .before .if1 .left)) .room in let size = c .before .before .before .before .before .before .before .before .before .starts2 .given in twice-sorted _ _ _ _ _ _ _ _ _ _ _ (c .before .before .before .before .before .before .before .before .before .before .list-names .ensures (not-false _ (c .before .before .before .before .before .before .before .if1 .left))) (c .before .before .build .ensures) (omega arith) (omega arith)
 
-pub twice-spec : {M : Type 1} → statement M
-twice-spec =
+pub twice-by-sorting-spec : {M : Type 1} → statement M
+twice-by-sorting-spec =
     tie.close
     (tie.spec
     slice-aggregate-list-names
