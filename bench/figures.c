@@ -21,12 +21,13 @@ static const struct row *row_at(const char *subject, enum call call, const char 
     stop("no such row");
 }
 
-/* The largest ratio to the plain implementation, over all rows of a call. */
-static void figure_beside_plain(enum call call, const char *what) {
+/* The largest ratio to the plain implementation, over the rows of a call on one register, or on all. */
+static void figure_beside_plain(enum call call, const char *subject, const char *what) {
     const struct row *worst = NULL;
     char name[160];
     for (size_t i = 0; i < row_count; i++) {
         const struct row *row = &rows[i];
+        if (subject != NULL && strcmp(row->subject, subject) != 0) continue;
         if (row->call == call && (worst == NULL || row->us[PROVED] / best_plain(row) > worst->us[PROVED] / best_plain(worst))) worst = row;
     }
     if (worst != NULL) print_figure(what, row_name(worst, name), worst->us[PROVED] / best_plain(worst), 1, 2);
@@ -54,27 +55,27 @@ static void figure_of_worst(enum call call, const char *what, const struct row *
     if (worst != NULL) print_figure(what, row_name(worst, name), worst->us[PROVED] / full->us[PROVED], 1, wanted);
 }
 
-/* Those of the first handover, measured here or else as docs/BENCHMARKS.md had them then; the join had none, and is held to the largest. */
-static void figures_of_stacks(const struct stacks *stacks) {
+/* The largest of the first handover's calls, measured here or else as docs/BENCHMARKS.md had it then. */
+static void figure_of_stacks(const struct stacks *stacks) {
     static const char *const names[] = {"register", "query", "ask", "join"};
-    static const size_t recorded[] = {82600, 336400, 659424, 659424};
-    for (enum call call = REGISTER; call <= JOIN; call++) {
-        const size_t *first = stacks->of[FIRST];
-        size_t wanted = !is_built(FIRST) ? recorded[call] : call == JOIN ? first[ASK] : first[call];
-        print_figure("largest stack, bytes", names[call], (double)stacks->of[PROVED][call], 1, (double)wanted);
-    }
+    enum call worst = REGISTER;
+    size_t wanted = 659424;
+    if (is_built(FIRST)) wanted = stacks->of[FIRST][ASK];
+    for (enum call call = REGISTER; call <= JOIN; call++)
+        if (stacks->of[PROVED][call] > stacks->of[PROVED][worst]) worst = call;
+    print_figure("largest stack of any call, bytes", names[worst], (double)stacks->of[PROVED][worst], 1, (double)wanted);
 }
 
 void print_figures(const struct stacks *stacks) {
     puts("| figure | where | found | wanted | |\n|---|---|---|---|---|");
-    figure_beside_plain(REGISTER, "register calls beside the plain implementation");
-    figure_beside_plain(QUERY, "query calls beside the plain implementation");
-    figure_beside_plain(ASK, "ask calls beside the plain implementation");
-    figure_beside_plain(JOIN, "join calls beside the plain implementation");
+    static const char *const full[] = {"register call beside the plain implementation, full register", "query calls, full register", "ask calls, full register", "join, full register"};
+    static const char *const all[] = {"register calls beside the plain implementation, any register", "query calls, any register", "ask calls, any register", "joins, any register"};
+    for (enum call call = REGISTER; call <= JOIN; call++) figure_beside_plain(call, "full", full[call]);
+    for (enum call call = REGISTER; call <= JOIN; call++) figure_beside_plain(call, NULL, all[call]);
     figures_of_asks();
     figure_of_worst(ASK, "asks of the worst inputs beside the full register's of a category", row_at("full", ASK, "category"), 6);
     figure_of_worst(REGISTER, "register calls on the worst inputs beside the full register's", row_at("full", REGISTER, NULL), 4);
     figure_of_worst(JOIN, "joins of the worst inputs beside the full register's", row_at("full", JOIN, NULL), 4);
-    figures_of_stacks(stacks);
+    figure_of_stacks(stacks);
     printf("\n%d figures missed%s.\n", missed, is_built(FIRST) ? "" : "; the first handover is not in this run (FIRST=1)");
 }
