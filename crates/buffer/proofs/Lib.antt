@@ -1,3 +1,4 @@
 pub mod Parts
 pub mod Numbers
 pub mod Regions
+pub mod Reading

@@ -23,6 +23,7 @@ use Rattle.query_spelling.specs.Spelled.{isSpelled, cost, deep, hasText}
 use Rattle.query_tree.specs.Nodes.{Node, tree, strings}
 use Rattle.query_tree.specs.Pass.{isTree}
 use Rattle.query_tree.specs.Building.{built}
+use Rattle.query_tree.specs.declared.Row.{Row}
 use Rattle.query_tree.specs.Form.{treeSize, rowsFrom, nodeBytes, treeOf, nodesIn, heldTree}
 use Rattle.query_tree.specs.Testing.{isExact}
 use Rattle.query_tree.proofs.Counts.{few-nodes, few-strings}

@@ -9,3 +9,5 @@ pub mod Rows
 pub mod Exact
 pub mod Tested
 pub mod Held
+pub mod Ways
+pub mod Loops

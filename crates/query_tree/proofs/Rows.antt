@@ -21,7 +21,8 @@ use Rattle.values.specs.Names.{Reference, bare, qualified}
 use Rattle.language.proofs.Members.{and-true}
 use Rattle.language.specs.declared.SurfaceComparator.{SurfaceComparator}
 use Rattle.query_tree.specs.Nodes.{Node, stringOf, strings}
-use Rattle.query_tree.specs.Form.{Row, rowOf, comparatorCode, referenceRow, rowAt, rowBytes, rowsFrom, comparatorFrom, nodeFrom, rowIn, nodeIn, nodesIn, stringsIn}
+use Rattle.query_tree.specs.declared.Row.{Row}
+use Rattle.query_tree.specs.Form.{rowOf, comparatorCode, referenceRow, rowAt, rowBytes, rowsFrom, comparatorFrom, nodeFrom, rowIn, nodeIn, nodesIn, stringsIn}
 use Rattle.query_tree.proofs.Counts.{strings-append}
 use Rattle.query_tree.proofs.Small.{isShort, isSmall, AllSmall}
 
@@ -40,7 +41,7 @@ rows-append at (x ∷ k) l =
     ∙ sym (append-assoc (rowBytes (rowAt at x)) (rowsFrom (at + length (stringOf x)) k) (rowsFrom (at + length (stringOf x ++ strings k)) l))
 
 -- A row from its six bytes.
-same-row : {t t′ c c′ n n′ a a′ b b′ : ℕ} → t ≡ t′ → c ≡ c′ → n ≡ n′ → a ≡ a′ → b ≡ b′ → rowOf t c n a b ≡ rowOf t′ c′ n′ a′ b′
+pub same-row : {t t′ c c′ n n′ a a′ b b′ : ℕ} → t ≡ t′ → c ≡ c′ → n ≡ n′ → a ≡ a′ → b ≡ b′ → rowOf t c n a b ≡ rowOf t′ c′ n′ a′ b′
 same-row e f g h i = rw (e, f, g, h, i)
 
 pub row-read : (h : Bytes) (i : ℕ) (r : Row) → r .number < 65536 → part h (2 + 6 * i) 6 ≡ rowBytes r → rowIn h i ≡ r

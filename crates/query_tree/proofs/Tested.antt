@@ -21,7 +21,8 @@ use Rattle.values.specs.Names.{Reference, bare, qualified}
 use Rattle.language.proofs.Members.{and-true, both-true}
 use Rattle.language.specs.declared.SurfaceComparator.{SurfaceComparator}
 use Rattle.query_tree.specs.Nodes.{Node, stringOf, strings}
-use Rattle.query_tree.specs.Form.{Row, rowOf, comparatorCode, rowAt, rowBytes, rowsFrom, nodeBytes, nodeFrom, rowIn, nodeIn, nodesIn, nodeCount, stringsIn, treeSize}
+use Rattle.query_tree.specs.declared.Row.{Row}
+use Rattle.query_tree.specs.Form.{rowOf, comparatorCode, rowAt, rowBytes, rowsFrom, nodeBytes, nodeFrom, rowIn, nodeIn, nodesIn, nodeCount, stringsIn, treeSize}
 use Rattle.query_tree.specs.Testing.{rowFits, stringAt, rowsFit, isExact}
 use Rattle.query_tree.proofs.Counts.{strings-append}
 use Rattle.query_tree.proofs.Rows.{length-rows, rows-append, Holds, Fits, texts-long, small-there, row-there}

@@ -15,6 +15,7 @@ use Rattle.language.specs.declared.SurfaceComparator.{SurfaceComparator}
 use Rattle.query_spelling.specs.Spelled.{hasText}
 use Rattle.query_tree.specs.Nodes.{Node, tree, stringOf, strings}
 use Rattle.query_tree.specs.Building.{built}
+use Rattle.query_tree.specs.declared.Row.{Row}
 
 abbrev pub treeSize : ℕ
 treeSize = 5112
@@ -29,13 +30,6 @@ comparatorCode SurfaceComparator.AtMost = 5
 
 -- A node in six bytes: a tag, a comparator, a number of two bytes (how many nodes the second of two has, or where a string begins), the
 -- lengths of a namespace and of a name or value.
-pub record Row : Type 0 where
-  pub tag : ℕ
-  pub comparator : ℕ
-  pub number : ℕ
-  pub first : ℕ
-  pub second : ℕ
-
 abbrev pub rowOf : ℕ → ℕ → ℕ → ℕ → ℕ → Row
 rowOf t c n a b = record { tag = t; comparator = c; number = n; first = a; second = b }
 

@@ -3,3 +3,4 @@ pub mod Pass
 pub mod Building
 pub mod Form
 pub mod Testing
+pub mod Reading

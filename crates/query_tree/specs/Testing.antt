@@ -1,10 +1,12 @@
 -- Working definitions: whether bytes are those of the nodes that they hold, row by row.
-use Prim.Native.Nat.{ℕ, zero, suc, _+_, _*_, _-_}
+use Prim.Native.Nat.{ℕ, zero, suc, _+_, _*_, _-_, _≤_}
+use mathlib.Core.Path.{_≡_}
 use mathlib.Core.Bool.{Bool, true, cond, _&&_, _||_}
 use lib.Dec.{eqb, leb, ltb}
 use Rattle.text.specs.Bytes.{Bytes}
 use Rattle.buffer.specs.Tests.{zerosAt}
-use Rattle.query_tree.specs.Form.{Row, rowIn, nodeCount}
+use Rattle.query_tree.specs.declared.Row.{Row}
+use Rattle.query_tree.specs.Form.{rowIn, nodeCount}
 
 -- What a tag uses.
 abbrev pub usesComparator : ℕ → Bool
@@ -23,11 +25,15 @@ usesNothing t = eqb t 7 || eqb t 9
 abbrev pub numberFits : ℕ → ℕ → ℕ → Bool
 numberFits t at n = ltb t 3 || eqb n (cond (usesNothing t) 0 at)
 
+-- The numbers of a row are those of its node, whose string begins at a place.
+abbrev pub numbersFit : ℕ → Row → Bool
+numbersFit at r =
+    leb (r .tag) 11 && leb (r .comparator) (cond (usesComparator (r .tag)) 5 0) && numberFits (r .tag) at (r .number)
+    && (usesFirst (r .tag) || eqb (r .first) 0) && (usesSecond (r .tag) || eqb (r .second) 0)
+
 -- A row is that of its node, whose string begins at a place and ends within 1,024 bytes.
 unfoldable pub rowFits : ℕ → Row → Bool
-rowFits at r =
-    leb (r .tag) 11 && leb (r .comparator) (cond (usesComparator (r .tag)) 5 0) && numberFits (r .tag) at (r .number)
-    && (usesFirst (r .tag) || eqb (r .first) 0) && (usesSecond (r .tag) || eqb (r .second) 0) && leb (at + r .first + r .second) 1024
+rowFits at r = numbersFit at r && leb (at + r .first + r .second) 1024
 
 module _ (h : Bytes) where
   -- Where the string of node i begins: behind those before it.
@@ -38,6 +44,11 @@ module _ (h : Bytes) where
   unfoldable pub rowsFit : ℕ → Bool
   rowsFit zero = true
   rowsFit (suc i) = rowsFit i && rowFits (stringAt i) (rowIn h i)
+
+  -- What testing the first n rows answers.
+  pub record RowsTested (n : ℕ) (ok : Bool) (end : ℕ) : Type 0 where
+    pub is : ok ≡ rowsFit n
+    pub ends : ok ≡ true → (end ≡ stringAt n) × (end ≤ 1024)
 
   -- The bytes are those of the nodes that they hold, where there are 5,112.
   unfoldable pub isExact : Bool

@@ -1,4 +1,9 @@
 // The held tree of a query text: a surface query as postfix nodes.
+use language::SurfaceComparator;
+use text::Span;
+
+pub mod reading; // reading.rt: nodes from their bytes
+pub mod testing; // testing.rt: whether bytes are those of the nodes that they hold
 
 // A part of a query: a bracket of categories or of identifiers, the alternatives of a property, a property's bracket, two joined.
 pub enum Shape {
@@ -22,4 +27,29 @@ pub struct Item {
     pub kept: bool,
     pub bytes: usize,
     pub depth: usize,
+}
+
+// A node's six bytes: a tag, a comparator, a number, the lengths of a namespace and of a name or value.
+pub struct Row {
+    pub tag: u8,
+    pub comparator: u8,
+    pub number: u16,
+    pub first: u8,
+    pub second: u8,
+}
+
+// A node; its strings are places in the bytes of all strings.
+pub enum TreeNode {
+    And(usize),
+    Or(usize),
+    Bar(usize),
+    Category(Span),
+    Namespace(Span),
+    Bare(SurfaceComparator, Span),
+    Qualified(SurfaceComparator, Span, Span),
+    Existence,
+    Value(SurfaceComparator, Span),
+    Subquery,
+    Property(Span),
+    Link(Span),
 }

@@ -1,0 +1,60 @@
+-- The loop over rows: none, one more, one that does not fit, all.
+use Prim.Native.Nat.{ℕ, zero, suc, _+_, _≤_, _<_}
+use mathlib.Core.Path.{_≡_, refl, sym, ap, _∙_}
+use mathlib.Core.Bool.{Bool, true, false, _&&_, false≢true}
+use native.Mathlib.Decide.{ℕ-discrete}
+use native.Mathlib.Numerals.{add-one}
+use native.Mathlib.Omega.{arith}
+use lib.Dec.{leb}
+use borrow.Author.Tests.{leb-true}
+use Rattle.text.specs.Bytes.{Bytes}
+use Rattle.language.proofs.Members.{and-true, both-true}
+use Rattle.query_tree.specs.declared.Row.{Row}
+use Rattle.query_tree.specs.Form.{rowIn}
+use Rattle.query_tree.specs.Testing.{numbersFit, rowFits, stringAt, rowsFit, RowsTested}
+
+module _ (h : Bytes) where
+  pub record Fitted (i at : ℕ) : Type 0 where
+    pub is : rowsFit h i ≡ true
+    pub ends : at ≡ stringAt h i
+    pub most : at ≤ 1024
+
+  pub rows-none : Fitted 0 0
+  unfolding rowsFit stringAt
+  rows-none = record { is = refl; ends = refl; most = omega arith }
+
+  fits-most : (at : ℕ) (r : Row) → rowFits at r ≡ true → at + r .first + r .second ≤ 1024
+  unfolding rowFits
+  fits-most at r t = leb-true (at + r .first + r .second) 1024 (and-true (numbersFit at r) (leb (at + r .first + r .second) 1024) t .1)
+
+  module _ (i at : ℕ) (r : Row) (f : Fitted i at) (e : r ≡ rowIn h i) where
+    pub rows-more : (b : Bool) (x y : ℕ) → b ≡ rowFits at r → b ≡ true → x ≡ r .first → y ≡ r .second → Fitted (i + 1) (at + x + y)
+    unfolding rowsFit stringAt
+    rows-more b x y g t j k =
+        let fits : rowFits at r ≡ true = sym g ∙ t in
+        let most = fits-most at r fits in
+        rw (add-one i, j, k)
+        (record {
+          is = both-true (f .is) (sym (ap (rowFits (stringAt h i)) e) ∙ ap (λ (n : ℕ). rowFits n r) (sym (f .ends)) ∙ fits);
+          ends = ap (λ (s : Row). at + s .first + s .second) e ∙ ap (λ (n : ℕ). n + rowIn h i .first + rowIn h i .second) (f .ends);
+          most = most;
+        })
+
+    no-later : (n : ℕ) → rowFits at r ≡ false → i < n → rowsFit h n ≡ false
+    unfolding rowsFit
+    no-later zero t l = absurd (omega arith)
+    no-later (suc n) t l = go (ℕ-discrete i n) (no-later n t)
+      where
+        go : Dec (i ≡ n) → (i < n → rowsFit h n ≡ false) → rowsFit h n && rowFits (stringAt h n) (rowIn h n) ≡ false
+        go (yes p) k = ap (λ (b : Bool). rowsFit h n && b) (ap (λ (m : ℕ). rowFits (stringAt h m) (rowIn h m)) (sym p) ∙ sym (ap (rowFits (stringAt h i)) e) ∙ ap (λ (m : ℕ). rowFits m r) (sym (f .ends)) ∙ t) ∙ and-no (rowsFit h n)
+          where
+            and-no : (a : Bool) → a && false ≡ false
+            and-no true = refl
+            and-no false = refl
+        go (no p) k = rw (k (omega (arith, p)))
+
+    pub rows-stop : (n : ℕ) (b : Bool) → b ≡ rowFits at r → b ≡ false → i < n → RowsTested h n false 0
+    rows-stop n b g t l = record { is = sym (no-later n (sym g ∙ t) l); ends = λ z. absurd (false≢true z) }
+
+  pub rows-all : (i n at : ℕ) → Fitted i at → i ≤ n → n ≤ i → RowsTested h n true at
+  rows-all i n at f a b = let e : i ≡ n = omega arith in rw (← e) (record { is = sym (f .is); ends = λ z. (f .ends, f .most) })

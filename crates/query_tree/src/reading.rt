@@ -1,0 +1,85 @@
+// Nodes from their bytes.
+ghost use mathlib.Core.Path.{_≡_};
+ghost use Rattle.text.specs.Bytes.{Bytes};
+ghost use Rattle.query_tree.specs.Form.{comparatorFrom, nodeFrom, rowIn, stringsIn, nodeIn};
+ghost use Rattle.query_tree.specs.Reading.{nodeBy};
+use crate::Row;
+use crate::TreeNode;
+use buffer::two_at;
+use language::SurfaceComparator;
+use text::Span;
+use text::byte_at;
+use text::widen;
+
+// The comparator of a code.
+fn comparator_from(code: u8) -> SurfaceComparator
+    ensures { λ r. ⌜ r ≡ comparatorFrom code ⌝ }
+{
+    match code {
+        0 => SurfaceComparator::Equal,
+        1 => SurfaceComparator::Unequal,
+        2 => SurfaceComparator::Greater,
+        3 => SurfaceComparator::Less,
+        4 => SurfaceComparator::AtLeast,
+        _ => SurfaceComparator::AtMost,
+    }
+}
+
+// The node of a row.
+fn node_from(row: Row) -> TreeNode
+    ensures { λ r. ⌜ ((s : Bytes) → nodeBy s r ≡ nodeFrom s row) ⌝ }
+{
+    let start = tables::widen(row.number);
+    let c = comparator_from(row.comparator);
+    let len = widen(row.first);
+    let first = Span { start, len };
+    let second = Span {
+        start: start + len,
+        len: widen(row.second),
+    };
+    let tag = row.tag;
+    match tag {
+        0 => TreeNode::And(start),
+        1 => TreeNode::Or(start),
+        2 => TreeNode::Bar(start),
+        3 => TreeNode::Category(second),
+        4 => TreeNode::Namespace(first),
+        5 => TreeNode::Bare(c, second),
+        6 => TreeNode::Qualified(c, first, second),
+        7 => TreeNode::Existence,
+        8 => TreeNode::Value(c, second),
+        9 => TreeNode::Subquery,
+        10 => TreeNode::Property(second),
+        _ => TreeNode::Link(second),
+    }
+}
+
+// The row of node i.
+pub fn row_at(h: &[u8], i: usize) -> Row
+    ensures { λ r. ⌜ r ≡ rowIn (now (h .entry)) i ⌝ }
+{
+    if h.len() / 6 < i {
+        return Row {
+            tag: 0,
+            comparator: 0,
+            number: 0,
+            first: 0,
+            second: 0,
+        };
+    }
+    let at = 6 * i;
+    Row {
+        tag: byte_at(h, at + 2),
+        comparator: byte_at(h, at + 3),
+        number: two_at(h, at + 4),
+        first: byte_at(h, at + 6),
+        second: byte_at(h, at + 7),
+    }
+}
+
+// Node i.
+pub fn node_at(h: &[u8], i: usize) -> TreeNode
+    ensures { λ r. ⌜ nodeBy (stringsIn (now (h .entry))) r ≡ nodeIn (now (h .entry)) i ⌝ }
+{
+    node_from(row_at(h, i))
+}
