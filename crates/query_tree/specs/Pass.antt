@@ -1,5 +1,6 @@
--- 34: one pass over nodes that says whether they are the tree of a text that reading accepts. It keeps of each part a few numbers and truth
--- values: what its shortest spelling costs, how deep that is, whether the rules are kept.
+-- Working definitions: one pass over nodes that says whether they are the tree of a text that reading accepts (34). By `is-tree` it says so
+-- exactly. It keeps of each part a few numbers and truth values: what its shortest spelling costs, how deep that is, whether the rules are
+-- kept.
 use Prim.Native.Nat.{ℕ, suc, _+_, _-_, max, min}
 use mathlib.Core.Bool.{Bool, true, false, not, _&&_, _||_}
 use mathlib.Core.List.{List, [], _∷_}
