@@ -13,9 +13,9 @@ use Rattle.values.specs.declared.Kind.{Kind}
 use Rattle.buffer.specs.Numbers.{eightBytes}
 use Rattle.register_form.specs.Dictionary.{termOf}
 use Rattle.register_form.specs.Form.{kindFrom, joined}
-use Rattle.register_bytes.specs.Writing.{written}
-use Rattle.register_bytes.proofs.Written.{written-past, next}
-use Rattle.register_bytes.proofs.Looping.{Rowing, rows-none, rows-more, rows-all}
+use Rattle.buffer.specs.Writing.{written}
+use Rattle.buffer.proofs.Written.{written-past, next}
+use Rattle.buffer.proofs.Looping.{Rowing, rows-none, rows-more, rows-all}
 use Rattle.register_assembly.specs.Terms.{codeFor, codeBy, termBy, termsBy, Filling}
 
 -- The new code of a form.

@@ -13,8 +13,9 @@ use Rattle.register_form.specs.Form.{registerSize, countBytes, bytesOf}
 use Rattle.register_form.specs.Tests.{Bounded}
 use Rattle.buffer.proofs.Regions.{length-zeros, length-padded}
 use Rattle.register_form.proofs.Holding.{Lengths, lengths}
-use Rattle.register_bytes.specs.Writing.{written, Region, putRegions, regionsOf}
-use Rattle.register_bytes.proofs.Written.{written-here, written-skip, written-over}
+use Rattle.buffer.specs.Writing.{written}
+use Rattle.register_bytes.specs.Writing.{Region, putRegions, regionsOf}
+use Rattle.buffer.proofs.Written.{written-here, written-skip, written-over}
 
 zeros-add : (n m : ℕ) → zeros (n + m) ≡ zeros n ++ zeros m
 unfolding zeros

@@ -1,17 +1,13 @@
--- Working definitions: bytes written into a buffer, and the rows that the regions of a held register get.
+-- Working definitions: the rows that the regions of a held register get.
 use Prim.Native.Nat.{ℕ, _+_}
 use mathlib.Core.List.{List, [], _∷_, _++_, map, flatMap}
 use lib.ListN.{getD}
-use lib.Seq.{sets}
 use Rattle.text.specs.Bytes.{Bytes}
 use Rattle.text.specs.Table.{tabulate}
 use Rattle.buffer.specs.Numbers.{twoBytes, startsFrom}
+use Rattle.buffer.specs.Writing.{written}
 use Rattle.register_form.specs.Dictionary.{PropertyRow, Dictionary}
 use Rattle.register_form.specs.Form.{formsOf, joined, countBytes, propertyBytes, numberBytes, kindFrom}
-
--- The bytes v from a place on, as far as there is room.
-unfoldable pub written : Bytes → ℕ → Bytes → Bytes
-written h at v = sets h at v
 
 -- The property that a kind's byte and a text's number tell.
 abbrev pub rowOf : ℕ → ℕ → PropertyRow

@@ -1,9 +1,9 @@
 -- What the readers answer, by what they called.
-use Prim.Native.Nat.{ℕ, suc, _+_, _*_, _-_, _≤_, _<_}
-use mathlib.Core.Path.{_≡_, refl, sym, ap, ap₂, _∙_}
+use Prim.Native.Nat.{ℕ, suc, _+_, _*_, _-_, _<_}
+use mathlib.Core.Path.{_≡_, sym, ap, ap₂, _∙_}
 use native.Mathlib.Omega.{arith}
 use borrow.Author.Tests.{eq-eqb, ne-eqb}
-use lib.ListN.{length, getD, take, drop, length-drop, List·getD-eq-default}
+use lib.ListN.{length, getD, take, drop, length-drop}
 use lib.Seq.{drop-drop, take-all}
 use Rattle.text.specs.Bytes.{Bytes, part}
 use Rattle.values.specs.declared.Kind.{Kind}
@@ -11,27 +11,6 @@ use Rattle.buffer.specs.Numbers.{twoAt, eightAt}
 use Rattle.register_form.specs.Dictionary.{spaceOf, nameOf, groupOf, codeOf}
 use Rattle.register_form.specs.Form.{kindFrom, propertyAt, pageAt, formStart, formAt, termAt, textStart, textAt}
 use Rattle.buffer.proofs.Parts.{getD-part}
-
-two-past : (h : Bytes) (i : ℕ) → length h ≤ i → 0 ≡ twoAt h i
-unfolding twoAt
-two-past h i l = omega (arith, List·getD-eq-default h 0 l, List·getD-eq-default h 0 {n = i + 1} (omega arith))
-
--- Where at most one byte is left, the number is that byte.
-pub two-last : (h : Bytes) (i a l : ℕ) → length h ≤ i + 1 → a ≡ getD h i 0 → l ≡ a → l ≡ twoAt h i
-unfolding twoAt
-two-last h i a l k e f = omega (arith, List·getD-eq-default h 0 {n = i + 1} k)
-
-pub two-is : (h : Bytes) (i a b l u : ℕ) → a ≡ getD h i 0 → l ≡ a → b ≡ getD h (i + 1) 0 → u ≡ b → l + 256 * u ≡ twoAt h i
-unfolding twoAt
-two-is h i a b l u e f g j = rw (f, e, j, g)
-
-pub eight-past : (h : Bytes) (i : ℕ) → length h ≤ i → 0 ≡ eightAt h i
-unfolding eightAt
-eight-past h i l = omega (arith, two-past h i l, two-past h (i + 2) (omega arith), two-past h (i + 4) (omega arith), two-past h (i + 6) (omega arith))
-
-pub eight-is : (h : Bytes) (i a b c d p q r s : ℕ) → a ≡ twoAt h i → p ≡ a → b ≡ twoAt h (i + 2) → q ≡ b → c ≡ twoAt h (i + 4) → r ≡ c → d ≡ twoAt h (i + 6) → s ≡ d → p + 65536 * (q + 65536 * (r + 65536 * s)) ≡ eightAt h i
-unfolding eightAt
-eight-is h i a b c d p q r s e f g j k l m n = rw (f, e, j, g, l, k, n, m)
 
 pub kind-page : (b : ℕ) → b ≡ 0 → Kind.Page ≡ kindFrom b
 unfolding kindFrom
@@ -136,4 +115,4 @@ pub name-there : (h : Bytes) (x : ℕ) (t r : Bytes) → t ≡ textAt h x → r 
 name-there h x t r e f = f ∙ ap nameOf e
 
 pub ruleset reading =
-    (eight-past, eight-is, kind-page, kind-number, kind-boolean, kind-string, kind-row, kind-byte, name-row, identifier-row, form-start, form-end, form-row, term-row, group-is, code-is, text-begin, text-stop, text-is, space-is, name-is, space-there, name-there)
+    (kind-page, kind-number, kind-boolean, kind-string, kind-row, kind-byte, name-row, identifier-row, form-start, form-end, form-row, term-row, group-is, code-is, text-begin, text-stop, text-is, space-is, name-is, space-there, name-there)

@@ -1,13 +1,13 @@
 // The held register: reading its rows. Every number is one of 16 bits, so that no place overflows; what lies behind the bytes is 0.
 ghost use mathlib.Core.Path.{_≡_};
 ghost use Prim.Native.Nat.{suc, _+_, _*_, _-_};
-ghost use Rattle.buffer.specs.Numbers.{twoAt, eightAt};
 ghost use Rattle.register_form.specs.Dictionary.{spaceOf, nameOf, groupOf, codeOf};
 ghost use Rattle.register_form.specs.Form.{kindByte, pageCount, propertyCount, termCount, textCount, kindFrom, propertyAt, pageAt, formStart, formAt, termAt, textStart, textAt};
 
 pub mod spelled; // spelled.rt: how long a number is, spelled
 
-use tables::long;
+use buffer::eight_at;
+use buffer::two_at;
 use tables::wide;
 use tables::widen;
 use text::byte_at;
@@ -16,32 +16,6 @@ use values::Kind;
 
 // How many bytes a held register has.
 pub const REGISTER_BYTES: usize = 63628;
-
-// The number in two bytes, and in eight.
-pub fn two_at(h: &[u8], i: usize) -> u16
-    ensures { λ r. ⌜ r ≡ twoAt (now (h .entry)) i ⌝ }
-{
-    if h.len() < 2 {
-        return wide(byte_at(h, i));
-    }
-    if h.len() - 2 < i {
-        return wide(byte_at(h, i));
-    }
-    wide(h[i]) + 256 * wide(h[i + 1])
-}
-
-pub fn eight_at(h: &[u8], i: usize) -> u64
-    ensures { λ r. ⌜ r ≡ eightAt (now (h .entry)) i ⌝ }
-{
-    if h.len() <= i {
-        return 0;
-    }
-    let a = long(two_at(h, i));
-    let b = long(two_at(h, i + 2));
-    let c = long(two_at(h, i + 4));
-    let d = long(two_at(h, i + 6));
-    a + 65536 * (b + 65536 * (c + 65536 * d))
-}
 
 // How many properties, pages, terms and texts there are.
 pub fn property_count(h: &[u8]) -> u16

@@ -22,7 +22,8 @@ use Rattle.register_form.proofs.Laying.{Laid}
 use Rattle.buffer.proofs.Regions.{all-to}
 use Rattle.register_test.specs.Loops.{sumTo, isSet}
 use Rattle.register_test.specs.Stages.{classOf, textLength, nameNumber, propertyOk, namesTo, propertyTest, propertyLength, judgedTerm, termTest, namedTo, shownTo, formCount, formIn, behindAt, formOk, lastBy, formTest, formLength, identifierAt, lastTo, placesTo, pageOk, pageTest, pageLength, usedTest}
-use Rattle.register_test.proofs.Loops.{all-ext, length-written}
+use Rattle.buffer.proofs.Testing.{all-ext}
+use Rattle.register_test.proofs.Loops.{length-written}
 use Rattle.register_test.proofs.Tabled.{sum-ext, sum-plus, total-tabulate, total-joined}
 use Rattle.register_test.proofs.Classes.{length-names, length-name}
 use Rattle.register_test.proofs.Known.{text-count, text-in, term-in, properties-are, set-more, set-written, text-length}

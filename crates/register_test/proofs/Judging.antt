@@ -23,7 +23,7 @@ use Rattle.register_form.specs.Tests.{isLabelled, isPlain, isPlainNumber, isCod
 use Rattle.register_form.proofs.Laying.{Laid}
 use Rattle.register_test.specs.Stages.{classOf, noText, booleanLength, spelledLength, judgedIn, judgedText, judgedValue, judgedGroup, judgedTerm}
 use Rattle.register_test.specs.declared.Judged.{Judged}
-use Rattle.register_test.proofs.Loops.{and-true}
+use Rattle.buffer.proofs.Testing.{and-true}
 use Rattle.register_test.proofs.Classes.{class-link, class-category, class-string, class-spaced, length-name, length-spelled, storable-link}
 use Rattle.register_test.proofs.Known.{text-count, property-count, text-in, property-in, plain-number, text-length}
 

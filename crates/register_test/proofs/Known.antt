@@ -21,7 +21,7 @@ use Rattle.buffer.proofs.Parts.{map-tabulate}
 use Rattle.register_form.proofs.Laying.{Laid, text-length as text-ends}
 use Rattle.register_test.specs.Loops.{written, isSet, climbs}
 use Rattle.register_test.specs.Stages.{textTest, textLength, nameNumber, propertyOk, namesTo, propertyTest}
-use Rattle.register_test.proofs.Loops.{all-ext}
+use Rattle.buffer.proofs.Testing.{all-ext}
 use Rattle.register_test.proofs.Tabled.{all-and, all-tabulate, ascends-tabulate, distinct-tabulate, written-holds}
 
 not-not : (b : Bool) → b ≡ not (not b)

@@ -14,7 +14,8 @@ use Rattle.buffer.specs.Tests.{allTo}
 use Rattle.register_test.specs.Loops.{sumTo, isSet}
 use Rattle.register_test.specs.Stages.{textLength, formCount, formIn, behindAt, formOk, lastBy, formTest, formLength, FormsTested, identifierAt, lastTo, placesTo, pageOk, pageTest, pageLength, usedTest}
 use Rattle.register_test.specs.declared.Tally.{Tally}
-use Rattle.register_test.proofs.Loops.{all-more, sum-more, length-written}
+use Rattle.buffer.proofs.Testing.{all-more}
+use Rattle.register_test.proofs.Loops.{sum-more, length-written}
 
 pub set-is : (t : List ℕ) (i w u : ℕ) → w ≡ i → u ≡ getD t w 0 → not (eqb u 0) ≡ isSet t i
 unfolding isSet

@@ -20,7 +20,7 @@ use Rattle.register_form.proofs.Laying.{Laid}
 use Rattle.buffer.proofs.Regions.{all-to}
 use Rattle.register_test.specs.Loops.{isSet}
 use Rattle.register_test.specs.Stages.{classOf, formCount, formIn, behindAt, formOk, lastBy, formTest, identifierAt, lastTo, placesTo, pageOk, pageTest}
-use Rattle.register_test.proofs.Loops.{all-ext}
+use Rattle.buffer.proofs.Testing.{all-ext}
 use Rattle.register_test.proofs.Tabled.{and-assoc, all-and, all-tabulate, any-joined, distinct-tabulate, behindIn, order-tabulate, written-holds, written-most}
 use Rattle.register_test.proofs.PageWays.{length-last}
 use Rattle.register_test.proofs.Classes.{class-identifier}

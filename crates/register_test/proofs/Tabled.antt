@@ -23,7 +23,8 @@ use Rattle.register_form.specs.Tests.{inOrder}
 use Rattle.buffer.specs.Tests.{allTo}
 use Rattle.buffer.proofs.Parts.{flat-more}
 use Rattle.register_test.specs.Loops.{written, sumTo, climbs}
-use Rattle.register_test.proofs.Loops.{and-true, length-written}
+use Rattle.buffer.proofs.Testing.{and-true}
+use Rattle.register_test.proofs.Loops.{length-written}
 
 -- Tests of two things at each place.
 four : (a b c d : Bool) → ((a && b) && (c && d)) ≡ ((a && c) && (b && d))

@@ -20,7 +20,7 @@ use Rattle.buffer.specs.Tests.{allTo}
 use Rattle.register_test.specs.Loops.{climbs}
 use Rattle.register_test.specs.Stages.{textLength, noText, booleanLength, spelledLength, judgedIn, judgedText, judgedValue, judgedGroup, judgedTerm, termTest}
 use Rattle.register_test.specs.declared.Judged.{Judged}
-use Rattle.register_test.proofs.Loops.{all-more}
+use Rattle.buffer.proofs.Testing.{all-more}
 
 less-number : (x y : ℕ) → isLess (numbers x y) ≡ ltb x y
 unfolding numbers

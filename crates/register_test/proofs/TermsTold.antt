@@ -18,7 +18,7 @@ use Rattle.register_form.proofs.Laying.{Laid}
 use Rattle.buffer.proofs.Regions.{all-to}
 use Rattle.register_test.specs.Loops.{climbs}
 use Rattle.register_test.specs.Stages.{classOf, judgedTerm, termTest, shownTo}
-use Rattle.register_test.proofs.Loops.{all-ext}
+use Rattle.buffer.proofs.Testing.{all-ext}
 use Rattle.register_test.proofs.Tabled.{all-and, all-tabulate, any-snoc, any-joined, ascends-tabulate, written-fill}
 use Rattle.register_test.proofs.Judging.{right-term}
 

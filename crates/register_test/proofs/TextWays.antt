@@ -20,7 +20,8 @@ use Rattle.register_form.specs.Tests.{isLabelled, isPlain}
 use Rattle.buffer.specs.Tests.{allTo}
 use Rattle.register_test.specs.Loops.{sumTo, climbs}
 use Rattle.register_test.specs.Stages.{classOf, textTest, textLength, nameNumber, propertyOk, namesTo, propertyTest, propertyLength}
-use Rattle.register_test.proofs.Loops.{all-more, sum-more}
+use Rattle.buffer.proofs.Testing.{all-more}
+use Rattle.register_test.proofs.Loops.{sum-more}
 
 pub labelled-is : (t : Bytes) (a b : ℕ) → a ≡ getD t 0 0 → b ≡ a → ltb b (length t) ≡ isLabelled t
 unfolding isLabelled

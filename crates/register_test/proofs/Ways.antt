@@ -1,30 +1,20 @@
 -- What the functions on the layout answer, by what they called.
 use Prim.Native.Nat.{ℕ, suc, _+_, _-_, _*_, _≤_}
-use mathlib.Core.Path.{_≡_, ap, _∙_}
+use mathlib.Core.Path.{_≡_, _∙_}
 use mathlib.Core.Bool.{Bool, true, false, not, _&&_}
-use mathlib.Core.List.{List}
 use native.Mathlib.Omega.{arith}
 use lib.Dec.{ltb, leb, eqb}
-use lib.ListN.{length, getD, length-take, List·getD-eq-default}
+use lib.ListN.{length, getD}
 use borrow.Author.Tests.{eq-eqb, ne-eqb, not-true, not-false}
-use Rattle.text.specs.Bytes.{Bytes, part}
+use Rattle.text.specs.Bytes.{Bytes}
 use Rattle.buffer.specs.Numbers.{twoAt}
 use Rattle.register_form.specs.Form.{pageCount, propertyCount, termCount, textCount, registerSize, formStart, textStart}
 use Rattle.register_form.specs.Tests.{rises, isCounted, isPadded, isLaid}
 use Rattle.buffer.specs.Tests.{allTo, zerosAt}
-use Rattle.buffer.proofs.Parts.{getD-part}
 use Rattle.register_test.specs.Stages.{areRowsPadded, kindTest, startAt, riseTest}
-use Rattle.register_test.proofs.Loops.{all-end, all-ext, all-rest}
 
 -- Of the layout.
 module _ (h : Bytes) where
-  pub zeros-cut : (from n i : ℕ) (s : Bytes) (ok : Bool) → s ≡ part h from n → ok ≡ allTo i (λ j. eqb (getD s j 0) 0) → i ≤ length s → length s ≤ i → ok ≡ zerosAt h from n
-  unfolding zerosAt
-  zeros-cut from n i s ok e f a b =
-      all-end (λ j. eqb (getD s j 0) 0) i (length s) ok f a b
-      ∙ all-rest (λ j. eqb (getD s j 0) 0) (length s) n (omega (arith, ap length e, length-take n (lib.ListN.drop from h))) (λ j l. eq-eqb (getD s j 0) 0 (List·getD-eq-default s 0 l))
-      ∙ all-ext n (λ j. eqb (getD s j 0) 0) (λ j. eqb (getD h (from + j) 0) 0) (λ j l. ap (λ (v : ℕ). eqb v 0) (ap (λ (r : Bytes). getD r j 0) e ∙ getD-part h from n j l))
-
   pub zeros-none : (base size n room : ℕ) → room ≡ size → room ≤ n → true ≡ zerosAt h (base + n) (size - n)
   unfolding zerosAt allTo
   zeros-none base size n room e l = let m : size - n ≡ 0 = omega arith in rw m
@@ -108,4 +98,4 @@ module _ (h : Bytes) where
   laid-is r a b c d pages texts e f k i p j q l m = rw (eq-eqb (length h) registerSize e, ← f, not-false r k, i, j, l, m, p, q)
 
 pub ruleset layout =
-    (zeros-none, zeros-some, rows-padded, padded-is, counted-is, kind-tested, start-is, rise-tested, rises-is, unsized, uncounted, laid-is, zeros-cut)
+    (zeros-none, zeros-some, rows-padded, padded-is, counted-is, kind-tested, start-is, rise-tested, rises-is, unsized, uncounted, laid-is)

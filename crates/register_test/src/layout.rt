@@ -5,6 +5,8 @@ ghost use Rattle.register_form.specs.Form.{propertyCount};
 ghost use Rattle.register_form.specs.Tests.{rises, isCounted, isPadded, isLaid};
 ghost use Rattle.buffer.specs.Tests.{allTo, zerosAt};
 ghost use Rattle.register_test.specs.Stages.{areRowsPadded, kindTest, startAt, riseTest};
+use buffer::two_at;
+use buffer::zeros;
 use register_form::REGISTER_BYTES;
 use register_form::form_start;
 use register_form::kind_byte;
@@ -13,23 +15,7 @@ use register_form::property_count;
 use register_form::term_count;
 use register_form::text_count;
 use register_form::text_start;
-use register_form::two_at;
 use tables::widen;
-use text::part;
-
-// Whether the n bytes from a place on are 0. It never stops before the end, so that a compiler takes many bytes at a time.
-pub fn zeros(h: &[u8], from: usize, n: usize) -> bool
-    ensures { λ r. ⌜ r ≡ zerosAt (now (h .entry)) from n ⌝ }
-{
-    let s = part(h, from, n);
-    let mut ok = true;
-    let mut i: usize = 0;
-    while i < s.len() {
-        ok = ok & (s[i] == 0);
-        i += 1;
-    }
-    ok
-}
 
 // Whether a region's bytes behind the first n are 0.
 fn zeros_behind(h: &[u8], base: u16, size: u16, n: usize) -> bool

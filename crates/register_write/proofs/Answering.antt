@@ -15,7 +15,8 @@ use Rattle.sorting.specs.Listing.{listed}
 use Rattle.dictionary.specs.Items.{textAt}
 use Rattle.buffer.specs.Numbers.{zeros}
 use Rattle.register_form.specs.Form.{registerSize, placed}
-use Rattle.register_bytes.specs.Writing.{written, firstOf, Region, putRegions}
+use Rattle.buffer.specs.Writing.{written}
+use Rattle.register_bytes.specs.Writing.{firstOf, Region, putRegions}
 use Rattle.register_bytes.proofs.Filled.{dictionary-written}
 use Rattle.register_form.specs.Tables.{Tables}
 use Rattle.register_assembly.specs.Keeping.{PagesKept, Fresh, Within}

@@ -24,7 +24,8 @@ use Rattle.register_form.proofs.Rules.{within}
 use Rattle.register_form.proofs.Renumbered.{properties-many, pages-many}
 use Rattle.register_form.proofs.Assembled.{assembled-is}
 use Rattle.register_form.proofs.Drafting.{drafted-limits}
-use Rattle.register_bytes.specs.Writing.{written, rowsOf}
+use Rattle.buffer.specs.Writing.{written}
+use Rattle.register_bytes.specs.Writing.{rowsOf}
 use Rattle.register_bytes.proofs.Filled.{region-filled}
 use Rattle.register_form.specs.Tables.{Tables, draftIn}
 use Rattle.register_assembly.specs.Terms.{termBy, termsBy, Filling}

@@ -15,7 +15,8 @@ use Rattle.register_form.specs.Form.{formsOf, joined, countBytes, propertyBytes
 use Rattle.buffer.proofs.Parts.{map-tabulate, flat-more}
 use Rattle.register_form.proofs.Laying.{rises-to}
 use Rattle.register_form.proofs.Starts.{starts-tabulate}
-use Rattle.register_bytes.specs.Writing.{written, picked, firstOf, rowsOf, fourBytes, Region, putRegions, regionsOf}
+use Rattle.buffer.specs.Writing.{written}
+use Rattle.register_bytes.specs.Writing.{picked, firstOf, rowsOf, fourBytes, Region, putRegions, regionsOf}
 use Rattle.register_form.specs.Tables.{Tables}
 use Rattle.register_assembly.specs.Keeping.{keptOn, keptUpTo, PagesKept}
 use Rattle.register_write.specs.Writer.{Found, pageBy, tabled, rowRegions, listRegions}

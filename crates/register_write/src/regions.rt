@@ -7,7 +7,7 @@ ghost use Rattle.register_bytes.specs.Writing.{putRegions};
 ghost use Rattle.register_write.specs.Writer.{rowRegions, listRegions, FittedWritten};
 use crate::TOO_SHORT;
 use crate::WRITTEN;
-use register_bytes::clear;
+use buffer::clear;
 use register_bytes::put_counts;
 use register_bytes::regions::put_numbers;
 use register_bytes::regions::put_picked;

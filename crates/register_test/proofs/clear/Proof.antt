@@ -5,6 +5,7 @@ use Rattle.register_test.specs.Loops.{written}
 use Rattle.register_test.proofs.Loops.{written-more}
 use native.Mathlib.Omega.{arith}
 use borrow.Author.Needs.{needs}
+use Rattle.buffer.proofs.Testing.{tests}
 use Rattle.register_test.proofs.Loops.{loops}
 use Rattle.register_test.proofs.Trying.{cleared}
 use Rattle.register_test.proofs.clear.Statement.{statement}
@@ -17,7 +18,7 @@ abbrev μ-loop : tie.MeasureT-loop
 μ-loop t₀ i₀ t i = length t₀ - i
 
 loop-holds : tie.Need-loop-holds Inv-loop μ-loop
-loop-holds c = search (loops, needs)
+loop-holds c = search (loops, tests, needs)
 
 mul-t : tie.Need-mul-t Inv-loop μ-loop
 mul-t c = search needs

@@ -4,6 +4,7 @@ use Rattle.buffer.specs.Tests.{allTo}
 use Rattle.register_test.specs.Stages.{kindTest}
 use native.Mathlib.Omega.{arith}
 use borrow.Author.Needs.{needs}
+use Rattle.buffer.proofs.Testing.{tests}
 use Rattle.register_test.proofs.Loops.{loops}
 use Rattle.register_test.proofs.Ways.{layout}
 use Rattle.register_test.proofs.layout.are_kinds.Statement.{statement}
@@ -19,7 +20,7 @@ property-count-requires : tie.Need-property-count-requires Inv-loop μ-loop
 property-count-requires c κs = search needs
 
 loop-holds : tie.Need-loop-holds Inv-loop μ-loop
-loop-holds c = search (layout, loops, needs)
+loop-holds c = search (layout, loops, tests, needs)
 
 is-kind-requires : tie.Need-is-kind-requires Inv-loop μ-loop
 is-kind-requires c κs = search needs
@@ -31,10 +32,10 @@ loop-less : tie.Need-loop-less Inv-loop μ-loop
 loop-less c = omega arith
 
 loop-again : tie.Need-loop-again Inv-loop μ-loop
-loop-again c = search (layout, loops, needs)
+loop-again c = search (layout, loops, tests, needs)
 
 returns : tie.Need-returns Inv-loop μ-loop
-returns c = search (layout, loops, needs)
+returns c = search (layout, loops, tests, needs)
 
 pub are-kinds-spec : {M : Type 1} → statement M
 are-kinds-spec =

@@ -4,6 +4,7 @@ use Rattle.buffer.specs.Tests.{allTo}
 use Rattle.register_test.specs.Stages.{riseTest}
 use native.Mathlib.Omega.{arith}
 use borrow.Author.Needs.{needs}
+use Rattle.buffer.proofs.Testing.{tests}
 use Rattle.register_test.proofs.Loops.{loops}
 use Rattle.register_test.proofs.Ways.{layout}
 use Rattle.register_test.proofs.layout.never_falls.Statement.{statement}
@@ -16,7 +17,7 @@ abbrev μ-loop : tie.MeasureT-loop
 μ-loop h table n ok₀ i₀ ok i = n - i
 
 loop-holds : tie.Need-loop-holds Inv-loop μ-loop
-loop-holds c = search (layout, loops, needs)
+loop-holds c = search (layout, loops, tests, needs)
 
 keeps-up-requires : tie.Need-keeps-up-requires Inv-loop μ-loop
 keeps-up-requires c κs = search needs
@@ -28,10 +29,10 @@ loop-less : tie.Need-loop-less Inv-loop μ-loop
 loop-less c = omega arith
 
 loop-again : tie.Need-loop-again Inv-loop μ-loop
-loop-again c = search (layout, loops, needs)
+loop-again c = search (layout, loops, tests, needs)
 
 returns : tie.Need-returns Inv-loop μ-loop
-returns c = search (layout, loops, needs)
+returns c = search (layout, loops, tests, needs)
 
 pub never-falls-spec : {M : Type 1} → statement M
 never-falls-spec =

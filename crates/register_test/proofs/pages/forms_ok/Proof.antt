@@ -8,6 +8,7 @@ use Rattle.register_test.proofs.PageWays.{form-is, form-in, behind-more
 use Rattle.register_test.proofs.Loops.{written-more}
 use native.Mathlib.Omega.{arith}
 use borrow.Author.Needs.{needs}
+use Rattle.buffer.proofs.Testing.{tests}
 use Rattle.register_test.proofs.Loops.{loops}
 use Rattle.register_test.proofs.PageWays.{pages}
 use Rattle.register_test.proofs.pages.forms_ok.Statement.{statement}
@@ -32,7 +33,7 @@ term-count-requires : tie.Need-term-count-requires Inv-loop μ-loop
 term-count-requires c κs = search needs
 
 loop-holds : tie.Need-loop-holds Inv-loop μ-loop
-loop-holds c = search (pages, loops, needs)
+loop-holds c = search (pages, loops, tests, needs)
 
 add-form-at : tie.Need-add-form-at Inv-loop μ-loop
 add-form-at c = omega arith
@@ -82,10 +83,10 @@ loop-again c =
     )
 
 same-length : tie.Need-same-length Inv-loop μ-loop
-same-length c = search (loops, needs)
+same-length c = search (loops, tests, needs)
 
 returns : tie.Need-returns Inv-loop μ-loop
-returns c = search (pages, loops, needs)
+returns c = search (pages, loops, tests, needs)
 
 pub forms-ok-spec : {M : Type 1} → statement M
 forms-ok-spec =

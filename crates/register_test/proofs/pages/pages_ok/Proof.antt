@@ -7,6 +7,7 @@ use Rattle.register_test.proofs.PageWays.{page-more, page-sum, last-mor
 use Rattle.register_test.proofs.Loops.{written-more}
 use native.Mathlib.Omega.{arith}
 use borrow.Author.Needs.{needs}
+use Rattle.buffer.proofs.Testing.{tests}
 use Rattle.register_test.proofs.Loops.{loops}
 use Rattle.register_test.proofs.PageWays.{pages}
 use Rattle.register_test.proofs.pages.pages_ok.Statement.{statement}
@@ -22,7 +23,7 @@ page-count-requires : tie.Need-page-count-requires Inv-loop μ-loop
 page-count-requires c κs = search needs
 
 loop-holds : tie.Need-loop-holds Inv-loop μ-loop
-loop-holds c = search (pages, loops, needs)
+loop-holds c = search (pages, loops, tests, needs)
 
 add-next : tie.Need-add-next Inv-loop μ-loop
 add-next c = omega arith
@@ -61,13 +62,13 @@ loop-again : tie.Need-loop-again Inv-loop μ-loop
 loop-again c = (omega arith, search (page-more, needs), search (page-sum, needs), search (last-more, needs), search (written-more, needs), search needs)
 
 same-length : tie.Need-same-length Inv-loop μ-loop
-same-length c = search (pages, loops, needs)
+same-length c = search (pages, loops, tests, needs)
 
 same-length-2 : tie.Need-same-length-2 Inv-loop μ-loop
-same-length-2 c = search (pages, loops, needs)
+same-length-2 c = search (pages, loops, tests, needs)
 
 returns : tie.Need-returns Inv-loop μ-loop
-returns c = search (pages, loops, needs)
+returns c = search (pages, loops, tests, needs)
 
 pub pages-ok-spec : {M : Type 1} → statement M
 pages-ok-spec =

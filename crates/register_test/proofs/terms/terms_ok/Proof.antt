@@ -6,6 +6,7 @@ use Rattle.register_test.proofs.TermWays.{term-more, text-of, bytes-of}
 use Rattle.register_test.proofs.Loops.{written-more}
 use native.Mathlib.Omega.{arith}
 use borrow.Author.Needs.{needs}
+use Rattle.buffer.proofs.Testing.{tests}
 use Rattle.register_test.proofs.Loops.{loops}
 use Rattle.register_test.proofs.TermWays.{terms}
 use Rattle.register_test.proofs.terms.terms_ok.Statement.{statement}
@@ -21,7 +22,7 @@ term-count-requires : tie.Need-term-count-requires Inv-loop μ-loop
 term-count-requires c κs = search needs
 
 loop-holds : tie.Need-loop-holds Inv-loop μ-loop
-loop-holds c = search (terms, loops, needs)
+loop-holds c = search (terms, loops, tests, needs)
 
 judge-term-requires : tie.Need-judge-term-requires Inv-loop μ-loop
 judge-term-requires c κs = search needs
@@ -51,13 +52,13 @@ loop-again : tie.Need-loop-again Inv-loop μ-loop
 loop-again c = (omega arith, search (term-more, needs), search (written-more, text-of, needs), search (written-more, bytes-of, needs))
 
 same-length : tie.Need-same-length Inv-loop μ-loop
-same-length c = search (loops, needs)
+same-length c = search (loops, tests, needs)
 
 same-length-2 : tie.Need-same-length-2 Inv-loop μ-loop
-same-length-2 c = search (loops, needs)
+same-length-2 c = search (loops, tests, needs)
 
 returns : tie.Need-returns Inv-loop μ-loop
-returns c = search (terms, loops, needs)
+returns c = search (terms, loops, tests, needs)
 
 pub terms-ok-spec : {M : Type 1} → statement M
 terms-ok-spec =

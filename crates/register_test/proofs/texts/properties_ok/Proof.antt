@@ -7,6 +7,7 @@ use Rattle.register_test.specs.Loops.{sumTo}
 use Rattle.register_test.specs.Stages.{propertyTest, propertyLength, namesTo}
 use native.Mathlib.Omega.{arith}
 use borrow.Author.Needs.{needs}
+use Rattle.buffer.proofs.Testing.{tests}
 use Rattle.register_test.proofs.Loops.{loops}
 use Rattle.register_test.proofs.TextWays.{texts}
 use Rattle.register_test.proofs.texts.properties_ok.Statement.{statement}
@@ -22,7 +23,7 @@ property-count-requires : tie.Need-property-count-requires Inv-loop μ-loop
 property-count-requires c κs = search needs
 
 loop-holds : tie.Need-loop-holds Inv-loop μ-loop
-loop-holds c = search (texts, loops, needs)
+loop-holds c = search (texts, loops, tests, needs)
 
 name-number-requires : tie.Need-name-number-requires Inv-loop μ-loop
 name-number-requires c κs = search needs
@@ -55,10 +56,10 @@ loop-again : tie.Need-loop-again Inv-loop μ-loop
 loop-again c = (omega arith, search (property-more, needs), search (property-sum, needs), search (written-more, needs), search needs)
 
 same-length : tie.Need-same-length Inv-loop μ-loop
-same-length c = search (loops, needs)
+same-length c = search (loops, tests, needs)
 
 returns : tie.Need-returns Inv-loop μ-loop
-returns c = search (texts, loops, needs)
+returns c = search (texts, loops, tests, needs)
 
 pub properties-ok-spec : {M : Type 1} → statement M
 properties-ok-spec =

@@ -2,10 +2,12 @@ use Prim.Native.Nat.{_≤_, _-_}
 use mathlib.Core.Path.{_≡_, ap, _∙_}
 use Rattle.register_form.specs.Form.{textAt}
 use Rattle.buffer.specs.Tests.{allTo}
-use Rattle.register_test.proofs.Loops.{all-more, written-more}
+use Rattle.buffer.proofs.Testing.{all-more}
+use Rattle.register_test.proofs.Loops.{written-more}
 use Rattle.register_test.specs.Stages.{classOf, textTest, classesTo}
 use native.Mathlib.Omega.{arith}
 use borrow.Author.Needs.{needs}
+use Rattle.buffer.proofs.Testing.{tests}
 use Rattle.register_test.proofs.Loops.{loops}
 use Rattle.register_test.proofs.TextWays.{texts}
 use Rattle.register_test.proofs.texts.texts_ok.Statement.{statement}
@@ -24,7 +26,7 @@ byte-rules-requires : tie.Need-byte-rules-requires Inv-loop μ-loop
 byte-rules-requires c κs = search needs
 
 loop-holds : tie.Need-loop-holds Inv-loop μ-loop
-loop-holds c = search (texts, loops, needs)
+loop-holds c = search (texts, loops, tests, needs)
 
 text-at-requires : tie.Need-text-at-requires Inv-loop μ-loop
 text-at-requires c κs = search needs
@@ -56,10 +58,10 @@ loop-again c =
     (omega arith, search (all-more, needs), search (written-more, needs))
 
 same-length : tie.Need-same-length Inv-loop μ-loop
-same-length c = search (loops, needs)
+same-length c = search (loops, tests, needs)
 
 returns : tie.Need-returns Inv-loop μ-loop
-returns c = search (texts, loops, needs)
+returns c = search (texts, loops, tests, needs)
 
 pub texts-ok-spec : {M : Type 1} → statement M
 texts-ok-spec =

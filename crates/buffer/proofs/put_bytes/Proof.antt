@@ -1,9 +1,9 @@
 use Prim.Native.Nat.{_-_}
 use lib.ListN.{length}
 use borrow.Author.Needs.{needs}
-use Rattle.register_bytes.proofs.Looping.{Bytewise, bytewise}
-use Rattle.register_bytes.proofs.put_bytes.Statement.{statement}
-use Rattle.register_bytes.proofs.put_bytes.Tie as tie
+use Rattle.buffer.proofs.Looping.{Bytewise, bytewise}
+use Rattle.buffer.proofs.put_bytes.Statement.{statement}
+use Rattle.buffer.proofs.put_bytes.Tie as tie
 
 abbrev Inv-loop : tie.InvT-loop
 Inv-loop h₀ at v i₀ to₀ h i to = Bytewise h₀ at v h i to

@@ -1,8 +1,8 @@
 use Prim.Native.Nat.{_-_}
 use borrow.Author.Needs.{needs}
-use Rattle.register_bytes.proofs.Looping.{Clearing, clearing}
-use Rattle.register_bytes.proofs.clear.Statement.{statement}
-use Rattle.register_bytes.proofs.clear.Tie as tie
+use Rattle.buffer.proofs.Looping.{Clearing, clearing}
+use Rattle.buffer.proofs.clear.Statement.{statement}
+use Rattle.buffer.proofs.clear.Tie as tie
 
 abbrev Inv-loop : tie.InvT-loop
 Inv-loop h₀ n end i₀ h i = Clearing h₀ n h i

@@ -1,14 +1,13 @@
 use Prim.Native.Nat.{_≤_, _-_}
 use mathlib.Core.Path.{_≡_}
 use Rattle.buffer.specs.Tests.{allTo}
 use lib.Dec.{eqb}
 use lib.ListN.{getD, length}
 use native.Mathlib.Omega.{arith}
 use borrow.Author.Needs.{needs}
-use Rattle.register_test.proofs.Loops.{loops}
-use Rattle.register_test.proofs.Ways.{layout}
-use Rattle.register_test.proofs.layout.zeros.Statement.{statement}
-use Rattle.register_test.proofs.layout.zeros.Tie as tie
+use Rattle.buffer.proofs.Testing.{tests}
+use Rattle.buffer.proofs.zeros.Statement.{statement}
+use Rattle.buffer.proofs.zeros.Tie as tie
 
 abbrev Inv-loop : tie.InvT-loop
 Inv-loop h from n s ok₀ i₀ ok i = (i ≤ length s) × (ok ≡ allTo i (λ j. eqb (getD s j 0) 0))
@@ -20,7 +19,7 @@ part-requires : tie.Need-part-requires Inv-loop μ-loop
 part-requires c κs = search needs
 
 loop-holds : tie.Need-loop-holds Inv-loop μ-loop
-loop-holds c = search (layout, loops, needs)
+loop-holds c = search (tests, needs)
 
 shared-slice-read-ok : tie.Need-shared-slice-read-ok Inv-loop μ-loop
 shared-slice-read-ok c = search needs
@@ -32,10 +31,10 @@ loop-less : tie.Need-loop-less Inv-loop μ-loop
 loop-less c = omega arith
 
 loop-again : tie.Need-loop-again Inv-loop μ-loop
-loop-again c = search (layout, loops, needs)
+loop-again c = search (tests, needs)
 
 returns : tie.Need-returns Inv-loop μ-loop
-returns c = search (layout, loops, needs)
+returns c = search (tests, needs)
 
 pub zeros-spec : {M : Type 1} → statement M
 zeros-spec =

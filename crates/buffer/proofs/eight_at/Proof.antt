@@ -1,7 +1,7 @@
-use Rattle.register_form.proofs.Ways.{reading}
+use Rattle.buffer.proofs.Reading.{reading}
 use borrow.Author.Needs.{needs}
-use Rattle.register_form.proofs.eight_at.Statement.{statement}
-use Rattle.register_form.proofs.eight_at.Tie as tie
+use Rattle.buffer.proofs.eight_at.Statement.{statement}
+use Rattle.buffer.proofs.eight_at.Tie as tie
 
 returns : tie.Need-returns
 returns c = search (reading, needs)

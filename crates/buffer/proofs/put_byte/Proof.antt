@@ -1,7 +1,7 @@
-use Rattle.register_bytes.proofs.Written.{puts}
+use Rattle.buffer.proofs.Written.{puts}
 use borrow.Author.Needs.{needs}
-use Rattle.register_bytes.proofs.put_byte.Statement.{statement}
-use Rattle.register_bytes.proofs.put_byte.Tie as tie
+use Rattle.buffer.proofs.put_byte.Statement.{statement}
+use Rattle.buffer.proofs.put_byte.Tie as tie
 
 slice-write-h : tie.Need-slice-write-h
 slice-write-h c = search needs
