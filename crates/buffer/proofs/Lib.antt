@@ -5,3 +5,4 @@ pub mod Reading
 pub mod Written
 pub mod Looping
 pub mod Testing
+pub mod Padding
