@@ -1,6 +1,6 @@
 pub mod Postfix
-pub mod Written
+pub mod Slots
+pub mod Laying
 pub mod Ways
-pub mod Kept
 pub mod Stacks
 mod Tags

@@ -10,6 +10,7 @@ use lib.Dec.{leb, eqb}
 use lib.ListN.{length}
 use borrow.Author.Tests.{le-leb, lt-leb, leb-true, leb-false, ne-eqb, not-true, not-false}
 use Rattle.text.specs.Bytes.{Bytes}
+use Rattle.buffer.specs.Numbers.{twoAt}
 use Rattle.values.specs.Values.{mapOption}
 use Rattle.language.specs.Answer.{_>>=_, onlyIf}
 use Rattle.language.specs.Core.{Core}
@@ -18,7 +19,7 @@ use Rattle.nodes.specs.declared.Connective.{Connective}
 use Rattle.nodes.specs.declared.Node.{Node as DeclaredNode}
 use Rattle.nodes.specs.declared.NodeRead.{NodeRead}
 use Rattle.nodes.specs.Postfix.{Node, post, stepped, runs, only, readBack}
-use Rattle.nodes.specs.Held.{querySize, twoAt, countIn, textIn, nodeIn, nodesTo, hasSizes, heldQuery}
+use Rattle.nodes.specs.Held.{querySize, countIn, heapIn, nodeIn, nodesTo, hasSizes, heldQuery}
 use Rattle.nodes.specs.Reading.{joinedBy, nodeBy, Reads}
 use Rattle.nodes.specs.Stack.{isSome, stackAt, heightAt, Holds, arity, risen, joinedArity, arityBy}
 use Rattle.nodes.proofs.Postfix.{runs-append, runs-post}
@@ -147,12 +148,10 @@ held-holds h q e = go (hasSizes h) refl e
     go : (b : Bool) → hasSizes h ≡ b → onlyIf b (nodesTo h (countIn h) >>= readBack) ≡ some q → Holds h q
     go false f g = let z : _≡_ {A = ℕ} 0 1 = cc in absurd (omega arith)
     go true f g =
-        let a = and-eq-true-iff (leb querySize (length h) && leb (twoAt h 0) 1024 && leb 1 (countIn h)) (leb (countIn h) 256) .0 f in
-        let b = and-eq-true-iff (leb querySize (length h) && leb (twoAt h 0) 1024) (leb 1 (countIn h)) .0 (a .0) in
-        let c = and-eq-true-iff (leb querySize (length h)) (leb (twoAt h 0) 1024) .0 (b .0) in
+        let a = and-eq-true-iff (leb querySize (length h) && leb 1 (countIn h)) (leb (countIn h) 256) .0 f in
+        let b = and-eq-true-iff (leb querySize (length h)) (leb 1 (countIn h)) .0 (a .0) in
         record {
-          long = leb-true querySize (length h) (c .0);
-          short = leb-true (twoAt h 0) 1024 (c .1);
+          long = leb-true querySize (length h) (b .0);
           some-node = leb-true 1 (countIn h) (b .1);
           few = leb-true (countIn h) 256 (a .1);
           stack = only-some (stackAt h (countIn h)) q (sym (reads-stack h (countIn h)) ∙ g);
@@ -161,7 +160,7 @@ held-holds h q e = go (hasSizes h) refl e
 pub holds-held : (h : Bytes) (q : Core) → Holds h q → heldQuery h ≡ some q
 unfolding heldQuery
 holds-held h q k =
-    rw (le-leb querySize (length h) (k .long), le-leb (twoAt h 0) 1024 (k .short), le-leb 1 (countIn h) (k .some-node), le-leb (countIn h) 256 (k .few), reads-stack h (countIn h), k .stack)
+    rw (le-leb querySize (length h) (k .long), le-leb 1 (countIn h) (k .some-node), le-leb (countIn h) 256 (k .few), reads-stack h (countIn h), k .stack)
 
 -- The code of a query leaves that query.
 pub stack-post : (h : Bytes) (n : ℕ) (q : Core) → nodesTo h n ≡ some (post q) → stackAt h n ≡ some (q ∷ [])
@@ -169,37 +168,37 @@ unfolding stackAt
 stack-post h n q e = rw e (runs-post q [])
 
 -- The ways of the loop: no node, a node that lacks what it takes, a node more.
-module _ (h : Bytes) (i k : ℕ) (e : heightAt h i ≡ some k) (r : NodeRead) (u : Reads (textIn h) (nodeIn h i) r) where
+module _ (h : Bytes) (i k : ℕ) (e : heightAt h i ≡ some k) (r : NodeRead) (u : Reads (heapIn h) (nodeIn h i) r) where
   pub height-unread : r ≡ NodeRead.Nothing → heightAt h (suc i) ≡ none
   height-unread f = height-suc h i ∙ rw (e, u .is, f)
 
   module _ (x : DeclaredNode) (f : r ≡ NodeRead.Is x) (a : ℕ) (g : a ≡ arityBy x) where
-    height-read : heightAt h (suc i) ≡ risen (nodeBy (textIn h) x) k
+    height-read : heightAt h (suc i) ≡ risen (nodeBy (heapIn h) x) k
     height-read = height-suc h i ∙ rw (e, u .is, f)
 
-    same : arity (nodeBy (textIn h) x) ≡ a
-    same = arity-is (textIn h) (x .connective) (x .selector) ∙ sym g
+    same : arity (nodeBy (heapIn h) x) ≡ a
+    same = arity-is (heapIn h) (x .connective) (x .selector) ∙ sym g
 
     pub height-lacks : k < a → heightAt h (suc i) ≡ none
-    height-lacks l = height-read ∙ risen-none (nodeBy (textIn h) x) k (omega (arith, same))
+    height-lacks l = height-read ∙ risen-none (nodeBy (heapIn h) x) k (omega (arith, same))
 
     pub height-step : a ≤ k → heightAt h (i + 1) ≡ some ((k - a) + 1)
-    height-step l = rw (add-one i) (height-read ∙ risen-some (nodeBy (textIn h) x) k ((k - a) + 1) (omega (arith, same)) (omega (arith, same)))
+    height-step l = rw (add-one i) (height-read ∙ risen-some (nodeBy (heapIn h) x) k ((k - a) + 1) (omega (arith, same)) (omega (arith, same)))
 
 -- The ways of the test.
-module _ (h : Bytes) (n m : ℕ) (e : n ≡ twoAt h 2) (f : m ≡ twoAt h 0) where
-  pub query-unsized : not (leb 6148 (length h) && leb m 1024 && leb 1 n && leb n 256) ≡ true → false ≡ isSome (heldQuery h)
+module _ (h : Bytes) (n m : ℕ) (f : m ≡ twoAt h 0) (e : n ≡ m) where
+  pub query-unsized : not (leb querySize (length h) && leb 1 n && leb n 256) ≡ true → false ≡ isSome (heldQuery h)
   unfolding heldQuery
   query-unsized g =
-      let w : (leb 6148 (length h) && leb m 1024 && leb 1 n && leb n 256) ≡ false = not-true _ g in
-      rw (← e, ← f, w)
+      let w : (leb querySize (length h) && leb 1 n && leb n 256) ≡ false = not-true _ g in
+      rw (← f, ← e, w)
 
-  module _ (g : not (leb 6148 (length h) && leb m 1024 && leb 1 n && leb n 256) ≡ false) where
+  module _ (g : not (leb querySize (length h) && leb 1 n && leb n 256) ≡ false) where
     query-is : isSome (heldQuery h) ≡ isSome (stackAt h n >>= only)
     unfolding heldQuery
     query-is =
-        let w : (leb 6148 (length h) && leb m 1024 && leb 1 n && leb n 256) ≡ true = not-false _ g in
-        rw (← e, ← f, w, reads-stack h n)
+        let w : (leb querySize (length h) && leb 1 n && leb n 256) ≡ true = not-false _ g in
+        rw (← f, ← e, w, reads-stack h n)
 
     pub query-broken : (i : ℕ) → i < n → heightAt h (suc i) ≡ none → false ≡ isSome (heldQuery h)
     unfolding heightAt

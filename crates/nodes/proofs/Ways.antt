@@ -26,7 +26,7 @@ use Rattle.nodes.specs.declared.ComparatorRead.{ComparatorRead}
 use Rattle.nodes.specs.declared.ConstantRead.{ConstantRead}
 use Rattle.nodes.specs.declared.NodeRead.{NodeRead}
 use Rattle.nodes.specs.Postfix.{Node}
-use Rattle.nodes.specs.Held.{twoAt, slot, textIn, comparatorFrom, numberFrom, constantFrom, constantOf, nodeFrom, nodeOf, slotFrom, nodeIn}
+use Rattle.nodes.specs.Held.{slot, heapIn, comparatorFrom, numberFrom, constantFrom, constantOf, nodeFrom, nodeOf, slotFrom, nodeIn}
 use Rattle.nodes.specs.Reading.{constantBy, selectorBy, keepsConstant, keepsSelector, comparatorRead, chosen, ConstantReads, selected, joining, Reads}
 
 -- The constant of a slot, by its kind.
@@ -165,6 +165,6 @@ slot-past h i l =
     let k : length h ≤ slot i = omega arith in
     rw (drop-of-length-le h k, take-nil)
 
-pub in-place : (h t b : Bytes) (i n tag : ℕ) (r : NodeRead) → n ≡ twoAt h 0 → t ≡ part h 4 n → b ≡ part h (slot i) 20 → tag ≡ getD b 0 0 → Reads t (nodeOf t tag (slotFrom b)) r → Reads (textIn h) (nodeIn h i) r
+pub in-place : (h t b : Bytes) (i tag : ℕ) (r : NodeRead) → t ≡ heapIn h → b ≡ part h (slot i) 20 → tag ≡ getD b 0 0 → Reads t (nodeOf t tag (slotFrom b)) r → Reads (heapIn h) (nodeIn h i) r
 unfolding nodeIn slotFrom nodeOf constantOf
-in-place h t b i n tag r e f g k u = rw (← e, ← f, ← g, ← k) u
+in-place h t b i tag r f g k u = rw (← f, ← g, ← k) u

@@ -1,5 +1,5 @@
--- The held query: 6,148 bytes. Two bytes with the length of the query text, two with the number of nodes (low byte first), 1,024
--- bytes for the text, then 256 nodes of 20 bytes in postfix order. docs/LAYOUT.md has it byte by byte.
+-- The held query: 21,570 bytes. Two bytes with the number of nodes (low byte first), 256 nodes of 20 bytes in postfix order, then a
+-- heap of 16,448 bytes with their names and string constants. docs/LAYOUT.md has it byte by byte.
 use Prim.Native.Nat.{ℕ, zero, suc, _+_, _*_}
 use mathlib.Core.Bool.{Bool, true, false, cond, _&&_}
 use mathlib.Core.List.{List, [], _∷_, _++_}
@@ -9,6 +9,7 @@ use lib.ListN.{length, getD}
 use lib.IntN.{ℤ, subℕ}
 use Rattle.text.specs.Bytes.{Bytes, part}
 use Rattle.text.specs.Parts.{partOf}
+use Rattle.buffer.specs.Numbers.{twoAt, eightAt}
 use Rattle.values.specs.Names.{isName, isPropertyName, isNamespace, isValue}
 use Rattle.values.specs.Values.{Constant, number, boolean, string}
 use Rattle.values.specs.Answers.{base}
@@ -19,27 +20,20 @@ use Rattle.nodes.specs.declared.Slot.{Slot}
 use Rattle.nodes.specs.Postfix.{Node, readBack}
 
 abbrev pub querySize : ℕ
-querySize = 6148
+querySize = 21570
 
--- Two and eight bytes as a number, the low byte first.
-abbrev pub twoAt : Bytes → ℕ → ℕ
-twoAt h i = getD h i 0 + 256 * getD h (i + 1) 0
-
-unfoldable pub eightAt : Bytes → ℕ → ℕ
-eightAt h i = twoAt h i + 65536 * (twoAt h (i + 2) + 65536 * (twoAt h (i + 4) + 65536 * twoAt h (i + 6)))
-
--- The query text that is held, and the number of nodes.
-abbrev pub textIn : Bytes → Bytes
-textIn h = part h 4 (twoAt h 0)
-
+-- The number of nodes, and the names and string constants that are held.
 abbrev pub countIn : Bytes → ℕ
-countIn h = twoAt h 2
+countIn h = twoAt h 0
 
 abbrev pub slot : ℕ → ℕ
-slot i = 1028 + 20 * i
+slot i = 2 + 20 * i
+
+abbrev pub heapIn : Bytes → Bytes
+heapIn h = part h 5122 16448
 
 -- The numbers in a node's 20 bytes: the tag, the comparator, the constant's kind, its truth value, start and length of two
--- texts within the query text, a number.
+-- strings within the heap, a number.
 unfoldable pub slotFrom : Bytes → Slot
 slotFrom b =
     record {
@@ -63,7 +57,7 @@ comparatorFrom c =
 unfoldable pub numberFrom : ℕ → Option ℤ
 numberFrom n = onlyIf (ltb 0 n && ltb n (2 * base)) (some (subℕ n base))
 
--- A constant by its kind: 0 a number, 1 a truth value, 2 a string, the slot's second text.
+-- A constant by its kind: 0 a number, 1 a truth value, 2 a string, the slot's second one.
 unfoldable pub constantFrom : ℕ → ℕ → ℕ → Bytes → Option Constant
 constantFrom kind b n s =
     cond (eqb kind 0) (numberFrom n >>= λ z. some (number z))
@@ -82,7 +76,7 @@ nodeFrom tag c v x y =
     (cond (eqb tag 6) (onlyIf (isName y) (comparatorFrom c >>= λ d. some (Node.article d y)))
     (cond (eqb tag 7) (onlyIf (isPropertyName x) (comparatorFrom c >>= λ d. v >>= λ w. some (Node.value x d w))) none)))))))
 
--- The constant of a slot, and the node that it is by a tag; their texts lie in s.
+-- The constant of a slot, and the node that it is by a tag; their strings lie in s.
 unfoldable pub constantOf : Bytes → Slot → Option Constant
 constantOf s x = constantFrom (x .kind) (x .truth) (x .number) (partOf s (x .second))
 
@@ -94,7 +88,7 @@ abbrev pub slotIn : Bytes → ℕ → Slot
 slotIn h i = slotFrom (part h (slot i) 20)
 
 unfoldable pub nodeIn : Bytes → ℕ → Option Node
-nodeIn h i = nodeOf (textIn h) (slotIn h i .tag) (slotIn h i)
+nodeIn h i = nodeOf (heapIn h) (slotIn h i .tag) (slotIn h i)
 
 -- The first n nodes, if each is one.
 unfoldable pub nodesTo : Bytes → ℕ → Option (List Node)
@@ -103,7 +97,7 @@ nodesTo h (suc n) = nodesTo h n >>= λ l. nodeIn h n >>= λ m. some (l ++ (m ∷
 
 -- The core query that bytes hold, if they are the form of one of 1 to 256 nodes.
 abbrev pub hasSizes : Bytes → Bool
-hasSizes h = leb querySize (length h) && leb (twoAt h 0) 1024 && leb 1 (countIn h) && leb (countIn h) 256
+hasSizes h = leb querySize (length h) && leb 1 (countIn h) && leb (countIn h) 256
 
 unfoldable pub heldQuery : Bytes → Option Core
 heldQuery h = onlyIf (hasSizes h) (nodesTo h (countIn h) >>= readBack)

@@ -1,5 +1,6 @@
 pub mod Postfix
 pub mod Held
+pub mod Form
 pub mod Reading
 pub mod Writing
 pub mod Stack

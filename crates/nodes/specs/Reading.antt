@@ -22,7 +22,7 @@ use Rattle.nodes.specs.declared.NodeRead.{NodeRead}
 use Rattle.nodes.specs.Postfix as Postfix
 use Rattle.nodes.specs.Held.{constantOf}
 
--- The constant, and the postfix node, that a declared one is; s is the query text.
+-- The constant, and the postfix node, that a declared one is; their strings lie in s.
 abbrev pub constantBy : Bytes → Constant → CoreConstant
 constantBy s (Constant.Number n) = number (subℕ n base)
 constantBy s (Constant.Boolean b) = boolean b

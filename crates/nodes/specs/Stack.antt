@@ -15,7 +15,7 @@ use Rattle.nodes.specs.declared.Connective.{Connective}
 use Rattle.nodes.specs.declared.Node.{Node}
 use Rattle.nodes.specs.Postfix.{runs}
 use Rattle.nodes.specs.Postfix as Postfix
-use Rattle.nodes.specs.Held.{querySize, twoAt, countIn, nodesTo}
+use Rattle.nodes.specs.Held.{querySize, countIn, nodesTo}
 
 -- Something was read.
 abbrev pub isSome : {A : Type 0} → Option A → Bool
@@ -32,7 +32,6 @@ heightAt h i = mapOption length (stackAt h i)
 -- The bytes hold the query q: they are of the right size, and q alone is left on the stack.
 pub record Holds (h : Bytes) (q : Core) : Type 0 where
   pub long : querySize ≤ length h
-  pub short : twoAt h 0 ≤ 1024
   pub some-node : 1 ≤ countIn h
   pub few : countIn h ≤ 256
   pub stack : stackAt h (countIn h) ≡ some (q ∷ [])

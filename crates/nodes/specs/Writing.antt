@@ -1,107 +1,90 @@
--- Working definitions: bytes written into a buffer, and a declared node as a slot and as 20 bytes.
-use Prim.Native.Nat.{ℕ, _/_, _%_, _<_, _^_}
-use mathlib.Core.Bool.{cond, _&&_}
-use mathlib.Core.List.{[], _∷_, _++_}
-use lib.Dec.{ltb, leb}
+-- Working definitions: a declared node as a slot, the strings that it takes along, and a buffer that nodes are laid into.
+use Prim.Native.Nat.{ℕ, _+_, _≤_, min}
+use mathlib.Core.Path.{_≡_}
+use mathlib.Core.Bool.{Bool}
+use mathlib.Core.List.{List, [], _∷_, _++_}
+use lib.Dec.{leb}
 use lib.ListN.{length}
-use lib.Seq.{sets}
 use Rattle.text.specs.Bytes.{Bytes}
-use Rattle.text.specs.Table.{bit}
 use Rattle.text.specs.declared.Span.{Span}
-use Rattle.language.specs.declared.Comparator.{Comparator}
+use Rattle.buffer.specs.Numbers.{zeros, padded}
 use Rattle.nodes.specs.declared.Constant.{Constant}
 use Rattle.nodes.specs.declared.Selector.{Selector}
 use Rattle.nodes.specs.declared.Connective.{Connective}
 use Rattle.nodes.specs.declared.Node.{Node}
 use Rattle.nodes.specs.declared.Slot.{Slot}
-use Rattle.nodes.specs.Held.{querySize, slot}
+use Rattle.nodes.specs.declared.Strings.{Strings}
+use Rattle.nodes.specs.declared.Place.{Place}
+use Rattle.nodes.specs.Postfix as Postfix
+use Rattle.nodes.specs.Held.{querySize}
+use Rattle.nodes.specs.Form.{strings, codeOf, noSpan, tagged, numberSlot, truthSlot, stringSlot, slotsFrom, queryBytes}
+use Rattle.nodes.specs.Reading.{nodeBy}
 
--- The bytes v from a place on, as far as there is room.
-unfoldable pub written : Bytes → ℕ → Bytes → Bytes
-written h at v = sets h at v
+-- Where the strings of a declared node lie: the first and the second of its slot.
+abbrev pub stringsOf : Span → Span → Strings
+stringsOf p q = record { first = p; second = q }
 
--- A number as two and as eight bytes, the low byte first.
-abbrev pub twoBytes : ℕ → Bytes
-twoBytes n = n % 256 ∷ n / 256 % 256 ∷ []
+abbrev pub constantStrings : Span → Constant → Strings
+constantStrings p (Constant.Number n) = stringsOf p noSpan
+constantStrings p (Constant.Boolean b) = stringsOf p noSpan
+constantStrings p (Constant.String q) = stringsOf p q
 
-abbrev pub eightBytes : ℕ → Bytes
-eightBytes n = twoBytes n ++ twoBytes (n / 65536) ++ twoBytes (n / 65536 / 65536) ++ twoBytes (n / 65536 / 65536 / 65536)
+abbrev pub selectorStrings : Selector → Strings
+selectorStrings (Selector.Category p) = stringsOf p noSpan
+selectorStrings (Selector.Namespace p) = stringsOf p noSpan
+selectorStrings (Selector.Existence p) = stringsOf p noSpan
+selectorStrings (Selector.Subquery p) = stringsOf p noSpan
+selectorStrings (Selector.Article c p) = stringsOf noSpan p
+selectorStrings (Selector.Value p c k) = constantStrings p k
 
--- The numbers that hold a node.
-abbrev pub codeOf : Comparator → ℕ
-codeOf Comparator.Equal = 0
-codeOf Comparator.Unequal = 1
-codeOf Comparator.Greater = 2
-codeOf Comparator.Less = 3
+abbrev pub joinedStrings : Connective → Selector → Strings
+joinedStrings Connective.And x = stringsOf noSpan noSpan
+joinedStrings Connective.Or x = stringsOf noSpan noSpan
+joinedStrings Connective.Select x = selectorStrings x
 
-abbrev pub noSpan : Span
-noSpan = record { start = 0; len = 0 }
+abbrev pub nodeStrings : Node → Strings
+nodeStrings n = joinedStrings (n .connective) (n .selector)
 
-abbrev pub tagged : ℕ → ℕ → Span → Span → Slot
-tagged t c p q = record { tag = t; comparator = c; kind = 0; truth = 0; first = p; second = q; number = 0 }
+-- The slot of a declared node whose strings lie at p and q in the heap.
+abbrev pub constantSlot : ℕ → Constant → Span → Span → Slot
+constantSlot c (Constant.Number n) p q = numberSlot p c n
+constantSlot c (Constant.Boolean b) p q = truthSlot p c b
+constantSlot c (Constant.String r) p q = stringSlot p c q
 
-abbrev pub constantSlot : Span → ℕ → Constant → Slot
-constantSlot p c (Constant.Number n) = record { tag = 7; comparator = c; kind = 0; truth = 0; first = p; second = noSpan; number = n }
-constantSlot p c (Constant.Boolean b) = record { tag = 7; comparator = c; kind = 1; truth = bit b; first = p; second = noSpan; number = 0 }
-constantSlot p c (Constant.String q) = record { tag = 7; comparator = c; kind = 2; truth = 0; first = p; second = q; number = 0 }
+abbrev pub selectorSlot : Selector → Span → Span → Slot
+selectorSlot (Selector.Category r) p q = tagged 2 0 p noSpan
+selectorSlot (Selector.Namespace r) p q = tagged 3 0 p noSpan
+selectorSlot (Selector.Existence r) p q = tagged 4 0 p noSpan
+selectorSlot (Selector.Subquery r) p q = tagged 5 0 p noSpan
+selectorSlot (Selector.Article c r) p q = tagged 6 (codeOf c) noSpan q
+selectorSlot (Selector.Value r c k) p q = constantSlot (codeOf c) k p q
 
-abbrev pub selectorSlot : Selector → Slot
-selectorSlot (Selector.Category p) = tagged 2 0 p noSpan
-selectorSlot (Selector.Namespace p) = tagged 3 0 p noSpan
-selectorSlot (Selector.Existence p) = tagged 4 0 p noSpan
-selectorSlot (Selector.Subquery p) = tagged 5 0 p noSpan
-selectorSlot (Selector.Article c p) = tagged 6 (codeOf c) noSpan p
-selectorSlot (Selector.Value p c k) = constantSlot p (codeOf c) k
+abbrev pub joinedSlot : Connective → Selector → Span → Span → Slot
+joinedSlot Connective.And x p q = tagged 0 0 noSpan noSpan
+joinedSlot Connective.Or x p q = tagged 1 0 noSpan noSpan
+joinedSlot Connective.Select x p q = selectorSlot x p q
 
-abbrev pub joinedSlot : Connective → Selector → Slot
-joinedSlot Connective.And x = tagged 0 0 noSpan noSpan
-joinedSlot Connective.Or x = tagged 1 0 noSpan noSpan
-joinedSlot Connective.Select x = selectorSlot x
+abbrev pub slotOf : Node → Span → Span → Slot
+slotOf n p q = joinedSlot (n .connective) (n .selector) p q
 
-abbrev pub slotOf : Node → Slot
-slotOf n = joinedSlot (n .connective) (n .selector)
+-- Strings of a and b bytes have room in the heap behind others.
+unfoldable pub hasRoom : ℕ → ℕ → ℕ → Bool
+hasRoom end a b = leb (end + a + b) 16448
 
--- A slot's 20 bytes, and a buffer with them in place i. Other buffers and places stay as they are.
-abbrev pub headBytes : Slot → Bytes
-headBytes x = x .tag ∷ x .comparator ∷ x .kind ∷ x .truth ∷ []
+-- Nodes that a held query has room for.
+abbrev pub Fits : List Postfix.Node → Type 0
+Fits l = (length l ≤ 256) × (length (strings l) ≤ 16448)
 
-abbrev pub spanBytes : Span → Bytes
-spanBytes p = twoBytes (p .start) ++ twoBytes (p .len)
+-- A buffer that nodes were laid into, all but their count, and the place behind them. Where the nodes do not fit it keeps its length.
+pub record Laid (h : Bytes) (p : Place) (l : List Postfix.Node) : Type 0 where
+  pub long : length h ≡ querySize
+  pub count : p .count ≡ min 257 (length l)
+  pub is : Fits l → (h ≡ zeros 2 ++ (padded 5120 (slotsFrom 0 l) ++ padded 16448 (strings l))) × (p .end ≡ length (strings l))
 
-unfoldable pub slotBytes : Slot → Bytes
-slotBytes x = headBytes x ++ spanBytes (x .first) ++ spanBytes (x .second) ++ eightBytes (x .number)
+-- A declared node of the text s, laid behind others.
+unfoldable pub Puts : Bytes → Node → Bytes → Place → Bytes → Place → Type 0
+Puts s x h p h′ p′ = (l : List Postfix.Node) → Laid h p l → Laid h′ p′ (l ++ (nodeBy s x ∷ []))
 
-unfoldable pub withSlot : Bytes → ℕ → Slot → Bytes
-withSlot h i x = cond (ltb i 256 && leb querySize (length h)) (written h (slot i) (slotBytes x)) h
-
-abbrev pub withNode : Bytes → ℕ → Node → Bytes
-withNode h i n = withSlot h i (slotOf n)
-
--- A place whose numbers two bytes hold, and a node with such places.
-abbrev pub Short : Span → Type 0
-Short p = (p .start < 65536) × (p .len < 65536)
-
-abbrev pub ShortConstant : Constant → Type 0
-ShortConstant (Constant.Number n) = Unit {0}
-ShortConstant (Constant.Boolean b) = Unit {0}
-ShortConstant (Constant.String p) = Short p
-
-abbrev pub ShortSelector : Selector → Type 0
-ShortSelector (Selector.Category p) = Short p
-ShortSelector (Selector.Namespace p) = Short p
-ShortSelector (Selector.Existence p) = Short p
-ShortSelector (Selector.Subquery p) = Short p
-ShortSelector (Selector.Article c p) = Short p
-ShortSelector (Selector.Value p c k) = Short p × ShortConstant k
-
-abbrev pub ShortJoined : Connective → Selector → Type 0
-ShortJoined Connective.And x = Unit {0}
-ShortJoined Connective.Or x = Unit {0}
-ShortJoined Connective.Select x = ShortSelector x
-
-abbrev pub ShortNode : Node → Type 0
-ShortNode n = ShortJoined (n .connective) (n .selector)
-
--- The numbers of a slot fit its bytes.
-abbrev pub Fitting : Slot → Type 0
-Fitting x = Short (x .first) × Short (x .second) × (x .number < 2 ^ 64)
+-- The count before them.
+unfoldable pub Finishes : Bytes → Place → Bytes → Type 0
+Finishes h p h′ = (l : List Postfix.Node) → Laid h p l → Fits l → h′ ≡ queryBytes l

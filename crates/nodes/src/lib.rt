@@ -1,30 +1,28 @@
 // Core queries as postfix nodes, and the held query that carries them.
-pub mod bytes;
 pub mod query;
 pub mod reading;
 pub mod writing;
 
-pub use bytes::eight_at;
-pub use bytes::put_byte;
-pub use bytes::put_eight;
-pub use bytes::put_two;
-pub use bytes::two_at;
 use language::Comparator;
 pub use query::is_query;
 pub use reading::follows_at;
 pub use reading::node_at;
 pub use reading::wants_at;
 use text::Span;
+pub use writing::finish;
 pub use writing::put_node;
 
-// A constant by its kind: a number with 10^15 added, a truth value, or where a string lies in the query's text.
+// The size of a held query.
+pub const QUERY_BYTES: usize = 21570;
+
+// A constant by its kind: a number with 10^15 added, a truth value, or where a string lies in a text.
 pub enum Constant {
     Number(u64),
     Boolean(bool),
     String(Span),
 }
 
-// A core selector without what stands below it; names are places in the query's text.
+// A core selector without what stands below it; names are places in a text.
 pub enum Selector {
     Category(Span),
     Namespace(Span),
@@ -45,6 +43,19 @@ pub enum Connective {
 pub struct Node {
     pub connective: Connective,
     pub selector: Selector,
+}
+
+// Where the first and the second string of a node lie.
+pub struct Strings {
+    pub first: Span,
+    pub second: Span,
+}
+
+// The place behind nodes that are laid into a held query: how many there are, 257 for more than 256, and how many bytes of the
+// heap their strings take.
+pub struct Place {
+    pub count: usize,
+    pub end: usize,
 }
 
 // The numbers in a node's 20 bytes.

@@ -2,9 +2,11 @@
 use crate::Connective;
 use crate::Node;
 use crate::NodeRead;
+use crate::QUERY_BYTES;
 use crate::Selector;
-use crate::bytes::two_at;
 use crate::reading::node_at;
+use buffer::two_at;
+use tables::widen;
 ghost use mathlib.Core.Path.{_≡_};
 ghost use Rattle.nodes.specs.Held.{heldQuery};
 ghost use Rattle.nodes.specs.Stack.{arityBy, isSome};
@@ -33,8 +35,8 @@ fn arity(node: Node) -> usize
 pub fn is_query(h: &[u8]) -> bool
     ensures { λ r. ⌜ r ≡ isSome (heldQuery (now (h .entry))) ⌝ }
 {
-    let count = two_at(h, 2);
-    let sized = (6148 <= h.len()) & (two_at(h, 0) <= 1024) & (1 <= count) & (count <= 256);
+    let count = widen(two_at(h, 0));
+    let sized = (QUERY_BYTES <= h.len()) & (1 <= count) & (count <= 256);
     if !sized {
         return false;
     }

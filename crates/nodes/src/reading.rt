@@ -7,9 +7,10 @@ use crate::Node;
 use crate::NodeRead;
 use crate::Selector;
 use crate::Slot;
-use crate::bytes::eight_at;
-use crate::bytes::two_at;
+use buffer::eight_at;
+use buffer::two_at;
 use language::Comparator;
+use tables::widen;
 use text::Span;
 use text::byte_at;
 use text::part;
@@ -19,7 +20,7 @@ use values::is_property_name;
 use values::is_value;
 ghost use mathlib.Core.Path.{_≡_};
 ghost use Rattle.text.specs.Bytes.{part as partFrom};
-ghost use Rattle.nodes.specs.Held.{slot, comparatorFrom, slotFrom, slotIn, textIn, nodeOf, nodeIn};
+ghost use Rattle.nodes.specs.Held.{slot, comparatorFrom, slotFrom, slotIn, heapIn, nodeOf, nodeIn};
 ghost use Rattle.nodes.specs.Reading.{comparatorRead, chosen, selected, joining, ConstantReads, Reads, followsLinks, wantsKind, Tells};
 
 // The comparator of a code.
@@ -47,8 +48,8 @@ fn chosen_if(fit: bool, c: Constant) -> ConstantRead
 }
 
 // The constant of a slot.
-fn constant_from(text: &[u8], x: Slot) -> ConstantRead
-    ensures { λ r. ⌜ ConstantReads (now (text .entry)) x r ⌝ }
+fn constant_from(heap: &[u8], x: Slot) -> ConstantRead
+    ensures { λ r. ⌜ ConstantReads (now (heap .entry)) x r ⌝ }
 {
     let kind = x.kind;
     match kind {
@@ -63,7 +64,7 @@ fn constant_from(text: &[u8], x: Slot) -> ConstantRead
         }
         2 => {
             let p = x.second;
-            let fit = is_value(part(text, p.start, p.len));
+            let fit = is_value(part(heap, p.start, p.len));
             chosen_if(fit, Constant::String(p))
         }
         _ => ConstantRead::Nothing,
@@ -84,13 +85,13 @@ fn selected_if(fit: bool, s: Selector) -> NodeRead
     }
 }
 
-// The two texts in a node's bytes.
+// The places of the two strings in a node's bytes.
 fn first_of(b: &[u8]) -> Span
     ensures { λ r. ⌜ r ≡ slotFrom (now (b .entry)) .first ⌝ }
 {
     Span {
-        start: two_at(b, 4),
-        len: two_at(b, 6),
+        start: widen(two_at(b, 4)),
+        len: widen(two_at(b, 6)),
     }
 }
 
@@ -98,8 +99,8 @@ fn second_of(b: &[u8]) -> Span
     ensures { λ r. ⌜ r ≡ slotFrom (now (b .entry)) .second ⌝ }
 {
     Span {
-        start: two_at(b, 8),
-        len: two_at(b, 10),
+        start: widen(two_at(b, 8)),
+        len: widen(two_at(b, 10)),
     }
 }
 
@@ -121,32 +122,32 @@ fn slot_from(b: &[u8]) -> Slot
 }
 
 // An article comparison, the bytes of a slot of tag 6.
-fn article_from(text: &[u8], b: &[u8]) -> NodeRead
-    ensures { λ r. ⌜ Reads (now (text .entry)) (nodeOf (now (text .entry)) 6 (slotFrom (now (b .entry)))) r ⌝ }
+fn article_from(heap: &[u8], b: &[u8]) -> NodeRead
+    ensures { λ r. ⌜ Reads (now (heap .entry)) (nodeOf (now (heap .entry)) 6 (slotFrom (now (b .entry)))) r ⌝ }
 {
     let read = comparator_from(byte_at(b, 1));
     let ComparatorRead::Is(c) = read else {
         return NodeRead::Nothing;
     };
     let p = second_of(b);
-    let fit = is_name(part(text, p.start, p.len));
+    let fit = is_name(part(heap, p.start, p.len));
     selected_if(fit, Selector::Article(c, p))
 }
 
 // A value comparison, a slot of tag 7.
-fn value_from(text: &[u8], x: Slot) -> NodeRead
-    ensures { λ r. ⌜ Reads (now (text .entry)) (nodeOf (now (text .entry)) 7 x) r ⌝ }
+fn value_from(heap: &[u8], x: Slot) -> NodeRead
+    ensures { λ r. ⌜ Reads (now (heap .entry)) (nodeOf (now (heap .entry)) 7 x) r ⌝ }
 {
     let read = comparator_from(x.comparator);
     let ComparatorRead::Is(c) = read else {
         return NodeRead::Nothing;
     };
-    let constant = constant_from(text, x);
+    let constant = constant_from(heap, x);
     let ConstantRead::Is(k) = constant else {
         return NodeRead::Nothing;
     };
     let p = x.first;
-    let fit = is_property_name(part(text, p.start, p.len));
+    let fit = is_property_name(part(heap, p.start, p.len));
     selected_if(fit, Selector::Value(p, c, k))
 }
 
@@ -162,39 +163,39 @@ fn joined(connective: Connective) -> NodeRead
 }
 
 // The node of a slot by its tag; no more is read than the tag asks for.
-fn node_from(text: &[u8], tag: u8, b: &[u8]) -> NodeRead
-    ensures { λ r. ⌜ Reads (now (text .entry)) (nodeOf (now (text .entry)) tag (slotFrom (now (b .entry)))) r ⌝ }
+fn node_from(heap: &[u8], tag: u8, b: &[u8]) -> NodeRead
+    ensures { λ r. ⌜ Reads (now (heap .entry)) (nodeOf (now (heap .entry)) tag (slotFrom (now (b .entry)))) r ⌝ }
 {
     match tag {
         0 => joined(Connective::And),
         1 => joined(Connective::Or),
         2 => {
             let p = first_of(b);
-            selected_if(is_name(part(text, p.start, p.len)), Selector::Category(p))
+            selected_if(is_name(part(heap, p.start, p.len)), Selector::Category(p))
         }
         3 => {
             let p = first_of(b);
             selected_if(
-                is_namespace(part(text, p.start, p.len)),
+                is_namespace(part(heap, p.start, p.len)),
                 Selector::Namespace(p),
             )
         }
         4 => {
             let p = first_of(b);
             selected_if(
-                is_property_name(part(text, p.start, p.len)),
+                is_property_name(part(heap, p.start, p.len)),
                 Selector::Existence(p),
             )
         }
         5 => {
             let p = first_of(b);
             selected_if(
-                is_property_name(part(text, p.start, p.len)),
+                is_property_name(part(heap, p.start, p.len)),
                 Selector::Subquery(p),
             )
         }
-        6 => article_from(text, b),
-        7 => value_from(text, slot_from(b)),
+        6 => article_from(heap, b),
+        7 => value_from(heap, slot_from(b)),
         _ => NodeRead::Nothing,
     }
 }
@@ -206,7 +207,7 @@ fn slot_bytes(h: &[u8], i: usize) -> &[u8]
     if h.len() / 20 < i {
         return &h[..0];
     }
-    part(h, 1028 + 20 * i, 20)
+    part(h, 2 + 20 * i, 20)
 }
 
 // The tag of the node in a place.
@@ -233,9 +234,9 @@ pub fn wants_at(h: &[u8], i: usize) -> bool
 
 // The node in a place.
 pub fn node_at(h: &[u8], i: usize) -> NodeRead
-    ensures { λ r. ⌜ Reads (textIn (now (h .entry))) (nodeIn (now (h .entry)) i) r ⌝ }
+    ensures { λ r. ⌜ Reads (heapIn (now (h .entry))) (nodeIn (now (h .entry)) i) r ⌝ }
 {
-    let text = part(h, 4, two_at(h, 0));
+    let heap = part(h, 5122, 16448);
     let b = slot_bytes(h, i);
-    node_from(text, byte_at(b, 0), b)
+    node_from(heap, byte_at(b, 0), b)
 }

@@ -1,16 +1,22 @@
-// A node into its bytes.
+// Nodes into a held query: each in its 20 bytes, its strings in the heap behind those before it.
 use crate::Connective;
 use crate::Constant;
 use crate::Node;
+use crate::Place;
 use crate::Selector;
 use crate::Slot;
-use crate::bytes::put_byte;
-use crate::bytes::put_eight;
-use crate::bytes::put_two;
+use crate::Strings;
+use buffer::put_byte;
+use buffer::put_bytes;
+use buffer::put_eight;
+use buffer::put_two;
 use language::Comparator;
 use text::Span;
+use text::part;
 ghost use mathlib.Core.Path.{_≡_};
-ghost use Rattle.nodes.specs.Writing.{written, headBytes, spanBytes, codeOf, tagged, constantSlot, selectorSlot, slotOf, withSlot, withNode};
+ghost use Rattle.buffer.specs.Writing.{written};
+ghost use Rattle.nodes.specs.Form.{codeOf, tagged, headBytes, spanBytes, slotBytes};
+ghost use Rattle.nodes.specs.Writing.{constantStrings, selectorStrings, nodeStrings, constantSlot, selectorSlot, slotOf, hasRoom, Puts, Finishes};
 
 // The code of a comparator.
 fn code_of(c: Comparator) -> u8
@@ -39,9 +45,77 @@ fn tagged_slot(tag: u8, comparator: u8, first: Span, second: Span) -> Slot
     }
 }
 
-// The slot of a value comparison.
-fn constant_slot(p: Span, code: u8, k: Constant) -> Slot
-    ensures { λ r. ⌜ r ≡ constantSlot p code k ⌝ }
+// Where the strings of a value comparison lie.
+fn constant_strings(first: Span, k: Constant) -> Strings
+    ensures { λ r. ⌜ r ≡ constantStrings first k ⌝ }
+{
+    let none = Span { start: 0, len: 0 };
+    match k {
+        Constant::Number(_) => Strings {
+            first,
+            second: none,
+        },
+        Constant::Boolean(_) => Strings {
+            first,
+            second: none,
+        },
+        Constant::String(second) => Strings { first, second },
+    }
+}
+
+// Where the strings of a selector lie.
+fn selector_strings(s: Selector) -> Strings
+    ensures { λ r. ⌜ r ≡ selectorStrings s ⌝ }
+{
+    let none = Span { start: 0, len: 0 };
+    match s {
+        Selector::Category(p) => Strings {
+            first: p,
+            second: none,
+        },
+        Selector::Namespace(p) => Strings {
+            first: p,
+            second: none,
+        },
+        Selector::Existence(p) => Strings {
+            first: p,
+            second: none,
+        },
+        Selector::Subquery(p) => Strings {
+            first: p,
+            second: none,
+        },
+        Selector::Article(_, p) => Strings {
+            first: none,
+            second: p,
+        },
+        Selector::Value(p, _, k) => constant_strings(p, k),
+    }
+}
+
+// Where the strings of a node lie.
+fn strings_of(node: Node) -> Strings
+    ensures { λ r. ⌜ r ≡ nodeStrings node ⌝ }
+{
+    let connective = node.connective;
+    let selector = node.selector;
+    let none = Span { start: 0, len: 0 };
+    match connective {
+        Connective::And => Strings {
+            first: none,
+            second: none,
+        },
+        Connective::Or => Strings {
+            first: none,
+            second: none,
+        },
+        Connective::Select => selector_strings(selector),
+    }
+}
+
+// The slot of a value comparison whose strings lie at p and q.
+fn constant_slot(code: u8, k: Constant, p: Span, q: Span) -> Slot
+    ensures { λ r. ⌜ r ≡ constantSlot code k p q ⌝ }
 {
     let none = Span { start: 0, len: 0 };
     match k {
@@ -66,7 +140,7 @@ fn constant_slot(p: Span, code: u8, k: Constant) -> Slot
                 number: 0,
             }
         }
-        Constant::String(q) => Slot {
+        Constant::String(_) => Slot {
             tag: 7,
             comparator: code,
             kind: 2,
@@ -78,24 +152,24 @@ fn constant_slot(p: Span, code: u8, k: Constant) -> Slot
     }
 }
 
-// The slot of a selector.
-fn selector_slot(s: Selector) -> Slot
-    ensures { λ r. ⌜ r ≡ selectorSlot s ⌝ }
+// The slot of a selector whose strings lie at p and q.
+fn selector_slot(s: Selector, p: Span, q: Span) -> Slot
+    ensures { λ r. ⌜ r ≡ selectorSlot s p q ⌝ }
 {
     let none = Span { start: 0, len: 0 };
     match s {
-        Selector::Category(p) => tagged_slot(2, 0, p, none),
-        Selector::Namespace(p) => tagged_slot(3, 0, p, none),
-        Selector::Existence(p) => tagged_slot(4, 0, p, none),
-        Selector::Subquery(p) => tagged_slot(5, 0, p, none),
-        Selector::Article(c, p) => tagged_slot(6, code_of(c), none, p),
-        Selector::Value(p, c, k) => constant_slot(p, code_of(c), k),
+        Selector::Category(_) => tagged_slot(2, 0, p, none),
+        Selector::Namespace(_) => tagged_slot(3, 0, p, none),
+        Selector::Existence(_) => tagged_slot(4, 0, p, none),
+        Selector::Subquery(_) => tagged_slot(5, 0, p, none),
+        Selector::Article(c, _) => tagged_slot(6, code_of(c), none, q),
+        Selector::Value(_, c, k) => constant_slot(code_of(c), k, p, q),
     }
 }
 
-// The slot of a node.
-fn slot_of(node: Node) -> Slot
-    ensures { λ r. ⌜ r ≡ slotOf node ⌝ }
+// The slot of a node whose strings lie at p and q.
+fn slot_of(node: Node, p: Span, q: Span) -> Slot
+    ensures { λ r. ⌜ r ≡ slotOf node p q ⌝ }
 {
     let connective = node.connective;
     let selector = node.selector;
@@ -103,7 +177,7 @@ fn slot_of(node: Node) -> Slot
     match connective {
         Connective::And => tagged_slot(0, 0, none, none),
         Connective::Or => tagged_slot(1, 0, none, none),
-        Connective::Select => selector_slot(selector),
+        Connective::Select => selector_slot(selector, p, q),
     }
 }
 
@@ -131,17 +205,13 @@ fn put_span(h: &mut [u8], at: usize, p: Span)
     put_two(h, at + 2, p.len);
 }
 
-// Writes a slot's 20 bytes, where the place and the buffer are a held query's.
-fn put_slot(h: &mut [u8], i: usize, x: Slot)
-    ensures { λ _. ⌜ now (h .exit) ≡ withSlot (now (h .entry)) i x ⌝ }
+// Writes a slot's 20 bytes, as far as there is room.
+fn put_slot(h: &mut [u8], at: usize, x: Slot)
+    ensures { λ _. ⌜ now (h .exit) ≡ written (now (h .entry)) at (slotBytes x) ⌝ }
 {
-    if 256 <= i {
+    if h.len() <= at {
         return;
     }
-    if h.len() < 6148 {
-        return;
-    }
-    let at = 1028 + 20 * i;
     let first = x.first;
     let second = x.second;
     put_head(h, at, x);
@@ -150,9 +220,61 @@ fn put_slot(h: &mut [u8], i: usize, x: Slot)
     put_eight(h, at + 12, x.number);
 }
 
-// Writes a node into a place.
-pub fn put_node(h: &mut [u8], i: usize, node: Node)
-    ensures { λ _. ⌜ now (h .exit) ≡ withNode (now (h .entry)) i node ⌝ }
+// Whether strings of so many bytes have room in the heap behind others.
+fn has_room(end: usize, first: usize, second: usize) -> bool
+    ensures { λ r. ⌜ r ≡ hasRoom end first second ⌝ }
 {
-    put_slot(h, i, slot_of(node));
+    if 16448 < end {
+        return false;
+    }
+    if 16448 - end < first {
+        return false;
+    }
+    second <= 16448 - end - first
+}
+
+// Lays a node behind others, where there is room for it; its strings lie in s.
+pub fn put_node(s: &[u8], held: &mut [u8], at: Place, node: Node) -> Place
+    ensures { λ r. ⌜ Puts (now (s .entry)) node (now (held .entry)) at (now (held .exit)) r ⌝ }
+{
+    let count = at.count;
+    let end = at.end;
+    if 256 <= count {
+        return Place { count: 257, end };
+    }
+    let strings = strings_of(node);
+    let p = strings.first;
+    let q = strings.second;
+    let first = part(s, p.start, p.len);
+    let second = part(s, q.start, q.len);
+    let a = first.len();
+    let b = second.len();
+    if !has_room(end, a, b) {
+        return Place {
+            count: count + 1,
+            end,
+        };
+    }
+    let slot = slot_of(
+        node,
+        Span { start: end, len: a },
+        Span {
+            start: end + a,
+            len: b,
+        },
+    );
+    put_slot(held, 2 + 20 * count, slot);
+    put_bytes(held, 5122 + end, first);
+    put_bytes(held, 5122 + end + a, second);
+    Place {
+        count: count + 1,
+        end: end + a + b,
+    }
+}
+
+// Writes how many nodes there are.
+pub fn finish(held: &mut [u8], at: Place)
+    ensures { λ _. ⌜ Finishes (now (held .entry)) at (now (held .exit)) ⌝ }
+{
+    put_two(held, 0, at.count);
 }

@@ -17,11 +17,11 @@ abbrev μ-loop : tie.MeasureT-loop
 two-at-requires : tie.Need-two-at-requires Inv-loop μ-loop
 two-at-requires c κs = search needs
 
-two-at-requires-2 : tie.Need-two-at-requires-2 Inv-loop μ-loop
-two-at-requires-2 c κs = search needs
+widen-requires : tie.Need-widen-requires Inv-loop μ-loop
+widen-requires c κs = search needs
 
 returns : tie.Need-returns Inv-loop μ-loop
-returns c = query-unsized _ _ _ (c .before .before .two-at .ensures) (c .before .two-at2 .ensures) (c .if1 .taken)
+returns c = query-unsized _ _ _ (c .before .before .two-at .ensures) (c .before .widen .ensures) (c .if1 .taken)
 
 loop-holds : tie.Need-loop-holds Inv-loop μ-loop
 loop-holds c = (height-zero _, omega arith, omega arith)
@@ -36,13 +36,13 @@ enum-told : tie.Need-enum-told Inv-loop μ-loop
 enum-told c = search needs
 
 returns-2 : tie.Need-returns-2 Inv-loop μ-loop
-returns-2 c = query-broken _ _ _ (c .before .before .before .before .before .before .before .two-at .ensures) (c .before .before .before .before .before .before .two-at2 .ensures) (c .before .before .before .before .before .if1 .left) _ (c .before .before .before .loop-test .taken) (height-unread _ _ _ (c .before .before .before .before .loop .inv .0) _ (c .before .before .node-at .ensures) (c .enum-told .given .1))
+returns-2 c = query-broken _ _ _ (c .before .before .before .before .before .before .before .two-at .ensures) (c .before .before .before .before .before .before .widen .ensures) (c .before .before .before .before .before .if1 .left) _ (c .before .before .before .loop-test .taken) (height-unread _ _ _ (c .before .before .before .before .loop .inv .0) _ (c .before .before .node-at .ensures) (c .enum-told .given .1))
 
 arity-requires : tie.Need-arity-requires Inv-loop μ-loop
 arity-requires c κs = search needs
 
 returns-3 : tie.Need-returns-3 Inv-loop μ-loop
-returns-3 c = query-broken _ _ _ (c .before .before .before .before .before .before .before .before .before .before .two-at .ensures) (c .before .before .before .before .before .before .before .before .before .two-at2 .ensures) (c .before .before .before .before .before .before .before .before .if1 .left) _ (c .before .before .before .before .before .before .loop-test .taken) (height-lacks _ _ _ (c .before .before .before .before .before .before .before .loop .inv .0) _ (c .before .before .before .before .before .node-at .ensures) _ (c .before .before .before .read .given .1) _ (c .before .arity .ensures) (c .if2 .taken))
+returns-3 c = query-broken _ _ _ (c .before .before .before .before .before .before .before .before .before .before .two-at .ensures) (c .before .before .before .before .before .before .before .before .before .widen .ensures) (c .before .before .before .before .before .before .before .before .if1 .left) _ (c .before .before .before .before .before .before .loop-test .taken) (height-lacks _ _ _ (c .before .before .before .before .before .before .before .loop .inv .0) _ (c .before .before .before .before .before .node-at .ensures) _ (c .before .before .before .read .given .1) _ (c .before .arity .ensures) (c .if2 .taken))
 
 add-height : tie.Need-add-height Inv-loop μ-loop
 add-height c = search needs
@@ -57,7 +57,7 @@ loop-again : tie.Need-loop-again Inv-loop μ-loop
 loop-again c = (height-step _ _ _ (c .before .before .before .before .before .before .before .loop .inv .0) _ (c .before .before .before .before .before .node-at .ensures) _ (c .before .before .before .read .given .1) _ (c .before .arity .ensures) (c .if2 .left), omega arith, omega arith)
 
 returns-4 : tie.Need-returns-4 Inv-loop μ-loop
-returns-4 c = query-done _ _ _ (c .before .before .before .before .two-at .ensures) (c .before .before .before .two-at2 .ensures) (c .before .before .if1 .left) _ _ (c .loop-test .left) (c .before .loop .inv .2) (c .before .loop .inv .0)
+returns-4 c = query-done _ _ _ (c .before .before .before .before .two-at .ensures) (c .before .before .before .widen .ensures) (c .before .before .if1 .left) _ _ (c .loop-test .left) (c .before .loop .inv .2) (c .before .loop .inv .0)
 
 pub is-query-spec : {M : Type 1} → statement M
 is-query-spec =
@@ -66,7 +66,7 @@ is-query-spec =
     Inv-loop
     μ-loop
     two-at-requires
-    two-at-requires-2
+    widen-requires
     returns
     loop-holds
     node-at-requires

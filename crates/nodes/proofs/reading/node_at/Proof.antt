@@ -3,9 +3,6 @@ use borrow.Author.Needs.{needs}
 use Rattle.nodes.proofs.reading.node_at.Statement.{statement}
 use Rattle.nodes.proofs.reading.node_at.Tie as tie
 
-two-at-requires : tie.Need-two-at-requires
-two-at-requires c κs = search needs
-
 part-requires : tie.Need-part-requires
 part-requires c κs = search needs
 
@@ -24,10 +21,4 @@ returns c = search in-place
 pub node-at-spec : {M : Type 1} → statement M
 node-at-spec =
     tie.close
-    (tie.spec
-    two-at-requires
-    part-requires
-    slot-bytes-requires
-    byte-at-requires
-    node-from-requires
-    returns)
+    (tie.spec part-requires slot-bytes-requires byte-at-requires node-from-requires returns)

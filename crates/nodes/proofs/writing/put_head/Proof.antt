@@ -1,4 +1,4 @@
-use Rattle.nodes.proofs.Written.{puts}
+use Rattle.nodes.proofs.Slots.{puts}
 use borrow.Author.Needs.{needs}
 use Rattle.nodes.proofs.writing.put_head.Statement.{statement}
 use Rattle.nodes.proofs.writing.put_head.Tie as tie

@@ -1,19 +1,10 @@
-use Rattle.nodes.proofs.Kept.{slots}
+use Rattle.nodes.proofs.Slots.{puts}
 use borrow.Author.Needs.{needs}
 use Rattle.nodes.proofs.writing.put_slot.Statement.{statement}
 use Rattle.nodes.proofs.writing.put_slot.Tie as tie
 
 returns : tie.Need-returns
-returns c = search slots
-
-returns-2 : tie.Need-returns-2
-returns-2 c = search slots
-
-mul-at : tie.Need-mul-at
-mul-at c = search needs
-
-add-at : tie.Need-add-at
-add-at c = search needs
+returns c = search puts
 
 put-head-requires : tie.Need-put-head-requires
 put-head-requires c κs = search needs
@@ -39,17 +30,14 @@ put-eight-requires c κs = search needs
 same-length : tie.Need-same-length
 same-length c = search needs
 
-returns-3 : tie.Need-returns-3
-returns-3 c = search slots
+returns-2 : tie.Need-returns-2
+returns-2 c = search puts
 
 pub put-slot-spec : {M : Type 1} → statement M
 put-slot-spec =
     tie.close
     (tie.spec
     returns
-    returns-2
-    mul-at
-    add-at
     put-head-requires
     add-put-span
     put-span-requires
@@ -58,4 +46,4 @@ put-slot-spec =
     add-put-eight
     put-eight-requires
     same-length
-    returns-3)
+    returns-2)

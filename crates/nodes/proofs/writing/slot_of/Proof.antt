@@ -27,7 +27,7 @@ returns-2 : tie.Need-returns-2
 returns-2 c = rw (c .tagged-slot2 .ensures, c .before .enum-told2 .given .1)
 
 returns-3 : tie.Need-returns-3
-returns-3 c = search needs
+returns-3 c = rw (c .selector-slot .ensures, c .before .enum-told3 .given .1)
 
 pub slot-of-spec : {M : Type 1} → statement M
 slot-of-spec =
