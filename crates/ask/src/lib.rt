@@ -8,8 +8,8 @@ ghost use Rattle.ask.specs.Running.{Written, Selected, Runs};
 use ask_evaluation::capped;
 use ask_evaluation::eval;
 use ask_evaluation::mismatch::has_mismatch;
+use buffer::two_at;
 use nodes::is_query;
-use nodes::two_at;
 use pageset::PageSet;
 use register_form::REGISTER_BYTES;
 use register_form::page_count;
@@ -49,7 +49,7 @@ fn write_marks(set: PageSet, n: u16, out: &mut [u8])
 fn select(q: &[u8], h: &[u8], places: &[u16]) -> PageSet
     ensures { λ r. ⌜ Selected (now (h .entry)) (now (places .entry)) (now (q .entry)) (r .marks) ⌝ }
 {
-    let n = two_at(q, 2);
+    let n = widen(two_at(q, 0));
     let found = eval(q, n, h, places);
     found.set
 }

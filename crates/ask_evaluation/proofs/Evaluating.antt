@@ -20,7 +20,7 @@ use Rattle.language.specs.Core.{Core}
 use Rattle.language.specs.Core as Core
 use Rattle.language.specs.Register.{Page, Register, holds}
 use Rattle.language.specs.Semantics.{S, Q, follows, noMixed}
-use Rattle.nodes.specs.Held.{textIn, nodeIn}
+use Rattle.nodes.specs.Held.{heapIn, nodeIn}
 use Rattle.nodes.specs.Postfix.{Node, stepped}
 use Rattle.nodes.specs.Reading.{constantBy, joinedBy, nodeBy, readBy, Reads}
 use Rattle.nodes.specs.Stack.{stackAt}
@@ -112,13 +112,13 @@ no-pages R marks e zero l = rw e
 no-pages R marks e (suc j) l = rw e
 
 abbrev named : Bytes → Span → Bytes
-named q p = partOf (textIn q) p
+named q p = partOf (heapIn q) p
 
 module _ (h : Bytes) (places : List ℕ) (q : Bytes) where
   -- eval_selector
   module _ (at : ℕ) (selector : Selector) (b : Bool) (is : b ≡ isSubquery selector) where
     pub eval-leaf : (inner : List Bool) (set : PageSet) → b ≡ false → inner ≡ replicate 1 false
-        → Selects h places (textIn q) selector inner (set .marks)
+        → Selects h places (heapIn q) selector inner (set .marks)
         → Evaluates h places q (suc at) (stackWith q at selector) (record { set = set; next = at })
     unfolding Evaluates Selects S stepped
     eval-leaf inner set e f g R o =
@@ -128,7 +128,7 @@ module _ (h : Bytes) (places : List ℕ) (q : Bytes) where
             → set .marks ≡ tabulate 256 (λ j. ltb j (pagesOf R) && S k noMixed R (pageIn R j)) → Means R (pagesOf R) q (suc at) (stackAt q at >>= stepped m) (record { set = set; next = at })
         leaf m k p z = means-leaf R q at m k (record { set = set; next = at }) p z refl
 
-        go : (y : Selector) → isSubquery y ≡ false → set .marks ≡ tabulate 256 (λ j. ltb j (pagesOf R) && matches (textIn q) (named q (nameSpan y)) R (λ p. false) y (pageIn R j))
+        go : (y : Selector) → isSubquery y ≡ false → set .marks ≡ tabulate 256 (λ j. ltb j (pagesOf R) && matches (heapIn q) (named q (nameSpan y)) R (λ p. false) y (pageIn R j))
             → Means R (pagesOf R) q (suc at) (stackWith q at y) (record { set = set; next = at })
         go (Selector.Category p) w z = leaf (Node.category (named q p)) (Core.Selector.category (named q p)) (λ st. refl) z
         go (Selector.Namespace p) w z = leaf (Node.namespace (named q p)) (Core.Selector.namespace (named q p)) (λ st. refl) z
@@ -136,22 +136,22 @@ module _ (h : Bytes) (places : List ℕ) (q : Bytes) where
         go (Selector.Subquery p) w z = absurd (true≢false w)
         go (Selector.Article o p) w z = leaf (Node.article o (named q p)) (Core.Selector.article o (named q p)) (λ st. refl) z
         go (Selector.Value p o k) w z =
-            leaf (Node.value (named q p) o (constantBy (textIn q) k)) (Core.Selector.value (named q p) o (constantBy (textIn q) k)) (λ st. refl) z
+            leaf (Node.value (named q p) o (constantBy (heapIn q) k)) (Core.Selector.value (named q p) o (constantBy (heapIn q) k)) (λ st. refl) z
 
     pub eval-within : (inner : Evaluated) (set : PageSet) → b ≡ true → Evaluates h places q at (stackAt q at) inner
-        → Selects h places (textIn q) selector (inner .set .marks) (set .marks)
+        → Selects h places (heapIn q) selector (inner .set .marks) (set .marks)
         → Evaluates h places q (suc at) (stackWith q at selector) (record { set = set; next = inner .next })
     unfolding Evaluates Selects
     eval-within inner set e i g R o = go selector (sym is ∙ e) (g R o)
       where
         go : (y : Selector) → isSubquery y ≡ true
-            → ((test : Page → Bool) → Agrees R (inner .set .marks) test → set .marks ≡ tabulate 256 (λ j. ltb j (pagesOf R) && matches (textIn q) (partOf (textIn q) (nameSpan y)) R test y (pageIn R j)))
+            → ((test : Page → Bool) → Agrees R (inner .set .marks) test → set .marks ≡ tabulate 256 (λ j. ltb j (pagesOf R) && matches (heapIn q) (partOf (heapIn q) (nameSpan y)) R test y (pageIn R j)))
             → Means R (pagesOf R) q (suc at) (stackWith q at y) (record { set = set; next = inner .next })
         go (Selector.Category p) w f = absurd (false≢true w)
         go (Selector.Namespace p) w f = absurd (false≢true w)
         go (Selector.Existence p) w f = absurd (false≢true w)
         go (Selector.Subquery p) w f =
-            means-within R q at (partOf (textIn q) p) (stackAt q at) inner (record { set = set; next = inner .next }) (known o .limits .pages) (i R o) f refl
+            means-within R q at (partOf (heapIn q) p) (stackAt q at) inner (record { set = set; next = inner .next }) (known o .limits .pages) (i R o) f refl
         go (Selector.Article o p) w f = absurd (false≢true w)
         go (Selector.Value p o k) w f = absurd (false≢true w)
 
@@ -160,7 +160,7 @@ module _ (h : Bytes) (places : List ℕ) (q : Bytes) where
   unfolding Evaluates Means
   eval-zero at r e R o = rw (e, stack-zero q) tt
 
-  module _ (at : ℕ) (some-node : at ≡ 0 → ⊥) (read : NodeRead) (u : Reads (textIn q) (nodeIn q (at - 1)) read) where
+  module _ (at : ℕ) (some-node : at ≡ 0 → ⊥) (read : NodeRead) (u : Reads (heapIn q) (nodeIn q (at - 1)) read) where
     back : suc (at - 1) ≡ at
     back = omega arith
 
@@ -174,14 +174,14 @@ module _ (h : Bytes) (places : List ℕ) (q : Bytes) where
 
     -- a selector, or two queries
     module _ (node : DeclaredNode) (f : read ≡ NodeRead.Is node) (b : Bool) (is : b ≡ isSelection (node .connective)) where
-      stack-here : stackAt q at ≡ (stackAt q (at - 1) >>= stepped (nodeBy (textIn q) node))
-      stack-here = sym (ap (stackAt q) back) ∙ stack-step q (at - 1) (nodeBy (textIn q) node) (u .is ∙ ap (readBy (textIn q)) f)
+      stack-here : stackAt q at ≡ (stackAt q (at - 1) >>= stepped (nodeBy (heapIn q) node))
+      stack-here = sym (ap (stackAt q) back) ∙ stack-step q (at - 1) (nodeBy (heapIn q) node) (u .is ∙ ap (readBy (heapIn q)) f)
 
       pub eval-selection : (r : Evaluated) → b ≡ true → Evaluates h places q (suc (at - 1)) (stackWith q (at - 1) (node .selector)) r → Evaluates h places q at (stackAt q at) r
       unfolding Evaluates
       eval-selection r e g R o = rw stack-here (go (node .connective) (sym is ∙ e) (rw back at (g R o)))
         where
-          go : (k : Connective) → isSelection k ≡ true → Means R (pagesOf R) q at (stackWith q (at - 1) (node .selector)) r → Means R (pagesOf R) q at (stackAt q (at - 1) >>= stepped (joinedBy (textIn q) k (node .selector))) r
+          go : (k : Connective) → isSelection k ≡ true → Means R (pagesOf R) q at (stackWith q (at - 1) (node .selector)) r → Means R (pagesOf R) q at (stackAt q (at - 1) >>= stepped (joinedBy (heapIn q) k (node .selector))) r
           go Connective.And w z = absurd (false≢true w)
           go Connective.Or w z = absurd (false≢true w)
           go Connective.Select w z = z
@@ -191,7 +191,7 @@ module _ (h : Bytes) (places : List ℕ) (q : Bytes) where
         unfolding Evaluates
         eval-cut r l R o = rw stack-here (go (node .connective) (sym is ∙ e))
           where
-            go : (k : Connective) → isSelection k ≡ false → Means R (pagesOf R) q at (stackAt q (at - 1) >>= stepped (joinedBy (textIn q) k (node .selector))) r
+            go : (k : Connective) → isSelection k ≡ false → Means R (pagesOf R) q at (stackAt q (at - 1) >>= stepped (joinedBy (heapIn q) k (node .selector))) r
             go Connective.And w = means-cut R q _ _ _ (and-joins R) at (at - 1) (stackAt q (at - 1)) right r (i R o) l
             go Connective.Or w = means-cut R q _ _ _ (or-joins R) at (at - 1) (stackAt q (at - 1)) right r (i R o) l
             go Connective.Select w = absurd (true≢false w)
@@ -203,7 +203,7 @@ module _ (h : Bytes) (places : List ℕ) (q : Bytes) where
         eval-join left set g w R o = rw stack-here (go (node .connective) (sym is ∙ e) w)
           where
             go : (k : Connective) → isSelection k ≡ false → Joined k (left .set .marks) (right .set .marks) (set .marks)
-                → Means R (pagesOf R) q at (stackAt q (at - 1) >>= stepped (joinedBy (textIn q) k (node .selector))) (record { set = set; next = left .next })
+                → Means R (pagesOf R) q at (stackAt q (at - 1) >>= stepped (joinedBy (heapIn q) k (node .selector))) (record { set = set; next = left .next })
             go Connective.And w z =
                 means-both R q _ _ _ (and-joins R) at (at - 1) (stackAt q (at - 1)) right left (record { set = set; next = left .next }) (omega arith) (i R o) (g R o) z refl
             go Connective.Or w z =

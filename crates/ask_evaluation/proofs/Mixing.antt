@@ -18,7 +18,7 @@ use Rattle.language.specs.Core as Selectors
 use Rattle.language.specs.Register.{Register}
 use Rattle.language.specs.Semantics.{someOther, mismatch, mismatchIn}
 use Rattle.language.specs.declared.Comparator.{Comparator}
-use Rattle.nodes.specs.Held.{countIn, textIn, nodeIn}
+use Rattle.nodes.specs.Held.{countIn, heapIn, nodeIn}
 use Rattle.nodes.specs.Postfix.{Node, stepped}
 use Rattle.nodes.specs.Reading.{joinedBy, Reads, wantsKind, Tells}
 use Rattle.nodes.specs.Stack.{stackAt}
@@ -146,21 +146,21 @@ module _ (h q : Bytes) where
       go none f = refl
       go (some m) f = sym (mixes-quiet R m (sym (f m refl) ∙ not-true b e))
 
-  module _ (i : ℕ) (read : NodeRead) (u : Reads (textIn q) (nodeIn q i) read) where
+  module _ (i : ℕ) (read : NodeRead) (u : Reads (heapIn q) (nodeIn q i) read) where
     pub mixes-unread : read ≡ NodeRead.Nothing → Mixes h q i false
     unfolding Mixes mixesIn
     mixes-unread e places R o = rw (u .is, e)
 
     module _ (node : DeclaredNode) (e : read ≡ NodeRead.Is node) (w : Wanted) (f : w ≡ wantedIn (node .connective) (node .selector)) where
-      mixes-is : (R : Register) → otherThan R (textIn q) w ≡ mixesIn R q i
+      mixes-is : (R : Register) → otherThan R (heapIn q) w ≡ mixesIn R q i
       unfolding mixesIn
-      mixes-is R = rw (u .is, e, f) (sym (mixes-wanted R (textIn q) (node .connective) (node .selector)))
+      mixes-is R = rw (u .is, e, f) (sym (mixes-wanted R (heapIn q) (node .connective) (node .selector)))
 
       pub mixes-none : w ≡ Wanted.Nothing → Mixes h q i false
       unfolding Mixes
       mixes-none g places R o = rw (← mixes-is R, g)
 
-      pub mixes-kind : (p : Span) (kind : Kind) (t x : Bytes) (r : Bool) → w ≡ Wanted.Kind p kind → t ≡ textIn q → x ≡ partOf t p
+      pub mixes-kind : (p : Span) (kind : Kind) (t x : Bytes) (r : Bool) → w ≡ Wanted.Kind p kind → t ≡ heapIn q → x ≡ partOf t p
           → ((places : List ℕ) (R : Register) → Opened h places R → r ≡ someOther R x kind) → Mixes h q i r
       unfolding Mixes
       mixes-kind p kind t x r g k l f places R o =

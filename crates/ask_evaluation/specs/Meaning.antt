@@ -15,7 +15,7 @@ use Rattle.language.specs.Core.{Core}
 use Rattle.language.specs.Register.{Page, Register, holds}
 use Rattle.language.specs.Semantics.{Ca, Cv, follows, noMixed, selects}
 use Rattle.nodes.specs.Stack.{stackAt}
-use Rattle.nodes.specs.Held.{textIn}
+use Rattle.nodes.specs.Held.{heapIn}
 use Rattle.nodes.specs.Postfix.{stepped}
 use Rattle.nodes.specs.Reading.{constantBy, selectorBy}
 use Rattle.nodes.specs.declared.Selector.{Selector}
@@ -91,4 +91,4 @@ Evaluates h places q at o r = (R : Register) → Opened h places R → Means R (
 
 -- The stack behind a selector, before which it is the one in the place at.
 abbrev pub stackWith : Bytes → ℕ → Selector → Option (List Core)
-stackWith q at selector = stackAt q at >>= stepped (selectorBy (textIn q) selector)
+stackWith q at selector = stackAt q at >>= stepped (selectorBy (heapIn q) selector)

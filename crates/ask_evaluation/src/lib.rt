@@ -1,7 +1,7 @@
 // The evaluation of core queries: page sets from the nodes of a held query.
 ghost use mathlib.Core.Path.{_≡_};
 ghost use Prim.Native.Nat.{suc};
-ghost use Rattle.nodes.specs.Held.{textIn};
+ghost use Rattle.nodes.specs.Held.{heapIn};
 ghost use Rattle.nodes.specs.Stack.{stackAt};
 ghost use Rattle.ask_evaluation.specs.Meaning.{Capped, nameSpan, isSubquery, isSelection, Selects, Joined, Evaluates, stackWith};
 
@@ -12,7 +12,6 @@ use nodes::Connective;
 use nodes::NodeRead;
 use nodes::Selector;
 use nodes::node_at;
-use nodes::two_at;
 use pageset::PageSet;
 use register_view::NameTest;
 use register_view::Test;
@@ -35,11 +34,11 @@ pub enum Wanted {
     Nothing,
 }
 
-// The text of a held query.
-pub fn query_text(q: &[u8]) -> &[u8]
-    ensures { λ r. ⌜ now r ≡ textIn (now (q .entry)) ⌝ }
+// The names and string constants of a held query.
+pub fn query_heap(q: &[u8]) -> &[u8]
+    ensures { λ r. ⌜ now r ≡ heapIn (now (q .entry)) ⌝ }
 {
-    part(q, 4, two_at(q, 0))
+    part(q, 5122, 16448)
 }
 
 // A number of pages, as far as a page set has places.
@@ -88,18 +87,18 @@ fn is_selection(connective: Connective) -> bool
 
 // The pages that match a selector; inner are the marks of what its subquery selects.
 fn select(q: &[u8], selector: Selector, inner: &[bool], h: &[u8], places: &[u16]) -> PageSet
-    ensures { λ r. ⌜ Selects (now (h .entry)) (now (places .entry)) (textIn (now (q .entry))) selector (now (inner .entry)) (r .marks) ⌝ }
+    ensures { λ r. ⌜ Selects (now (h .entry)) (now (places .entry)) (heapIn (now (q .entry))) selector (now (inner .entry)) (r .marks) ⌝ }
 {
-    let text = query_text(q);
+    let heap = query_heap(q);
     let p = name_of(selector);
-    let x = part(text, p.start, p.len);
+    let x = part(heap, p.start, p.len);
     match selector {
         Selector::Category(_) => pages_in_category(h, x),
         Selector::Namespace(_) => pages_named(h, NameTest::Namespace, x),
-        Selector::Existence(_) => pages_holding(h, places, x, Test::Any, text, inner),
-        Selector::Subquery(_) => pages_holding(h, places, x, Test::Leads, text, inner),
+        Selector::Existence(_) => pages_holding(h, places, x, Test::Any, heap, inner),
+        Selector::Subquery(_) => pages_holding(h, places, x, Test::Leads, heap, inner),
         Selector::Article(o, _) => pages_named(h, NameTest::Article(o), x),
-        Selector::Value(_, o, v) => pages_holding(h, places, x, Test::Stands(o, v), text, inner),
+        Selector::Value(_, o, v) => pages_holding(h, places, x, Test::Stands(o, v), heap, inner),
     }
 }
 

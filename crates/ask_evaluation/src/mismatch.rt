@@ -4,16 +4,17 @@ ghost use mathlib.Core.Bool.{Bool};
 ghost use Rattle.language.specs.Semantics.{mismatch};
 ghost use Rattle.ask_evaluation.specs.Mixing.{wantedIn, Mixes, Mismatches};
 use crate::Wanted;
-use crate::query_text;
+use crate::query_heap;
+use buffer::two_at;
 use nodes::Connective;
 use nodes::Constant;
 use nodes::Node;
 use nodes::NodeRead;
 use nodes::Selector;
 use nodes::node_at;
-use nodes::two_at;
 use nodes::wants_at;
 use register_view::other_kind;
+use tables::widen;
 use text::part;
 use values::Kind;
 
@@ -56,14 +57,14 @@ fn mixes_at(q: &[u8], i: usize, h: &[u8]) -> bool
     let Wanted::Kind(p, kind) = wanted else {
         return false;
     };
-    other_kind(h, part(query_text(q), p.start, p.len), kind)
+    other_kind(h, part(query_heap(q), p.start, p.len), kind)
 }
 
 // Whether the run of a held query on an opened register has a mismatch.
 pub fn has_mismatch(q: &[u8], h: &[u8]) -> bool
     ensures { λ r. ⌜ Mismatches (now (h .entry)) (now (q .entry)) r ⌝ }
 {
-    let n = two_at(q, 2);
+    let n = widen(two_at(q, 0));
     let mut some = false;
     let mut i: usize = 0;
     while i < n {

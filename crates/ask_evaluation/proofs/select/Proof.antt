@@ -3,8 +3,8 @@ use borrow.Author.Needs.{needs}
 use Rattle.ask_evaluation.proofs.select.Statement.{statement}
 use Rattle.ask_evaluation.proofs.select.Tie as tie
 
-query-text-requires : tie.Need-query-text-requires
-query-text-requires c κs = search needs
+query-heap-requires : tie.Need-query-heap-requires
+query-heap-requires c κs = search needs
 
 name-of-requires : tie.Need-name-of-requires
 name-of-requires c κs = search needs
@@ -70,7 +70,7 @@ pub select-spec : {M : Type 1} → statement M
 select-spec =
     tie.close
     (tie.spec
-    query-text-requires
+    query-heap-requires
     name-of-requires
     part-requires
     enum-told

@@ -1,4 +1,5 @@
 use Prim.Native.Nat.{_-_, _≤_}
+use mathlib.Core.Path.{_∙_}
 use native.Mathlib.Omega.{arith}
 use borrow.Author.Needs.{needs}
 use Rattle.ask_evaluation.specs.Mixing.{SomeMixes}
@@ -14,6 +15,9 @@ abbrev μ-loop : tie.MeasureT-loop
 
 two-at-requires : tie.Need-two-at-requires Inv-loop μ-loop
 two-at-requires c κs = search needs
+
+widen-requires : tie.Need-widen-requires Inv-loop μ-loop
+widen-requires c κs = search needs
 
 loop-holds : tie.Need-loop-holds Inv-loop μ-loop
 loop-holds c = (omega arith, some-none _ _)
@@ -31,7 +35,7 @@ loop-again : tie.Need-loop-again Inv-loop μ-loop
 loop-again c = (omega arith, some-more _ _ _ _ (c .before .before .loop .inv .1) _ (c .mixes-at .ensures))
 
 returns : tie.Need-returns Inv-loop μ-loop
-returns c = some-all _ _ _ _ (c .before .loop .inv .1) _ (c .before .before .two-at .ensures) (c .before .loop .inv .0) (c .loop-test .left)
+returns c = some-all _ _ _ _ (c .before .loop .inv .1) _ (c .before .before .widen .ensures ∙ c .before .before .before .two-at .ensures) (c .before .loop .inv .0) (c .loop-test .left)
 
 pub has-mismatch-spec : {M : Type 1} → statement M
 has-mismatch-spec =
@@ -40,6 +44,7 @@ has-mismatch-spec =
     Inv-loop
     μ-loop
     two-at-requires
+    widen-requires
     loop-holds
     mixes-at-requires
     add-i

@@ -33,8 +33,8 @@ enum-told-2 c = search needs
 returns-3 : tie.Need-returns-3
 returns-3 c = search (mixing, needs)
 
-query-text-requires : tie.Need-query-text-requires
-query-text-requires c κs = search needs
+query-heap-requires : tie.Need-query-heap-requires
+query-heap-requires c κs = search needs
 
 part-requires : tie.Need-part-requires
 part-requires c κs = search needs
@@ -59,7 +59,7 @@ mixes-at-spec =
     enum-known-wanted
     enum-told-2
     returns-3
-    query-text-requires
+    query-heap-requires
     part-requires
     other-kind-requires
     returns-4)
