@@ -6,3 +6,4 @@ pub mod Written
 pub mod Looping
 pub mod Testing
 pub mod Padding
+pub mod Joined
