@@ -1,15 +1,15 @@
 -- Laws of nodes laid into a buffer: one more behind others, and the count before them.
-use Prim.Native.Nat.{ℕ, zero, suc, _+_, _-_, _*_, _≤_, _<_, min}
+use Prim.Native.Nat.{ℕ, _+_, _-_, _*_, _≤_, _<_}
 use mathlib.Core.Path.{_≡_, refl, sym, ap, ap₂, _∙_}
 use mathlib.Core.Bool.{Bool, true, false, not}
 use mathlib.Core.List.{List, [], _∷_, _++_, append-assoc, append-nil}
 use native.Mathlib.Nat.{add-zero}
 use native.Mathlib.Omega.{arith}
 use lib.Dec.{leb, ltb}
-use lib.IntN.{pos, negsuc, subℕ}
+use lib.IntN.{subℕ}
 use lib.ListN.{length, length-append}
 use borrow.Author.Tests.{leb-true, leb-false, le-leb, lt-leb, ltb-true, ltb-false, not-true, not-false}
-use Rattle.text.specs.Bytes.{Bytes, part}
+use Rattle.text.specs.Bytes.{Bytes}
 use Rattle.text.specs.Parts.{partOf}
 use Rattle.text.specs.declared.Span.{Span}
 use Rattle.buffer.specs.Numbers.{twoBytes, zeros, padded}
@@ -18,7 +18,6 @@ use Rattle.buffer.proofs.Regions.{length-zeros, length-padded}
 use Rattle.buffer.proofs.Written.{length-written, written-here, written-skip, written-over, next}
 use Rattle.buffer.proofs.Padding.{zeros-add, padded-more}
 use Rattle.values.specs.Answers.{base, biased}
-use Rattle.language.specs.declared.Comparator.{Comparator}
 use Rattle.nodes.specs.declared.Constant.{Constant}
 use Rattle.nodes.specs.declared.Selector.{Selector}
 use Rattle.nodes.specs.declared.Connective.{Connective}
@@ -27,10 +26,10 @@ use Rattle.nodes.specs.declared.Slot.{Slot}
 use Rattle.nodes.specs.declared.Strings.{Strings}
 use Rattle.nodes.specs.declared.Place.{Place}
 use Rattle.nodes.specs.Postfix.{Node}
-use Rattle.nodes.specs.Held.{querySize, slot}
-use Rattle.nodes.specs.Form.{stringOf, strings, codeOf, spanAt, numberSlot, truthSlot, stringSlot, valueSlot, slotAt, slotBytes, slotsFrom, queryBytes}
-use Rattle.nodes.specs.Reading.{constantBy, selectorBy, joinedBy, nodeBy}
-use Rattle.nodes.specs.Writing.{constantStrings, joinedStrings, nodeStrings, constantSlot, joinedSlot, slotOf, hasRoom, Fits, Laid, Puts, Finishes}
+use Rattle.nodes.specs.Held.{querySize}
+use Rattle.nodes.specs.Form.{stringOf, strings, codeOf, spanAt, numberSlot, slotAt, slotBytes, slotsFrom, queryBytes}
+use Rattle.nodes.specs.Reading.{joinedBy, nodeBy}
+use Rattle.nodes.specs.Writing.{joinedStrings, nodeStrings, joinedSlot, slotOf, hasRoom, Fits, Laid, Puts, Finishes}
 
 -- Strings and slots of one more node.
 pub strings-append : (k l : List Node) → strings (k ++ l) ≡ strings k ++ strings l

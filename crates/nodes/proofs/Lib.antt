@@ -1,6 +1,9 @@
 pub mod Postfix
 pub mod Slots
 pub mod Laying
+pub mod Counts
 pub mod Ways
 pub mod Stacks
+pub mod Forms
+pub mod Cores
 mod Tags

@@ -1,7 +1,7 @@
 -- Laws of a slot's 20 bytes: how they are written, and that the slot comes back.
-use Prim.Native.Nat.{ℕ, _+_, _*_, _/_, _%_, _<_, _^_}
+use Prim.Native.Nat.{ℕ, _+_, _/_, _<_, _^_}
 use mathlib.Core.Path.{_≡_}
-use mathlib.Core.List.{[], _∷_, _++_}
+use mathlib.Core.List.{[], _∷_}
 use native.Mathlib.Omega.{arith}
 use native.Mathlib.Nat.{mod-add-div}
 use Rattle.text.specs.Bytes.{Bytes}
