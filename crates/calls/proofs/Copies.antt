@@ -3,20 +3,20 @@
 use Prim.Native.Nat.{ℕ, zero, suc, _+_, _*_, _≤_, _<_}
 use mathlib.Core.Path.{_≡_, refl, sym, ap, ap₂, _∙_}
 use mathlib.Core.Bool.{Bool, true, false, _&&_}
-use mathlib.Core.List.{List, [], _∷_, _++_}
-use mathlib.Core.Option.{Option, some, none}
+use mathlib.Core.List.{_++_}
+use mathlib.Core.Option.{some}
 use native.Mathlib.Omega.{arith}
 use borrow.Author.Tests.{leb-true, le-leb}
 use lib.Dec.{leb}
-use lib.ListN.{length, getD, replicate, length-append, length-replicate, getD-replicate, List·getD-append}
-use Rattle.text.specs.Bytes.{Bytes, part}
+use lib.ListN.{length, replicate, length-append, length-replicate, getD-replicate, List·getD-append}
+use Rattle.text.specs.Bytes.{Bytes}
 use Rattle.buffer.specs.Numbers.{twoAt}
 use Rattle.buffer.proofs.Parts.{part-before}
 use Rattle.language.specs.Answer.{_>>=_, onlyIf}
 use Rattle.language.specs.Core.{Core}
 use Rattle.language.proofs.Members.{and-true}
-use Rattle.nodes.specs.Held.{querySize, heapIn, countIn, slot, slotIn, slotFrom, nodeOf, nodeIn, nodesTo, hasSizes, heldQuery}
-use Rattle.nodes.specs.Postfix.{Node, readBack}
+use Rattle.nodes.specs.Held.{querySize, heapIn, countIn, slot, slotIn, slotFrom, nodeIn, nodesTo, hasSizes, heldQuery}
+use Rattle.nodes.specs.Postfix.{readBack}
 use Rattle.nodes.specs.Stack.{Holds}
 use Rattle.nodes.proofs.Stacks.{held-holds}
 
