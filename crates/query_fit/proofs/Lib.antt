@@ -1,0 +1,5 @@
+pub mod Places
+pub mod Parts
+pub mod Joins
+pub mod Singles
+pub mod Ways
