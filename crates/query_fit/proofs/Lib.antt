@@ -3,3 +3,6 @@ pub mod Parts
 pub mod Joins
 pub mod Singles
 pub mod Ways
+pub mod Undeclared
+pub mod Keeping
+pub mod Fitted

@@ -15,7 +15,7 @@ use Rattle.language.specs.Surface.{Chain, Alternatives, Query}
 use Rattle.language.specs.declared.SurfaceComparator.{SurfaceComparator}
 use Rattle.language.specs.Core.{Core}
 use Rattle.language.specs.Core as Core
-use Rattle.language.specs.Elaboration.{elaborateReference, elaborateValue, inside, joined, along, elaborateIn, elaborate, isUndeclared}
+use Rattle.language.specs.Elaboration.{elaborateReference, elaborateValue, inside, joined, along, elaborateIn, elaborate}
 use Rattle.nodes.specs.declared.Place.{Place}
 use Rattle.nodes.specs.Postfix as Postfix
 use Rattle.query_emit.specs.Emission.{Adds, Emits}
@@ -41,7 +41,11 @@ stepOf TreeNode.Subquery = Step.Subquery
 stepOf (TreeNode.Property p) = Step.Property p
 stepOf (TreeNode.Link p) = Step.Link p
 
--- 17, of one node.
+-- 17, of a kind that was looked for, and of one node.
+abbrev pub lacksKind : Option Kind → Bool
+lacksKind none = true
+lacksKind (some k) = false
+
 abbrev pub nodeUndeclared : Typing → Node → Bool
 nodeUndeclared Γ (Node.and n) = false
 nodeUndeclared Γ (Node.or n) = false
@@ -52,8 +56,8 @@ nodeUndeclared Γ (Node.reference c r) = false
 nodeUndeclared Γ Node.existence = false
 nodeUndeclared Γ (Node.value c v) = false
 nodeUndeclared Γ Node.subquery = false
-nodeUndeclared Γ (Node.property x) = isUndeclared Γ x
-nodeUndeclared Γ (Node.link x) = isUndeclared Γ x
+nodeUndeclared Γ (Node.property x) = lacksKind (Γ x)
+nodeUndeclared Γ (Node.link x) = lacksKind (Γ x)
 
 -- OR or AND of two core queries.
 abbrev pub joinCore : Bool → Core → Core → Core

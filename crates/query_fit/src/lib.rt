@@ -1,9 +1,20 @@
 // Fitting a held tree to the kinds of a register: from the whole query down to its pieces, to nodes of the core.
+ghost use Rattle.language.specs.Register.{kindsOf};
+ghost use Rattle.register_form.specs.Form.{registerIn};
+ghost use Rattle.query_fit.specs.Answers.{FitsTree};
+use buffer::two_at;
+use descent::fit_query;
+use names::some_undeclared;
+use nodes::Place;
+use nodes::finish;
+use query_emit::Emitted;
+use tables::widen;
 use text::Span;
 use values::KindRead;
 
 pub mod descent; // descent.rt: a tree from its last node down
 pub mod leaves; // leaves.rt: what a single node asks for and puts
+pub mod names; // names.rt: the properties that a tree names
 
 // What stands around a part of a query: nothing, or the property that its alternatives are about, by its name and by what is known
 // of its kind.
@@ -29,4 +40,24 @@ pub enum Fit {
     Undeclared,
     Unfit,
     TooMany,
+}
+
+// Fits a held tree to the kinds that a register declares; the buffer becomes the held query's.
+pub fn fit_tree(tree: &[u8], register: &[u8], held: &mut [u8]) -> Fit
+    ensures { λ r. ⌜ FitsTree (now (tree .entry)) (kindsOf (registerIn (now (register .entry)))) (now (held .entry)) r (now (held .exit)) ⌝ }
+{
+    let n = widen(two_at(tree, 0));
+    if some_undeclared(tree, n, register) {
+        return Fit::Undeclared;
+    }
+    let start = Place { count: 0, end: 0 };
+    let fitted = fit_query(tree, n, register, held, start);
+    let Emitted::At(place) = fitted else {
+        return Fit::Unfit;
+    };
+    if 256 < place.count {
+        return Fit::TooMany;
+    }
+    finish(held, place);
+    Fit::Fine
 }
