@@ -11,3 +11,5 @@ pub mod Tested
 pub mod Held
 pub mod Ways
 pub mod Loops
+pub mod Caps
+pub mod Stacks

@@ -4,3 +4,4 @@ pub mod Building
 pub mod Form
 pub mod Testing
 pub mod Reading
+pub mod Stack

@@ -4,6 +4,10 @@ use text::Span;
 
 pub mod reading; // reading.rt: nodes from their bytes
 pub mod testing; // testing.rt: whether bytes are those of the nodes that they hold
+pub mod shapes; // shapes.rt: shapes and counts of parts
+pub mod leaves; // leaves.rt: parts that are one node
+pub mod joining; // joining.rt: parts made of others
+pub mod passing; // passing.rt: whether nodes are the tree of a text
 
 // A part of a query: a bracket of categories or of identifiers, the alternatives of a property, a property's bracket, two joined.
 pub enum Shape {
@@ -21,12 +25,18 @@ pub enum Shape {
 pub struct Item {
     pub shape: Shape,
     pub from: usize,
-    pub names: usize,
+    pub names: u16,
     pub one: bool,
     pub leads: bool,
     pub kept: bool,
-    pub bytes: usize,
-    pub depth: usize,
+    pub bytes: u16,
+    pub depth: u16,
+}
+
+// What a node makes of the parts before it, or nothing.
+pub enum Made {
+    Is(Item),
+    Nothing,
 }
 
 // A node's six bytes: a tag, a comparator, a number, the lengths of a namespace and of a name or value.
