@@ -1,17 +1,19 @@
--- The loop over rows: none, one more, one that does not fit, all.
-use Prim.Native.Nat.{ℕ, zero, suc, _+_, _≤_, _<_}
+-- The loop over rows: none, one more, one that does not fit, all; and the test of all bytes.
+use Prim.Native.Nat.{ℕ, zero, suc, _+_, _*_, _-_, _≤_, _<_}
 use mathlib.Core.Path.{_≡_, refl, sym, ap, _∙_}
 use mathlib.Core.Bool.{Bool, true, false, _&&_, false≢true}
 use native.Mathlib.Decide.{ℕ-discrete}
 use native.Mathlib.Numerals.{add-one}
 use native.Mathlib.Omega.{arith}
 use lib.Dec.{leb}
-use borrow.Author.Tests.{leb-true}
+use borrow.Author.Tests.{leb-true, le-leb, lt-leb}
 use Rattle.text.specs.Bytes.{Bytes}
+use Rattle.buffer.specs.Numbers.{twoAt}
+use Rattle.buffer.specs.Tests.{zerosAt}
 use Rattle.language.proofs.Members.{and-true, both-true}
 use Rattle.query_tree.specs.declared.Row.{Row}
 use Rattle.query_tree.specs.Form.{rowIn}
-use Rattle.query_tree.specs.Testing.{numbersFit, rowFits, stringAt, rowsFit, RowsTested}
+use Rattle.query_tree.specs.Testing.{numbersFit, rowFits, stringAt, rowsFit, RowsTested, isExact}
 
 module _ (h : Bytes) where
   pub record Fitted (i at : ℕ) : Type 0 where
@@ -58,3 +60,18 @@ module _ (h : Bytes) where
 
   pub rows-all : (i n at : ℕ) → Fitted i at → i ≤ n → n ≤ i → RowsTested h n true at
   rows-all i n at f a b = let e : i ≡ n = omega arith in rw (← e) (record { is = sym (f .is); ends = λ z. (f .ends, f .most) })
+
+-- The whole test: too many nodes, rows that do not fit, the zeros behind rows and strings.
+module _ (h : Bytes) (n : ℕ) (e : n ≡ twoAt h 0) where
+  pub exact-many : 681 < n → false ≡ isExact h
+  unfolding isExact
+  exact-many l = rw (← e, lt-leb n 681 l)
+
+  module _ (l : n ≤ 681) (ok : Bool) (end : ℕ) (t : RowsTested h n ok end) where
+    pub exact-unfit : ok ≡ false → false ≡ isExact h
+    unfolding isExact
+    exact-unfit f = rw (← e, le-leb n 681 l, ← t .is, f)
+
+    pub exact-is : ok ≡ true → (y z : Bool) → y ≡ zerosAt h (2 + 6 * n) (4086 - 6 * n) → z ≡ zerosAt h (4088 + end) (1024 - end) → y && z ≡ isExact h
+    unfolding isExact
+    exact-is f y z i j = rw (← e, le-leb n 681 l, ← t .is, f, i, j, t .ends f .0)

@@ -8,6 +8,10 @@ pub mod shapes; // shapes.rt: shapes and counts of parts
 pub mod leaves; // leaves.rt: parts that are one node
 pub mod joining; // joining.rt: parts made of others
 pub mod passing; // passing.rt: whether nodes are the tree of a text
+pub mod tree; // tree.rt: whether bytes are a held tree
+
+// The size of a held tree.
+pub const TREE_BYTES: usize = 5112;
 
 // A part of a query: a bracket of categories or of identifiers, the alternatives of a property, a property's bracket, two joined.
 pub enum Shape {

@@ -1,9 +1,11 @@
 // Whether bytes are those of the nodes that they hold.
 ghost use mathlib.Core.Path.{_≡_};
 ghost use mathlib.Core.Bool.{cond};
-ghost use Rattle.query_tree.specs.Testing.{usesComparator, usesFirst, usesSecond, usesNothing, rowFits, RowsTested};
+ghost use Rattle.query_tree.specs.Testing.{usesComparator, usesFirst, usesSecond, usesNothing, rowFits, RowsTested, isExact};
 use crate::Row;
 use crate::reading::row_at;
+use buffer::two_at;
+use buffer::zeros;
 use text::widen;
 
 // The highest comparator of a tag.
@@ -77,4 +79,21 @@ fn rows_fit(h: &[u8], n: usize) -> Tested
         i += 1;
     }
     Tested { ok: true, end: at }
+}
+
+// Whether bytes are those of the nodes that they hold, where there are enough of them.
+pub fn is_exact(h: &[u8]) -> bool
+    ensures { λ r. ⌜ r ≡ isExact (now (h .entry)) ⌝ }
+{
+    let n = tables::widen(two_at(h, 0));
+    if 681 < n {
+        return false;
+    }
+    let rows = rows_fit(h, n);
+    if !rows.ok {
+        return false;
+    }
+    let end = rows.end;
+    let rows = 6 * n;
+    zeros(h, 2 + rows, 4086 - rows) & zeros(h, 4088 + end, 1024 - end)
 }
