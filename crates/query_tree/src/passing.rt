@@ -31,6 +31,18 @@ use buffer::two_at;
 use tables::widen;
 use text::part;
 
+// What stands where no part was put.
+const BLANK: Item = Item {
+    shape: Shape::Categories,
+    from: 0,
+    names: 0,
+    one: false,
+    leads: false,
+    kept: false,
+    bytes: 0,
+    depth: 0,
+};
+
 // How many parts a node is made of.
 fn arity(node: TreeNode) -> usize
     ensures { λ r. ⌜ ((s : Bytes) → r ≡ arityOf (nodeBy s node)) ⌝ }
@@ -90,17 +102,7 @@ pub fn passes(h: &[u8]) -> bool
 {
     let n = widen(two_at(h, 0));
     let s = part(h, 4088, 1024);
-    let blank = Item {
-        shape: Shape::Categories,
-        from: 0,
-        names: 0,
-        one: false,
-        leads: false,
-        kept: false,
-        bytes: 0,
-        depth: 0,
-    };
-    let mut items = [blank; 30];
+    let mut items = [BLANK; 30];
     let mut count: usize = 0;
     let mut i: usize = 0;
     while i < n {
