@@ -85,10 +85,9 @@ pub fn namespace_item(at: usize, n: &[u8]) -> Item
 pub fn bare_item(at: usize, c: SurfaceComparator, x: &[u8]) -> Item
     ensures { λ r. ⌜ r ≡ leafItem Shape.Identifiers at (isEqual c && isCategoryOf (bare (now (x .entry)))) (isReference (bare (now (x .entry)))) (length (word c) + costReference (bare (now (x .entry)))) ⌝ }
 {
-    let leads = is_equal(c) & false;
     let kept = is_name(x);
     let n = widen(word_length(c)) + length_of(x);
-    leaf_item(Shape::Identifiers, at, leads, kept, n)
+    leaf_item(Shape::Identifiers, at, false, kept, n)
 }
 
 pub fn qualified_item(at: usize, c: SurfaceComparator, n: &[u8], x: &[u8]) -> Item

@@ -6,9 +6,6 @@ use Rattle.query_tree.proofs.Caps.{leaf-sized, plus-cut, and-no}
 use Rattle.query_tree.proofs.leaves.bare_item.Statement.{statement}
 use Rattle.query_tree.proofs.leaves.bare_item.Tie as tie
 
-is-equal-requires : tie.Need-is-equal-requires
-is-equal-requires c κs = search needs
-
 is-name-requires : tie.Need-is-name-requires
 is-name-requires c κs = search needs
 
@@ -29,13 +26,12 @@ leaf-item-requires c κs = search needs
 
 returns : tie.Need-returns
 unfolding costReference
-returns c = c .leaf-item .ensures ∙ rw (c .before .before .before .before .is-name .ensures, c .before .before .widen .ensures, c .before .before .before .word-length .ensures, c .before .length-of .ensures, and-no (c .before .before .before .before .before .is-equal .result), and-no (isEqual (c .before .before .before .before .before .before .before .args .c))) (leaf-sized _ _ _ _ _ _ (plus-cut (length (word (c .before .before .before .before .before .before .before .args .c))) (length (c .before .before .before .before .before .before .before .args .x .now))))
+returns c = c .leaf-item .ensures ∙ rw (c .before .before .before .before .is-name .ensures, c .before .before .widen .ensures, c .before .before .before .word-length .ensures, c .before .length-of .ensures, and-no (isEqual (c .before .before .before .before .before .before .args .c))) (leaf-sized _ _ _ _ _ _ (plus-cut (length (word (c .before .before .before .before .before .before .args .c))) (length (c .before .before .before .before .before .before .args .x .now))))
 
 pub bare-item-spec : {M : Type 1} → statement M
 bare-item-spec =
     tie.close
     (tie.spec
-    is-equal-requires
     is-name-requires
     word-length-requires
     widen-requires
