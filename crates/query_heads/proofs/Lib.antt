@@ -1,0 +1,3 @@
+pub mod Following
+pub mod Readings
+pub mod Bodies
