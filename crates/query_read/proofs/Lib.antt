@@ -1,0 +1,4 @@
+pub mod Trees
+pub mod Falls
+pub mod Ways
+pub mod Texts
