@@ -29,9 +29,13 @@ use Rattle.language.proofs.Mixing.{mixed-free}
 use Rattle.language.proofs.Rules.{register-rules}
 use Rattle.register_form.specs.Form.{heldRegister}
 use Rattle.register_form.proofs.Forms.{held-is}
+use Rattle.query_spelling.proofs.Some.{accepted-has-text}
+use Rattle.query_tree.specs.Form.{treeSize, treeOf, heldTree}
+use Rattle.query_tree.proofs.Held.{form-held as tree-held}
 use Rattle.nodes.specs.Held.{querySize, heldQuery}
-use Rattle.calls.specs.Calls.{askCall, marked, marksIn, returned, JoinCall, QueryCall, AskCall}
-use Rattle.calls.specs.Demands.{askTable, LeftQuery, LeftJoin, SecondDemand, ThirdDemand}
+use Rattle.nodes.specs.Form.{queryOf}
+use Rattle.calls.specs.Calls.{writtenIn, queryCall, readCall, fitCall, askCall, marked, marksIn, returned, JoinCall, QueryCall, AskCall}
+use Rattle.calls.specs.Demands.{askTable, LeftQuery, LeftJoin, SecondDemand, ThirdDemand, ReadThenFit}
 use Rattle.calls.proofs.Tables.{ask-refuses, ask-rises, lowest-between, refusalOf}
 use Rattle.calls.proofs.First.{run-is, Ran, ran, query-stores, join-stores, taken, by-table, marks-bytes}
 
@@ -64,7 +68,7 @@ second h k s b stored q m after n R W e p fits same asks =
     let f = core-is s R (c .core) core in
     let x = taken marked (askCall q k m) n (by-table (askTable q k m) (askCall q k m) (ask-rises q k m) (ask-refuses q k m)) (asks .number) in
     let r = ran q k m (x .0) (x .1) in
-    let one : r .core ≡ c .core = one-held (heldQuery q) (r .core) (c .core) (r .asks) (same ∙ c .held) in
+    let one : r .core ≡ c .core = one-held (heldQuery q) (r .core) (c .core) (r .asks) (same ∙ c .left .held) in
     let two : r .register ≡ W = one-held (heldRegister k) (r .register) W (r .holds) p in
     let runs : run (c .core) W ≡ accepted (x .0) = rw (← one, ← two) (r .runs) in
     let is : x .0 ≡ map (selects (c .core) W) (W .pages) = run-is (c .core) W (x .0) runs .1 in
@@ -116,7 +120,7 @@ third s h k stored store q b after r R W e p fits same agrees long asks =
     let kinds = register-rules W (held-is k W p .0) .kinds in
     let runs : run (c .core) W ≡ accepted (directMarks s W) = text-agreement s R (c .core) W core kinds agrees in
     let room : ltb (length b) (length (W .pages)) ≡ false = le-ltb (length b) (length (W .pages)) long in
-    let held : heldQuery q ≡ some (c .core) = same ∙ c .held in
+    let held : heldQuery q ≡ some (c .core) = same ∙ c .left .held in
     let is : askCall q k b ≡ accepted (directMarks s W) = asked-is q k b (c .core) W held p ∙ rw (runs, room) in
     let left : after ≡ map bit (directMarks s W) ++ drop (length (directMarks s W)) b = asks .buffer ∙ ap (marksIn b) is in
     let unmixed = run-is (c .core) W (directMarks s W) runs .0 in
@@ -159,3 +163,22 @@ third-joined s h k l room j stored store q b after r R S T e f g makes fits same
     let two : m .second ≡ T = one-held (heldRegister l) (m .second) T (m .holdsSecond) g in
     let held : heldRegister j ≡ some (join S T) = m .left .held ∙ ap some (ap (λ x. join x (m .second)) one ∙ ap (join S) two) in
     third s h j stored store q b after r R (join S T) e held fits same agrees long asks
+
+-- Reading then fitting is the old call.
+pub read-then-fit : (h s u b : Bytes) → treeSize ≤ length u → ReadThenFit h s u b
+unfolding queryCall readCall fitCall writtenIn coreOf
+read-then-fit h s u b long = record { is = go (heldRegister h) refl }
+  where
+    stored : Core → Answer Bytes
+    stored c = writtenIn 20 querySize (queryOf c) b
+
+    read : (R : Register) (o : Option Register) → heldRegister h ≡ o → o ≡ some R → (a : Answer Query) → readText s ≡ a → andThen (andThen a (fit (kindsOf R))) stored ≡ andThen (andThen a (λ q. writtenIn 33 treeSize (treeOf q) u)) (λ t. fitCall t h b)
+    read R o e f (refused n) g = refl
+    read R o e f (accepted q) g =
+        let room : ltb (length u) treeSize ≡ false = le-ltb (length u) treeSize long in
+        let tree : heldTree (treeOf q ++ drop treeSize u) ≡ some q = tree-held q (drop treeSize u) (accepted-has-text s q g) in
+        rw (room, e ∙ f, tree)
+
+    go : (o : Option Register) → heldRegister h ≡ o → andThen (orRefuse 11 o) (λ R. andThen (coreOf R s) stored) ≡ andThen (orRefuse 11 o) (λ R. andThen (readCall s u) (λ t. fitCall t h b))
+    go none e = refl
+    go (some R) e = read R (some R) e refl (readText s) refl

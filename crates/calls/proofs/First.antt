@@ -13,7 +13,7 @@ use lib.Seq.{drop-at}
 use Rattle.text.specs.Bytes.{Bytes}
 use Rattle.text.specs.Table.{bit}
 use Rattle.language.specs.Answer.{Answer, refused, accepted, acceptedOf, orRefuse, leftIn, Check, andThen}
-use Rattle.language.specs.Register.{Page, Register, kindsOf}
+use Rattle.language.specs.Register.{Page, Register, Typing, kindsOf}
 use Rattle.language.specs.RegisterText.{emptyPage, readRegister}
 use Rattle.language.specs.Surface.{Query}
 use Rattle.language.specs.QueryText.{readText}
@@ -32,10 +32,18 @@ use Rattle.language.proofs.Rules.{register-rules}
 use Rattle.language.proofs.Joined.{join-register}
 use Rattle.register_form.specs.Form.{registerSize, formOf, placed, stored, heldRegister}
 use Rattle.register_form.proofs.Forms.{reads-back, held-is}
+use Rattle.query_spelling.specs.Spelled.{isSpelled, hasText}
+use Rattle.query_spelling.proofs.Some.{accepted-has-text}
+use Rattle.query_tree.specs.Form.{treeSize, treeOf, heldTree}
+use Rattle.query_tree.proofs.Held.{held-tree, form-held as tree-held}
 use Rattle.nodes.specs.Held.{querySize, heldQuery}
-use Rattle.calls.specs.Calls.{registerCall, joined, joinCall, queryCall, Stores, askCall, marked, marksIn, returned, RegisterCall, JoinCall, QueryCall, AskCall}
-use Rattle.calls.specs.Demands.{lowest, rises, registerTable, joinTable, queryTable, askTable, Judged, FirstDemand, LeftForm, LeftRegister, LeftJoin, LeftQuery, LeftMarks, SecondDemand, ThirdDemand}
-use Rattle.calls.proofs.Tables.{refusalOf, register-refuses, join-refuses, query-refuses, ask-refuses, register-rises, query-rises, ask-rises, lowest-between, join-few}
+use Rattle.nodes.specs.Form.{queryOf}
+use Rattle.nodes.proofs.Forms.{form-held}
+use Rattle.nodes.proofs.Elaborated.{fitted-core}
+use Rattle.language.proofs.Members.{and-true}
+use Rattle.calls.specs.Calls.{registerCall, joined, joinCall, writtenIn, queryCall, readCall, fitCall, askCall, marked, marksIn, returned, RegisterCall, JoinCall, QueryCall, ReadCall, FitCall, AskCall}
+use Rattle.calls.specs.Demands.{lowest, rises, registerTable, joinTable, queryTable, readTable, fitCallTable, askTable, Judged, FirstDemand, LeftForm, LeftRegister, LeftJoin, LeftCore, LeftQuery, LeftTree, LeftFit, LeftMarks, SecondDemand, ThirdDemand}
+use Rattle.calls.proofs.Tables.{refusalOf, register-refuses, join-refuses, query-refuses, read-refuses, fit-refuses, ask-refuses, register-rises, query-rises, ask-rises, lowest-between, join-few, fit-few}
 
 -- the first demand, by what a call answers
 module _ {A : Type 0} (f : A → ℕ) (table : List Check) (Left : ℕ → Bytes → Type 0) where
@@ -58,9 +66,6 @@ by-table table a o e n p = lowest-between 0 25 n table o (sym e ∙ ap refusalOf
 
 left-same : (h after : Bytes) (a : Answer Bytes) → after ≡ leftIn h a → (n : ℕ) → a ≡ refused n → after ≡ h
 left-same h after a e n p = e ∙ ap (leftIn h) p
-
-stores-same : (b after : Bytes) (a : Answer Core) → Stores a b after → (n : ℕ) → a ≡ refused n → after ≡ b
-stores-same b after a e n p = subst (λ a. Stores a b after) p e
 
 marks-same : (b after : Bytes) (a : Answer (List Bool)) → after ≡ marksIn b a → (n : ℕ) → a ≡ refused n → after ≡ b
 marks-same b after a e n p = e ∙ ap (marksIn b) p
@@ -114,25 +119,59 @@ join-left h k b after x e p =
     let j = joined-is (q .0) (w .0) b x (held-is h (q .0) R .0) (held-is k (w .0) S .0) (w .2) in
     record { first = q .0; second = w .0; holdsFirst = R; holdsSecond = S; left = left-form (join (q .0) (w .0)) b after x (j .0) (j .1) p }
 
-query-left : (h s b after : Bytes) (c : Core) → queryCall h s b ≡ accepted c → Stores (accepted c) b after → LeftQuery h s b 0 after
-unfolding queryCall
-query-left h s b after c e k =
-    let q = then-accepted (orRefuse 11 (heldRegister h)) (λ R. andThen (coreOf R s) (λ d. cond (ltb (length b) querySize) (refused 20) (accepted d))) c e in
-    let w = then-accepted (coreOf (q .0) s) (λ d. cond (ltb (length b) querySize) (refused 20) (accepted d)) c (q .2) in
-    record {
-      zero = refl;
-      register = q .0;
-      core = c;
-      holds = or-accepted 11 (heldRegister h) (q .0) (q .1);
-      fits = w .1 ∙ small (ltb (length b) querySize) (w .0) (w .2);
-      held = k .0;
-      size = k .1;
-      later = k .2;
-    }
+-- a form that is written
+written-is : (n size : ℕ) (form b x : Bytes) → writtenIn n size form b ≡ accepted x → x ≡ form ++ drop size b
+unfolding writtenIn
+written-is n size form b x e = go (ltb (length b) size) e
   where
-    small : (g : Bool) (d : Core) → cond g (refused 20) (accepted d) ≡ accepted c → accepted d ≡ accepted c
-    small true d e = absurd (let y : _≡_ {A = ℕ} 0 1 = cc in omega arith)
-    small false d e = e
+    go : (t : Bool) → cond t (refused n) (accepted (form ++ drop size b)) ≡ accepted x → x ≡ form ++ drop size b
+    go true e = absurd (let y : _≡_ {A = ℕ} 0 1 = cc in omega arith)
+    go false e = let i : form ++ drop size b ≡ x = cc in sym i
+
+-- the core query of a query that some text has
+left-core : (Γ : Typing) (q : Query) (c : Core) (b after x : Bytes) → hasText q ≡ true → fit Γ q ≡ accepted c → writtenIn 20 querySize (queryOf c) b ≡ accepted x → after ≡ x → LeftCore c b 0 after
+unfolding hasText
+left-core Γ q c b after x h f e p =
+    let i = p ∙ written-is 20 querySize (queryOf c) b x e in
+    record { zero = refl; bytes = i; held = ap heldQuery i ∙ form-held c (drop querySize b) (fitted-core Γ q c (and-true (isSpelled q) _ h .0) f) }
+
+query-left : (h s b after x : Bytes) → queryCall h s b ≡ accepted x → after ≡ x → LeftQuery h s b 0 after
+unfolding queryCall coreOf
+query-left h s b after x e p =
+    let q = then-accepted (orRefuse 11 (heldRegister h)) (λ R. andThen (coreOf R s) (λ c. writtenIn 20 querySize (queryOf c) b)) x e in
+    let w = then-accepted (coreOf (q .0) s) (λ c. writtenIn 20 querySize (queryOf c) b) x (q .2) in
+    let r = then-accepted (readText s) (fit (kindsOf (q .0))) (w .0) (w .1) in
+    record {
+      register = q .0;
+      core = w .0;
+      holds = or-accepted 11 (heldRegister h) (q .0) (q .1);
+      fits = w .1;
+      left = left-core (kindsOf (q .0)) (r .0) (w .0) b after x (accepted-has-text s (r .0) (r .1)) (r .2) (w .2) p;
+    }
+
+read-left : (s b after x : Bytes) → readCall s b ≡ accepted x → after ≡ x → LeftTree s b 0 after
+unfolding readCall
+read-left s b after x e p =
+    let q = then-accepted (readText s) (λ q. writtenIn 33 treeSize (treeOf q) b) x e in
+    let i = p ∙ written-is 33 treeSize (treeOf (q .0)) b x (q .2) in
+    record { zero = refl; query = q .0; reads = q .1; bytes = i; held = ap heldTree i ∙ tree-held (q .0) (drop treeSize b) (accepted-has-text s (q .0) (q .1)) }
+
+fit-left : (t h b after x : Bytes) → fitCall t h b ≡ accepted x → after ≡ x → LeftFit t h b 0 after
+unfolding fitCall
+fit-left t h b after x e p =
+    let r = then-accepted (orRefuse 11 (heldRegister h)) (λ R. andThen (orRefuse 34 (heldTree t)) (λ q. andThen (fit (kindsOf R) q) (λ c. writtenIn 20 querySize (queryOf c) b))) x e in
+    let q = then-accepted (orRefuse 34 (heldTree t)) (λ q. andThen (fit (kindsOf (r .0)) q) (λ c. writtenIn 20 querySize (queryOf c) b)) x (r .2) in
+    let c = then-accepted (fit (kindsOf (r .0)) (q .0)) (λ c. writtenIn 20 querySize (queryOf c) b) x (q .2) in
+    let tree = or-accepted 34 (heldTree t) (q .0) (q .1) in
+    record {
+      register = r .0;
+      query = q .0;
+      core = c .0;
+      holds = or-accepted 11 (heldRegister h) (r .0) (r .1);
+      tree = tree;
+      fits = c .1;
+      left = left-core (kindsOf (r .0)) (q .0) (c .0) b after x (held-tree t (q .0) .0 tree .has) (c .1) (c .2) p;
+    }
 
 -- a run that is accepted has no mismatch, and marks what the core query selects
 pub run-is : (c : Core) (W : Register) (m : List Bool) → run c W ≡ accepted m → (mismatch c W ≡ false) × (m ≡ map (selects c W) (W .pages))
@@ -198,7 +237,15 @@ join-first h k b after r c =
 
 pub query-first : (h s b after : Bytes) (r : ℤ) → QueryCall h s b after r → FirstDemand (queryTable h s b) (LeftQuery h s b) b after r
 query-first h s b after r c =
-    first (λ a. 0) (queryTable h s b) (LeftQuery h s b) (queryCall h s b) b after r (query-refuses h s b) (c .number) (stores-same b after (queryCall h s b) (c .buffer)) (λ x e. query-left h s b after x e (subst (λ a. Stores a b after) e (c .buffer)))
+    first (λ a. 0) (queryTable h s b) (LeftQuery h s b) (queryCall h s b) b after r (query-refuses h s b) (c .number) (left-same b after (queryCall h s b) (c .buffer)) (λ x e. query-left h s b after x e (c .buffer ∙ ap (leftIn b) e))
+
+pub read-first : (s b after : Bytes) (r : ℤ) → ReadCall s b after r → FirstDemand (readTable s b) (LeftTree s b) b after r
+read-first s b after r c =
+    first (λ a. 0) (readTable s b) (LeftTree s b) (readCall s b) b after r (read-refuses s b) (c .number) (left-same b after (readCall s b) (c .buffer)) (λ x e. read-left s b after x e (c .buffer ∙ ap (leftIn b) e))
+
+pub fit-first : (t h b after : Bytes) (r : ℤ) → FitCall t h b after r → FirstDemand (fitCallTable t h b) (LeftFit t h b) b after r
+fit-first t h b after r c =
+    first (λ a. 0) (fitCallTable t h b) (LeftFit t h b) (fitCall t h b) b after r (fit-refuses t h b) (c .number) (left-same b after (fitCall t h b) (c .buffer)) (λ x e. fit-left t h b after x e (c .buffer ∙ ap (leftIn b) e))
 
 pub ask-first : (q h b after : Bytes) (r : ℤ) → AskCall q h b after r → FirstDemand (askTable q h b) (LeftMarks q h b) b after r
 ask-first q h b after r c =
@@ -218,4 +265,9 @@ join-stores h k b after c =
 pub query-stores : (h s b after : Bytes) → QueryCall h s b after (pos 0) → LeftQuery h s b 0 after
 query-stores h s b after c =
     let x = taken (λ a. 0) (queryCall h s b) 0 (by-table (queryTable h s b) (queryCall h s b) (query-rises h s b) (query-refuses h s b)) (c .number) in
-    query-left h s b after (x .0) (x .1) (subst (λ a. Stores a b after) (x .1) (c .buffer))
+    query-left h s b after (x .0) (x .1) (c .buffer ∙ ap (leftIn b) (x .1))
+
+pub fit-stores : (t h b after : Bytes) → FitCall t h b after (pos 0) → LeftFit t h b 0 after
+fit-stores t h b after c =
+    let x = taken (λ a. 0) (fitCall t h b) 0 (λ n e. fit-few t h b n e .0) (c .number) in
+    fit-left t h b after (x .0) (x .1) (c .buffer ∙ ap (leftIn b) (x .1))

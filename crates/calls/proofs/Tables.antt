@@ -26,9 +26,11 @@ use Rattle.language.proofs.Members.{and-true}
 use Rattle.language.specs.Rules.{isWithinLimits}
 use Rattle.language.specs.Joining.{join, kindsClash}
 use Rattle.register_form.specs.Form.{registerSize, placed, stored, heldRegister}
+use Rattle.query_tree.specs.Form.{treeSize, treeOf, heldTree}
 use Rattle.nodes.specs.Held.{querySize, heldQuery}
-use Rattle.calls.specs.Calls.{registerCall, joined, joinCall, queryCall, askCall}
-use Rattle.calls.specs.Demands.{lacks, lowest, rises, registerTable, joinTable, fitTable, queryTable, askTable}
+use Rattle.nodes.specs.Form.{queryOf}
+use Rattle.calls.specs.Calls.{registerCall, joined, joinCall, writtenIn, queryCall, readCall, fitCall, askCall}
+use Rattle.calls.specs.Demands.{lacks, lowest, rises, registerTable, joinTable, fitTable, queryTable, readTable, fitCallTable, askTable}
 
 abbrev pub refusalOf : {A : Type 0} → Answer A → Option ℕ
 refusalOf (refused n) = some n
@@ -107,15 +109,27 @@ core-then s R k f e =
     ∙ read-then 12 13 (ltb 1024 (length s)) (readWhole s) QueryText.checks surface (fitTable (kindsOf R)) k (λ q. andThen (fit (kindsOf R) q) f) (λ q. fit-then (any (isUndeclared (kindsOf R)) (propertiesOf q)) (elaborate q (kindsOf R)) (λ c. ltb 256 (nodes c)) k f e)
 
 pub query-refuses : (h s b : Bytes) → refusalOf (queryCall h s b) ≡ lowest (queryTable h s b)
-unfolding queryCall queryTable lowest
+unfolding queryCall writtenIn queryTable lowest
 query-refuses h s b = go (heldRegister h)
   where
-    after : Register → Answer Core
-    after R = andThen (coreOf R s) (λ c. cond (ltb (length b) querySize) (refused 20) (accepted c))
-
-    go : (o : Option Register) → refusalOf (andThen (orRefuse 11 o) after) ≡ lowest (11 if lacks o ∷ 12 if ltb 1024 (length s) ∷ 13 if lacks (readWhole s) ∷ (found (readWhole s) QueryText.checks [] ++ (found o (λ R. found (acceptedOf (readText s)) (fitTable (kindsOf R)) []) [] ++ (20 if ltb (length b) querySize ∷ []))))
+    go : (o : Option Register) → refusalOf (andThen (orRefuse 11 o) (λ R. andThen (coreOf R s) (λ c. writtenIn 20 querySize (queryOf c) b))) ≡ lowest (11 if lacks o ∷ 12 if ltb 1024 (length s) ∷ 13 if lacks (readWhole s) ∷ (found (readWhole s) QueryText.checks [] ++ (found o (λ R. found (acceptedOf (readText s)) (fitTable (kindsOf R)) []) [] ++ (20 if ltb (length b) querySize ∷ []))))
     go none = refl
-    go (some R) = core-then s R (20 if ltb (length b) querySize ∷ []) (λ c. cond (ltb (length b) querySize) (refused 20) (accepted c)) (λ c. last 20 (ltb (length b) querySize) c)
+    go (some R) = core-then s R (20 if ltb (length b) querySize ∷ []) (λ c. writtenIn 20 querySize (queryOf c) b) (λ c. last 20 (ltb (length b) querySize) (queryOf c ++ drop querySize b))
+
+pub read-refuses : (s b : Bytes) → refusalOf (readCall s b) ≡ lowest (readTable s b)
+unfolding readCall writtenIn readText readTable
+read-refuses s b =
+    read-then 12 13 (ltb 1024 (length s)) (readWhole s) QueryText.checks surface (λ q. []) (33 if ltb (length b) treeSize ∷ []) _ (λ q. last 33 (ltb (length b) treeSize) _)
+    ∙ ap (λ l. lowest (12 if ltb 1024 (length s) ∷ 13 if lacks (readWhole s) ∷ (found (readWhole s) QueryText.checks [] ++ l))) (nothing (acceptedOf (readText s)) (33 if ltb (length b) treeSize ∷ []))
+
+pub fit-refuses : (t h b : Bytes) → refusalOf (fitCall t h b) ≡ lowest (fitCallTable t h b)
+unfolding fitCall writtenIn fit fitCallTable fitTable lowest
+fit-refuses t h b = go (heldRegister h) (heldTree t)
+  where
+    go : (o : Option Register) (w : Option Query) → refusalOf (andThen (orRefuse 11 o) (λ R. andThen (orRefuse 34 w) (λ q. andThen (fit (kindsOf R) q) (λ c. writtenIn 20 querySize (queryOf c) b)))) ≡ lowest (11 if lacks o ∷ 34 if lacks w ∷ (found o (λ R. found w (fitTable (kindsOf R)) []) [] ++ (20 if ltb (length b) querySize ∷ [])))
+    go none w = refl
+    go (some R) none = refl
+    go (some R) (some q) = fit-then (any (isUndeclared (kindsOf R)) (propertiesOf q)) (elaborate q (kindsOf R)) (λ c. ltb 256 (nodes c)) (20 if ltb (length b) querySize ∷ []) (λ c. writtenIn 20 querySize (queryOf c) b) (λ c. last 20 (ltb (length b) querySize) (queryOf c ++ drop querySize b))
 
 ask-then : {A : Type 0} (o : Option Core) (w : Option Register) (m : Core → Register → Bool) (g : Register → Bool) (a : Core → Register → A)
     → refusalOf (andThen (orRefuse 21 o) (λ c. andThen (orRefuse 22 w) (λ R. andThen (cond (m c R) (refused 23) (accepted (a c R))) (λ x. cond (g R) (refused 24) (accepted x))))) ≡ lowest (21 if lacks o ∷ 22 if lacks w ∷ found w (λ R. 23 if found o (λ c. m c R) false ∷ 24 if g R ∷ []) [])
@@ -152,6 +166,14 @@ query-rises h s b = go (readWhole s) (heldRegister h) (acceptedOf (readText s))
     go (some o) none q = refl
     go (some o) (some R) none = refl
     go (some o) (some R) (some q) = refl
+
+pub read-rises : (s b : Bytes) → rises 0 34 (readTable s b) ≡ true
+unfolding readTable rises
+read-rises s b = go (readWhole s)
+  where
+    go : (o : Option RawQuery) → rises 13 34 (found o QueryText.checks [] ++ (33 if ltb (length b) treeSize ∷ [])) ≡ true
+    go none = refl
+    go (some q) = refl
 
 pub ask-rises : (q h b : Bytes) → rises 0 25 (askTable q h b) ≡ true
 unfolding askTable rises
@@ -202,3 +224,19 @@ join-few h k b n e = go (heldRegister h) (heldRegister k) e
     go none w e = is 22 (omega arith) (omega arith) e
     go (some R) none e = is 22 (omega arith) (omega arith) e
     go (some R) (some S) e = both (kindsClash R S) (not (isWithinLimits (join R S))) _ (λ f. short (ltb (length b) registerSize) _ f) e
+
+-- A refusal by fitting has one of its numbers.
+pub fit-few : (t h b : Bytes) (n : ℕ) → fitCall t h b ≡ refused n → (0 < n) × (n ≤ 34)
+unfolding fitCallTable fitTable rises lowest
+fit-few t h b n e = go (heldRegister h) (heldTree t) (sym (fit-refuses t h b) ∙ ap refusalOf e)
+  where
+    is : (m : ℕ) → 0 < m → m ≤ 34 → _≡_ {A = Option ℕ} (some m) (some n) → (0 < n) × (n ≤ 34)
+    is m l u e = let i : m ≡ n = cc in (omega arith, omega arith)
+
+    behind : (l : List Check) → rises 11 34 l ≡ true → lowest l ≡ some n → (0 < n) × (n ≤ 34)
+    behind l r f = let k = lowest-between 11 34 n l r f in (omega (arith, k .0), omega (arith, k .1))
+
+    go : (o : Option Register) (w : Option Query) → lowest (11 if lacks o ∷ 34 if lacks w ∷ (found o (λ R. found w (fitTable (kindsOf R)) []) [] ++ (20 if ltb (length b) querySize ∷ []))) ≡ some n → (0 < n) × (n ≤ 34)
+    go none w f = is 11 (omega arith) (omega arith) f
+    go (some R) none f = is 34 (omega arith) (omega arith) f
+    go (some R) (some q) f = behind (fitTable (kindsOf R) q ++ (20 if ltb (length b) querySize ∷ [])) refl f

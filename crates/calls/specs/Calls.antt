@@ -1,24 +1,26 @@
--- What each call answers. Document 01, "What each call turns away", 1 to 24; request 9 for the join.
+-- What each call answers. Document 01, "What each call turns away", 1 to 24; request 9 for the join, request 10 for reading and fitting.
 use Prim.Native.Nat.{ℕ, _+_}
 use mathlib.Core.Path.{_≡_}
 use mathlib.Core.Bool.{Bool, cond, not}
 use mathlib.Core.List.{List, [], _∷_, _++_, map}
-use mathlib.Core.Option.{some}
 use lib.Dec.{ltb}
 use lib.IntN.{ℤ, pos, negℤ}
 use lib.ListN.{length, drop}
 use Rattle.text.specs.Bytes.{Bytes}
 use Rattle.text.specs.Table.{bit}
 use Rattle.language.specs.Answer.{Answer, refused, accepted, orRefuse, leftIn, andThen}
-use Rattle.language.specs.Register.{Register}
+use Rattle.language.specs.Register.{Register, kindsOf}
 use Rattle.language.specs.RegisterText.{readRegister}
 use Rattle.language.specs.Rules.{isWithinLimits}
 use Rattle.language.specs.Joining.{join, kindsClash}
-use Rattle.language.specs.Core.{Core}
+use Rattle.language.specs.QueryText.{readText}
+use Rattle.language.specs.Elaboration.{fit}
 use Rattle.language.specs.Semantics.{run}
 use Rattle.language.specs.Calls.{coreOf}
 use Rattle.register_form.specs.Form.{stored, heldRegister}
+use Rattle.query_tree.specs.Form.{treeSize, treeOf, heldTree}
 use Rattle.nodes.specs.Held.{querySize, heldQuery}
+use Rattle.nodes.specs.Form.{queryOf}
 
 -- The register call: the bytes that it leaves in the buffer b, or the lowest of 1 to 8.
 unfoldable pub registerCall : Bytes → Bytes → Answer Bytes
@@ -32,18 +34,26 @@ joined R S b = cond (kindsClash R S) (refused 32) (cond (not (isWithinLimits (jo
 unfoldable pub joinCall : Bytes → Bytes → Bytes → Answer Bytes
 joinCall h k b = andThen (orRefuse 22 (heldRegister h)) (λ R. andThen (orRefuse 22 (heldRegister k)) (λ S. joined R S b))
 
--- The query call: the core query that is stored, or the lowest of 11 to 20. h is the held register, s the query text, b the
--- buffer.
-unfoldable pub queryCall : Bytes → Bytes → Bytes → Answer Core
-queryCall h s b =
-    andThen (orRefuse 11 (heldRegister h)) (λ R. andThen (coreOf R s) (λ c. cond (ltb (length b) querySize) (refused 20) (accepted c)))
+-- A form of that size at the front of the buffer b, with the bytes behind it as before, or n where b is too short.
+unfoldable pub writtenIn : ℕ → ℕ → Bytes → Bytes → Answer Bytes
+writtenIn n size form b = cond (ltb (length b) size) (refused n) (accepted (form ++ drop size b))
 
--- The buffer b afterwards: as before where the call is refused, else a form that reads back as the core query, with the bytes
--- behind it as before. "An answer that these papers leave free is named with what holds of it, as a held form's bytes, which
--- read back as the register or core query meant."
-abbrev pub Stores : Answer Core → Bytes → Bytes → Type 0
-Stores (refused n) b after = after ≡ b
-Stores (accepted c) b after = (heldQuery after ≡ some c) × (length after ≡ length b) × (drop querySize after ≡ drop querySize b)
+-- The query call: the bytes that it leaves in the buffer b, or the lowest of 11 to 20. h is the held register, s the query text.
+unfoldable pub queryCall : Bytes → Bytes → Bytes → Answer Bytes
+queryCall h s b =
+    andThen (orRefuse 11 (heldRegister h)) (λ R. andThen (coreOf R s) (λ c. writtenIn 20 querySize (queryOf c) b))
+
+-- The read call: "Reading gives 12 to 16, then 33, tree buffer too short". s is the query text, b the buffer.
+unfoldable pub readCall : Bytes → Bytes → Answer Bytes
+readCall s b = andThen (readText s) (λ q. writtenIn 33 treeSize (treeOf q) b)
+
+-- The fit call: "fitting gives 11, then 34, the tree is the form of no text that reading accepts, then 17 to 20". t is the held tree,
+-- h the held register, b the buffer.
+unfoldable pub fitCall : Bytes → Bytes → Bytes → Answer Bytes
+fitCall t h b =
+    andThen (orRefuse 11 (heldRegister h)) (λ R.
+    andThen (orRefuse 34 (heldTree t)) (λ q.
+    andThen (fit (kindsOf R) q) (λ c. writtenIn 20 querySize (queryOf c) b)))
 
 -- The ask call: the marks of the run, a truth value a page in place order, or the lowest of 21 to 24. q is the held query, h the
 -- held register, b the buffer.
@@ -82,8 +92,18 @@ pub record JoinCall (h k b after : Bytes) (r : ℤ) : Type 0 where
 
 -- h is the held register, s the query text, b the buffer before the call.
 pub record QueryCall (h s b after : Bytes) (r : ℤ) : Type 0 where
-  pub number : r ≡ returned (λ c. 0) (queryCall h s b)
-  pub buffer : Stores (queryCall h s b) b after
+  pub number : r ≡ returned (λ a. 0) (queryCall h s b)
+  pub buffer : after ≡ leftIn b (queryCall h s b)
+
+-- s is the query text, b the buffer before the call.
+pub record ReadCall (s b after : Bytes) (r : ℤ) : Type 0 where
+  pub number : r ≡ returned (λ a. 0) (readCall s b)
+  pub buffer : after ≡ leftIn b (readCall s b)
+
+-- t is the held tree, h the held register, b the buffer before the call.
+pub record FitCall (t h b after : Bytes) (r : ℤ) : Type 0 where
+  pub number : r ≡ returned (λ a. 0) (fitCall t h b)
+  pub buffer : after ≡ leftIn b (fitCall t h b)
 
 -- q is the held query, h the held register, b the buffer before the call.
 pub record AskCall (q h b after : Bytes) (r : ℤ) : Type 0 where

@@ -9,7 +9,7 @@ use lib.IntN.{ℤ, pos, negℤ}
 use lib.ListN.{length, getD, drop}
 use Rattle.text.specs.Bytes.{Bytes, any}
 use Rattle.text.specs.Table.{bit}
-use Rattle.language.specs.Answer.{Answer, accepted, acceptedOf, Check, _if_, _>>=_, found}
+use Rattle.language.specs.Answer.{Answer, accepted, acceptedOf, orRefuse, andThen, Check, _if_, _>>=_, found}
 use Rattle.language.specs.Register.{Page, Register, Typing, kindsOf}
 use Rattle.language.specs.RegisterText.{entries, emptyPage, readRegister}
 use Rattle.language.specs.RegisterText as RegisterText
@@ -20,13 +20,15 @@ use Rattle.language.specs.RawQuery.{readWhole}
 use Rattle.language.specs.QueryText.{readText}
 use Rattle.language.specs.QueryText as QueryText
 use Rattle.language.specs.Core.{Core, nodes}
-use Rattle.language.specs.Elaboration.{elaborate, isUndeclared}
+use Rattle.language.specs.Elaboration.{elaborate, isUndeclared, fit}
 use Rattle.language.specs.Semantics.{Mixed, Q, mismatch, selects}
 use Rattle.language.specs.Direct.{meaning, directMarks}
 use Rattle.language.specs.Calls.{coreOf}
 use Rattle.register_form.specs.Form.{registerSize, formOf, heldRegister}
+use Rattle.query_tree.specs.Form.{treeSize, treeOf, heldTree}
 use Rattle.nodes.specs.Held.{querySize, heldQuery}
-use Rattle.calls.specs.Calls.{marked}
+use Rattle.nodes.specs.Form.{queryOf}
+use Rattle.calls.specs.Calls.{queryCall, readCall, fitCall, marked}
 
 -- There is none.
 abbrev pub lacks : {A : Type 0} → Option A → Bool
@@ -79,6 +81,20 @@ queryTable h s b =
     ++ (found (heldRegister h) (λ R. found (acceptedOf (readText s)) (fitTable (kindsOf R)) []) []
     ++ (20 if ltb (length b) querySize ∷ [])))
 
+-- "Reading gives 12 to 16, then 33"
+unfoldable pub readTable : Bytes → Bytes → List Check
+readTable s b =
+    12 if ltb 1024 (length s)
+    ∷ 13 if lacks (readWhole s)
+    ∷ (found (readWhole s) QueryText.checks [] ++ (33 if ltb (length b) treeSize ∷ []))
+
+-- "fitting gives 11, then 34, .. then 17 to 20": the order of the request.
+unfoldable pub fitCallTable : Bytes → Bytes → Bytes → List Check
+fitCallTable t h b =
+    11 if lacks (heldRegister h)
+    ∷ 34 if lacks (heldTree t)
+    ∷ (found (heldRegister h) (λ R. found (heldTree t) (fitTable (kindsOf R)) []) [] ++ (20 if ltb (length b) querySize ∷ []))
+
 unfoldable pub askTable : Bytes → Bytes → Bytes → List Check
 askTable q h b =
     21 if lacks (heldQuery q)
@@ -117,16 +133,37 @@ pub record LeftJoin (h k b : Bytes) (n : ℕ) (after : Bytes) : Type 0 where
   pub holdsSecond : heldRegister k ≡ some second
   pub left : LeftForm (join first second) b n after
 
--- of the query call, a form of the core query of its text s, later bytes as before;
-pub record LeftQuery (h s b : Bytes) (k : ℕ) (after : Bytes) : Type 0 where
+-- the form of a core query at the front of the buffer b, and 0:
+pub record LeftCore (c : Core) (b : Bytes) (k : ℕ) (after : Bytes) : Type 0 where
   pub zero : k ≡ 0
+  pub bytes : after ≡ queryOf c ++ drop querySize b
+  pub held : heldQuery after ≡ some c
+
+-- of the query call, that of the core query of its text s;
+pub record LeftQuery (h s b : Bytes) (k : ℕ) (after : Bytes) : Type 0 where
   pub register : Register
   pub core : Core
   pub holds : heldRegister h ≡ some register
   pub fits : coreOf register s ≡ accepted core
-  pub held : heldQuery after ≡ some core
-  pub size : length after ≡ length b
-  pub later : drop querySize after ≡ drop querySize b
+  pub left : LeftCore core b k after
+
+-- of the read call, the form of the surface query of its text s, later bytes as before;
+pub record LeftTree (s b : Bytes) (k : ℕ) (after : Bytes) : Type 0 where
+  pub zero : k ≡ 0
+  pub query : Query
+  pub reads : readText s ≡ accepted query
+  pub bytes : after ≡ treeOf query ++ drop treeSize b
+  pub held : heldTree after ≡ some query
+
+-- of the fit call, that of the core query of its tree t;
+pub record LeftFit (t h b : Bytes) (k : ℕ) (after : Bytes) : Type 0 where
+  pub register : Register
+  pub query : Query
+  pub core : Core
+  pub holds : heldRegister h ≡ some register
+  pub tree : heldTree t ≡ some query
+  pub fits : fit (kindsOf register) query ≡ accepted core
+  pub left : LeftCore core b k after
 
 -- of the ask call, the marks of the run and their number, later bytes as before.
 pub record LeftMarks (q h b : Bytes) (k : ℕ) (after : Bytes) : Type 0 where
@@ -162,3 +199,8 @@ pub record ThirdDemand (q s : Bytes) (W : Register) (b after : Bytes) (r : ℤ) 
   pub holds : heldQuery q ≡ some core
   pub unmixed : mismatch core W ≡ false
   pub free : (u w : Mixed) → map (Q core u W) (W .pages) ≡ map (Q core w W) (W .pages)
+
+-- "With a tree buffer long enough, reading then fitting gives the held query and the refusals of the old call, save for the order of
+-- number 11": h is the held register, s the query text, u the tree's buffer, b the held query's.
+pub record ReadThenFit (h s u b : Bytes) : Type 0 where
+  pub is : queryCall h s b ≡ andThen (orRefuse 11 (heldRegister h)) (λ R. andThen (readCall s u) (λ t. fitCall t h b))

@@ -7,3 +7,4 @@ pub mod Stacks
 pub mod Forms
 pub mod Cores
 mod Tags
+pub mod Elaborated

@@ -35,7 +35,7 @@ use Rattle.query_fit.specs.declared.Fit.{Fit}
 use Rattle.query_fit.specs.Answers.{fitNumber, FitsTree}
 use Rattle.query_fit.specs.Fitting.{nodeUndeclared, Fits, queryCore}
 use Rattle.query_fit.proofs.Undeclared.{query17}
-use Rattle.query_fit.proofs.Keeping.{elaborated-keeps}
+use Rattle.nodes.proofs.Elaborated.{elaborated-keeps}
 
 -- What fitting answers where every property is declared.
 abbrev elaborated : Option Core → Answer Core

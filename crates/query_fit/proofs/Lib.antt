@@ -4,5 +4,4 @@ pub mod Joins
 pub mod Singles
 pub mod Ways
 pub mod Undeclared
-pub mod Keeping
 pub mod Fitted

@@ -1,30 +1,33 @@
--- What the rules keep of a surface query, elaboration keeps of its core query.
+-- What the rules keep of a surface query, elaboration keeps of its core query: it has a form.
+use Prim.Native.Nat.{ℕ, _≤_}
 use mathlib.Core.Path.{_≡_, refl, sym, subst, _∙_}
 use mathlib.Core.Bool.{Bool, true, false, cond, not, _&&_, _||_}
 use mathlib.Core.List.{List, [], _∷_, _++_}
 use mathlib.Core.Option.{Option, some, none}
 use lib.IntN.{ℤ, pos, negsuc}
 use native.Mathlib.Omega.{arith}
-use borrow.Author.Tests.{lt-ltb}
-use Rattle.text.specs.Bytes.{Bytes, all}
+use borrow.Author.Tests.{lt-ltb, ltb-false, le-leb}
+use lib.Dec.{ltb, leb}
+use Rattle.text.specs.Bytes.{Bytes, all, any}
 use Rattle.text.proofs.Laws.{all-append}
 use Rattle.values.specs.declared.Kind.{Kind}
 use Rattle.values.specs.Names.{Reference, bare, qualified, reference, isName, isNamespace, isPropertyName, isReference, isValue}
 use Rattle.values.specs.Values.{Constant, number, boolean, string, mapOption, readNumber, readBoolean, readConstant}
 use Rattle.values.specs.Answers.{base}
 use Rattle.values.proofs.Numbers.{Small, read-small}
-use Rattle.language.specs.Answer.{_>>=_}
+use Rattle.language.specs.Answer.{refused, accepted, found, _>>=_}
 use Rattle.language.specs.Register.{Typing}
-use Rattle.language.specs.Surface.{Chain, single, chain, Categories, Identifiers, Alternatives, Query}
+use Rattle.language.specs.Surface.{Chain, single, chain, Categories, Identifiers, Alternatives, Query, propertiesOf}
 use Rattle.language.specs.QueryText.{breaksNames}
-use Rattle.language.specs.Core.{Core}
+use Rattle.language.specs.Core.{Core, nodes}
 use Rattle.language.specs.Core as Core
-use Rattle.language.specs.Elaboration.{compared, elaborateReference, elaborateIdentifiers, elaborateCategories, elaborateConstant, elaborateValue, inside, joined, along, elaborateIn, elaborate}
+use Rattle.language.specs.Elaboration.{compared, elaborateReference, elaborateIdentifiers, elaborateCategories, elaborateConstant, elaborateValue, inside, joined, along, elaborateIn, elaborate, isUndeclared, fit}
 use Rattle.language.specs.declared.Comparator.{Comparator}
 use Rattle.language.specs.declared.SurfaceComparator.{SurfaceComparator}
 use Rattle.language.proofs.Members.{and-true, both-true, or-false}
 use Rattle.nodes.specs.Postfix.{Node, post}
-use Rattle.nodes.specs.Form.{isBounded, isConstant, isNode}
+use Rattle.nodes.specs.Form.{isBounded, isConstant, isNode, isCore}
+use Rattle.nodes.proofs.Postfix.{length-post}
 use Rattle.query_spelling.specs.Spelled.{isOneCategory, isOneIdentifier, isOneAlternative, spelledCategories, spelledIdentifiers, readsAsCategory, spelledValue, spelledChain, spelledIn, isSpelled}
 use Rattle.query_spelling.proofs.Texts.{not-not}
 
@@ -228,3 +231,31 @@ module _ (Γ : Typing) where
   pub elaborated-keeps : (q : Query) (c : Core) → isSpelled q ≡ true → elaborate q Γ ≡ some c → all isNode (post c) ≡ true
   unfolding Keeps
   elaborated-keeps q c h e = subst KeepsSome e (query-keeps q h)
+
+-- A core query has a node.
+some-node : (c : Core) → 1 ≤ nodes c
+unfolding nodes
+some-node (Core.select (Core.category x)) = omega arith
+some-node (Core.select (Core.namespace x)) = omega arith
+some-node (Core.select (Core.existence x)) = omega arith
+some-node (Core.select (Core.subquery x q)) = omega arith
+some-node (Core.select (Core.article c x)) = omega arith
+some-node (Core.select (Core.value x c v)) = omega arith
+some-node (Core.disjunction a b) = omega arith
+some-node (Core.conjunction a b) = omega arith
+
+-- What fitting accepts is a core query that has a form.
+pub fitted-core : (Γ : Typing) (q : Query) (c : Core) → isSpelled q ≡ true → fit Γ q ≡ accepted c → isCore c ≡ true
+unfolding fit isCore
+fitted-core Γ q c h e = go (any (isUndeclared Γ) (propertiesOf q)) (elaborate q Γ) refl e
+  where
+    go : (u : Bool) (o : Option Core) → elaborate q Γ ≡ o → cond u (refused 17) (found o (λ d. cond (ltb 256 (nodes d)) (refused 19) (accepted d)) (refused 18)) ≡ accepted c → isCore c ≡ true
+    go true o f g = absurd (let y : _≡_ {A = ℕ} 0 1 = cc in omega arith)
+    go false none f g = absurd (let y : _≡_ {A = ℕ} 0 1 = cc in omega arith)
+    go false (some d) f g = few (ltb 256 (nodes d)) refl g
+      where
+        few : (m : Bool) → ltb 256 (nodes d) ≡ m → cond m (refused 19) (accepted d) ≡ accepted c → isCore c ≡ true
+        few true i j = absurd (let y : _≡_ {A = ℕ} 0 1 = cc in omega arith)
+        few false i j =
+            let same : d ≡ c = cc in
+            rw (← same) (both-true (both-true (le-leb 1 (nodes d) (some-node d)) (le-leb (nodes d) 256 (ltb-false 256 (nodes d) i))) (elaborated-keeps Γ q d h f))

@@ -1,3 +1,0 @@
-pub mod Table
-pub mod Readings
-pub mod Bodies
