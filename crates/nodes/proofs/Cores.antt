@@ -3,7 +3,7 @@ use Prim.Native.Nat.{ℕ, zero, suc, _*_, _-_, _<_}
 use mathlib.Core.Path.{_≡_, refl, sym, ap, subst, _∙_}
 use mathlib.Core.Bool.{Bool, true, false, cond, _&&_}
 use mathlib.Core.List.{List, [], _∷_, _++_, append-assoc, append-nil}
-use mathlib.Core.Option.{Option, some, none}
+use mathlib.Core.Option.{some, none}
 use native.Mathlib.Omega.{arith}
 use lib.Dec.{leb, ltb, eqb}
 use lib.IntN.{pos, negsuc, subℕ}
@@ -13,29 +13,19 @@ use borrow.Author.Tests.{ltb-true, ltb-false, lt-ltb}
 use Rattle.text.specs.Bytes.{Bytes, all}
 use Rattle.text.specs.Parts.{partOf}
 use Rattle.text.proofs.Laws.{all-append}
-use Rattle.values.specs.Names.{isName, isNamespace, isPropertyName, isValue}
+use Rattle.values.specs.Names.{isValue}
 use Rattle.values.specs.Values.{number, boolean, string, Constant}
 use Rattle.values.specs.Answers.{base}
 use Rattle.language.specs.Answer.{_>>=_, onlyIf}
 use Rattle.language.specs.Core.{Core, nodes}
-use Rattle.language.specs.declared.Comparator.{Comparator}
 use Rattle.language.proofs.Members.{and-true, both-true}
 use Rattle.language.proofs.Options.{OnSome, on-bind, on-weaker}
 use Rattle.nodes.specs.declared.Slot.{Slot}
 use Rattle.nodes.specs.Postfix.{Node, post, stepped, runs, only, readBack}
-use Rattle.nodes.specs.Held.{querySize, countIn, heapIn, comparatorFrom, numberFrom, constantFrom, constantOf, nodeFrom, nodeOf, slotIn, nodeIn, nodesTo, hasSizes, heldQuery}
+use Rattle.nodes.specs.Held.{querySize, countIn, heapIn, numberFrom, constantFrom, constantOf, nodeOf, slotIn, nodeIn, nodesTo, hasSizes, heldQuery}
 use Rattle.nodes.specs.Form.{isBounded, isConstant, isNode, isCore}
+use Rattle.nodes.proofs.Nodewise.{on-cond, on-only, on-node}
 use Rattle.nodes.proofs.Postfix.{length-post}
-
--- What holds of an answer that is chosen, or tested.
-module _ {A : Type 0} (P : A → Type 0) where
-  on-cond : (b : Bool) (o p : Option A) → OnSome P o → OnSome P p → OnSome P (cond b o p)
-  on-cond true o p h k = h
-  on-cond false o p h k = k
-
-  on-only : (b : Bool) (o : Option A) → (b ≡ true → OnSome P o) → OnSome P (onlyIf b o)
-  on-only true o h = h refl
-  on-only false o h = tt
 
 -- Constants.
 abbrev KeptConstant : Constant → Type 0
@@ -57,10 +47,10 @@ in-range n h = go (ltb n base) refl
 constant-kept : (s : Bytes) (x : Slot) → OnSome KeptConstant (constantOf s x)
 unfolding constantOf constantFrom numberFrom
 constant-kept s x =
-    on-cond KeptConstant (eqb (x .kind) 0) _ _ numbers
+    on-cond KeptConstant (eqb (x .kind) 0) _ _ (λ e. numbers)
     (on-cond KeptConstant (eqb (x .kind) 1) _ _
-    (on-cond KeptConstant (eqb (x .truth) 0) (some (boolean false)) _ refl (on-cond KeptConstant (eqb (x .truth) 1) (some (boolean true)) none refl tt))
-    (on-cond KeptConstant (eqb (x .kind) 2) _ none (on-only KeptConstant (isValue (partOf s (x .second))) (some (string (partOf s (x .second)))) (λ h. h)) tt))
+    (λ e. on-cond KeptConstant (eqb (x .truth) 0) (some (boolean false)) _ (λ f. refl) (on-cond KeptConstant (eqb (x .truth) 1) (some (boolean true)) none (λ f. refl) tt))
+    (on-cond KeptConstant (eqb (x .kind) 2) _ none (λ e. on-only KeptConstant (isValue (partOf s (x .second))) (some (string (partOf s (x .second)))) (λ h. h)) tt))
   where
     numbers : OnSome KeptConstant (onlyIf (ltb 0 (x .number) && ltb (x .number) (2 * base)) (some (subℕ (x .number) base)) >>= λ z. some (number z))
     numbers =
@@ -72,38 +62,11 @@ constant-kept s x =
 abbrev KeptNode : Node → Type 0
 KeptNode m = isNode m ≡ true
 
-abbrev Known : Comparator → Type 0
-Known d = Unit {0}
-
-known : (o : Option Comparator) → OnSome Known o
-known none = tt
-known (some d) = tt
-
 node-kept : (s : Bytes) (tag : ℕ) (x : Slot) → OnSome KeptNode (nodeOf s tag x)
-unfolding nodeOf nodeFrom isNode
+unfolding nodeOf isNode
 node-kept s tag x =
-    on-cond KeptNode (eqb tag 0) (some Node.conjunction) _ refl
-    (on-cond KeptNode (eqb tag 1) (some Node.disjunction) _ refl
-    (on-cond KeptNode (eqb tag 2) _ _ (on-only KeptNode (isName a) (some (Node.category a)) (λ h. h))
-    (on-cond KeptNode (eqb tag 3) _ _ (on-only KeptNode (isNamespace a) (some (Node.namespace a)) (λ h. h))
-    (on-cond KeptNode (eqb tag 4) _ _ (on-only KeptNode (isPropertyName a) (some (Node.existence a)) (λ h. h))
-    (on-cond KeptNode (eqb tag 5) _ _ (on-only KeptNode (isPropertyName a) (some (Node.subquery a)) (λ h. h))
-    (on-cond KeptNode (eqb tag 6) _ _ (on-only KeptNode (isName b) (o >>= λ d. some (Node.article d b)) (λ h. on-bind Known KeptNode o (λ d. some (Node.article d b)) (known o) (λ d u. h)))
-    (on-cond KeptNode (eqb tag 7) _ none (on-only KeptNode (isPropertyName a) (o >>= λ d. constantOf s x >>= λ w. some (Node.value a d w)) values) tt)))))))
-  where
-    a : Bytes
-    a = partOf s (x .first)
-
-    b : Bytes
-    b = partOf s (x .second)
-
-    o : Option Comparator
-    o = comparatorFrom (x .comparator)
-
-    values : isPropertyName a ≡ true → OnSome KeptNode (o >>= λ d. constantOf s x >>= λ w. some (Node.value a d w))
-    values h =
-        on-bind Known KeptNode o (λ d. constantOf s x >>= λ w. some (Node.value a d w)) (known o)
-        (λ d u. on-bind KeptConstant KeptNode (constantOf s x) (λ w. some (Node.value a d w)) (constant-kept s x) (λ w k. both-true h k))
+    on-node KeptNode KeptConstant tag (x .comparator) (constantOf s x) (partOf s (x .first)) (partOf s (x .second)) (constant-kept s x)
+    (λ e. refl) (λ e. refl) (λ e h. h) (λ e h. h) (λ e h. h) (λ e h. h) (λ e h d. h) (λ e h d w k. both-true h k)
 
 -- The nodes that were read.
 pub record NodesRead (n : ℕ) (l : List Node) : Type 0 where

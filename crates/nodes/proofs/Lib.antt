@@ -5,6 +5,7 @@ pub mod Counts
 pub mod Ways
 pub mod Stacks
 pub mod Forms
+pub mod Nodewise
 pub mod Cores
 mod Tags
 pub mod Elaborated
