@@ -1,50 +1,134 @@
-// The query call: fits a query text to a held register, and writes the held query.
+// The calls that read a query text, fit what was read to a held register, and do both.
 ghost use mathlib.Core.Path.{_≡_};
-ghost use Prim.Native.Nat.{ℕ};
-ghost use Rattle.query.specs.Call.{Queries};
-ghost use Rattle.query.specs.Stages.{CoreIn, decided};
+ghost use Prim.Native.Nat.{min};
+ghost use Rattle.buffer.specs.Writing.{written};
+ghost use Rattle.language.specs.Answer.{Answered};
+ghost use Rattle.calls.specs.Calls.{queryCall, readCall, fitCall};
+ghost use Rattle.query_read.specs.Answers.{numberOfReading};
+ghost use Rattle.query_fit.specs.Answers.{fitNumber};
+ghost use Rattle.query.specs.Stages.{Opened, FitsInto};
+use nodes::QUERY_BYTES;
+use query_fit::Fit;
+use query_fit::fit_tree;
+use query_read::Reading;
+use query_read::read_text;
+use query_tree::TREE_BYTES;
+use query_tree::tree::is_tree;
 use register_form::REGISTER_BYTES;
-use stages::fit_text;
-use stages::write_at;
 use text::part;
 
-mod stages; // stages.rt: from a text and kinds to the bytes of a query
+// The number of what reading answers, 0 for none.
+fn reading_number(reading: Reading) -> usize
+    ensures { λ r. ⌜ r ≡ numberOfReading reading ⌝ }
+{
+    match reading {
+        Reading::Fine => 0,
+        Reading::TooLong => 12,
+        Reading::NoReading => 13,
+        Reading::TooDeep => 14,
+        Reading::BadName => 15,
+        Reading::BadValue => 16,
+    }
+}
 
-// How many bytes a held query has.
-pub const QUERY_BYTES: usize = 6148;
+// The number of what fitting answers, 0 for none.
+fn fit_number(fit: Fit) -> usize
+    ensures { λ r. ⌜ r ≡ fitNumber fit ⌝ }
+{
+    match fit {
+        Fit::Fine => 0,
+        Fit::Undeclared => 17,
+        Fit::Unfit => 18,
+        Fit::TooMany => 19,
+    }
+}
 
-// The core query of a text by a held register, in the buffer's bytes; 0 or the lowest of 11 to 19.
-fn core_in(register: &[u8], text: &[u8], scratch: &mut [u8]) -> usize
-    ensures { λ r. ⌜ CoreIn (now (register .entry)) (now (text .entry)) (now (scratch .entry)) (now (scratch .exit)) r ⌝ }
+// The lesser of two lengths.
+fn shorter(a: usize, b: usize) -> usize
+    ensures { λ r. ⌜ r ≡ min a b ⌝ }
+{
+    if a < b { a } else { b }
+}
+
+// Writes bytes over the front. Where the loop ends is known before it, so that a compiler takes many bytes at a time.
+fn copy(held: &mut [u8], bytes: &[u8])
+    ensures { λ _. ⌜ now (held .exit) ≡ written (now (held .entry)) 0 (now (bytes .entry)) ⌝ }
+{
+    let end = shorter(held.len(), bytes.len());
+    let mut i: usize = 0;
+    while i < end {
+        held[i] = bytes[i];
+        i += 1;
+    }
+}
+
+// Whether the first bytes are a held register.
+fn is_register(register: &[u8]) -> bool
+    ensures { λ r. ⌜ Opened (now (register .entry)) r ⌝ }
 {
     let h = part(register, 0, REGISTER_BYTES);
     let mut places = [0u16; 2368];
-    if !register_test::open(h, &mut places) {
-        return 11;
-    }
-    fit_text(text, h, scratch)
+    register_test::open(h, &mut places)
 }
 
-// The number that the call answers, by the lowest of 11 to 19 and the length of the buffer.
-fn decide(number: usize, len: usize) -> usize
-    ensures { λ r. ⌜ r ≡ decided number len ⌝ }
+// Fits a tree to the kinds of a register and writes the held query: 0, or the lowest of 17 to 20.
+fn fit_into(tree: &[u8], register: &[u8], held: &mut [u8]) -> usize
+    ensures { λ r. ⌜ FitsInto (now (tree .entry)) (now (register .entry)) (now (held .entry)) r (now (held .exit)) ⌝ }
 {
+    let mut scratch = [0u8; QUERY_BYTES];
+    let number = fit_number(fit_tree(tree, register, &mut scratch));
     if number != 0 {
         return number;
     }
-    if len < 6148 { 20 } else { 0 }
+    if held.len() < QUERY_BYTES {
+        return 20;
+    }
+    copy(held, &scratch);
+    0
 }
 
-// The query call: writes the held query of a text, or answers the number that refuses it.
-pub fn query(register: &[u8], text: &[u8], held: &mut [u8]) -> usize
-    ensures { λ r. ⌜ Queries (now (register .entry)) (now (text .entry)) (now (held .entry)) (now (held .exit)) r ⌝ }
+// The read call: writes the held tree of a text, or answers the number that refuses it.
+pub fn read(text: &[u8], tree: &mut [u8]) -> usize
+    ensures { λ r. ⌜ Answered (readCall (now (text .entry)) (now (tree .entry))) (now (tree .entry)) r (now (tree .exit)) ⌝ }
 {
-    let mut scratch = [0u8; 6148];
-    let number = core_in(register, text, &mut scratch);
-    let answer = decide(number, held.len());
-    if answer != 0 {
-        return answer;
+    let mut scratch = [0u8; TREE_BYTES];
+    let number = reading_number(read_text(text, &mut scratch));
+    if number != 0 {
+        return number;
     }
-    write_at(held, 0, &scratch);
-    answer
+    if tree.len() < TREE_BYTES {
+        return 33;
+    }
+    copy(tree, &scratch);
+    0
+}
+
+// The fit call: writes the held query of a tree for a register, or answers the number that refuses them.
+pub fn fit(tree: &[u8], register: &[u8], held: &mut [u8]) -> usize
+    ensures { λ r. ⌜ Answered (fitCall (now (tree .entry)) (now (register .entry)) (now (held .entry))) (now (held .entry)) r (now (held .exit)) ⌝ }
+{
+    if !is_register(register) {
+        return 11;
+    }
+    if !is_tree(tree) {
+        return 34;
+    }
+    let h = part(register, 0, REGISTER_BYTES);
+    fit_into(part(tree, 0, TREE_BYTES), h, held)
+}
+
+// The query call: reading, then fitting.
+pub fn query(register: &[u8], text: &[u8], held: &mut [u8]) -> usize
+    ensures { λ r. ⌜ Answered (queryCall (now (register .entry)) (now (text .entry)) (now (held .entry))) (now (held .entry)) r (now (held .exit)) ⌝ }
+{
+    if !is_register(register) {
+        return 11;
+    }
+    let mut tree = [0u8; TREE_BYTES];
+    let number = reading_number(read_text(text, &mut tree));
+    if number != 0 {
+        return number;
+    }
+    let h = part(register, 0, REGISTER_BYTES);
+    fit_into(&tree, h, held)
 }
