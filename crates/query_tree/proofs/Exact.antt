@@ -1,13 +1,13 @@
 -- Bytes are those of the nodes that they hold, exactly where the test of each row says so.
-use Prim.Native.Nat.{ℕ, zero, suc, _+_, _*_, _-_, _≤_, _<_}
+use Prim.Native.Nat.{ℕ, zero, suc, _+_, _*_, _-_, _≤_}
 use mathlib.Core.Path.{_≡_, refl, sym, ap, ap₂, _∙_}
-use mathlib.Core.Bool.{Bool, true, false, cond, _&&_, _||_, false≢true}
+use mathlib.Core.Bool.{Bool, true, false, cond, _&&_, _||_}
 use mathlib.Core.List.{List, [], _∷_, _++_}
 use native.Mathlib.Nat.{add-zero}
 use native.Mathlib.Omega.{arith}
 use lib.Dec.{eqb, leb, ltb}
 use lib.ListN.{length, getD, take, drop}
-use borrow.Author.Tests.{eqb-true, leb-true, lt-leb}
+use borrow.Author.Tests.{eqb-true, leb-true}
 use Rattle.text.specs.Bytes.{Bytes, part}
 use Rattle.buffer.specs.Numbers.{twoBytes, twoAt}
 use Rattle.buffer.proofs.Parts.{length-part, part-add}
@@ -17,7 +17,7 @@ use Rattle.language.specs.declared.SurfaceComparator.{SurfaceComparator}
 use Rattle.query_tree.specs.Nodes.{Node, stringOf}
 use Rattle.query_tree.specs.declared.Row.{Row}
 use Rattle.query_tree.specs.Form.{rowOf, comparatorCode, rowAt, comparatorFrom, nodeFrom}
-use Rattle.query_tree.specs.Testing.{usesComparator, usesFirst, usesSecond, usesNothing, numberFits, numbersFit, rowFits}
+use Rattle.query_tree.specs.Testing.{usesComparator, usesFirst, usesSecond, usesNothing, numberFits, rowFits}
 
 -- What a row that fits tells.
 record Fitting (at t c n a b : ℕ) : Type 0 where
@@ -93,12 +93,3 @@ module _ (s : Bytes) (long : length s ≡ 1024) (at : ℕ) where
       let c = and-true (leb (r .tag) 11) (leb (r .comparator) (cond (usesComparator (r .tag)) 5 0)) (n .0) in
       fitting-same (r .tag) (r .comparator) (r .number) (r .first) (r .second) (leb-true (r .tag) 11 (c .0))
       (record { comparator = leb-true (r .comparator) _ (c .1); number = n .1; first = k .1; second = d .1; room = leb-true _ 1024 (e .1) })
-
--- No string begins behind 1,024 bytes.
-and-no : (a b : Bool) → b ≡ false → false ≡ a && b
-and-no true b h = sym h
-and-no false b h = refl
-
-pub row-far : (at : ℕ) (r : Row) → 1024 < at → false ≡ rowFits at r
-unfolding rowFits
-row-far at r h = and-no (numbersFit at r) (leb (at + r .first + r .second) 1024) (lt-leb (at + r .first + r .second) 1024 (omega (arith, h)))

@@ -9,8 +9,8 @@ use native.Mathlib.Omega.{arith}
 use lib.Dec.{leb}
 use lib.ListN.{length, getD, take, drop, length-append, length-take, length-replicate, getD-replicate, replicate}
 use lib.Seq.{take-all, take-append-le, length-take-le, getD-take}
-use borrow.Author.Tests.{leb-true, le-leb, lt-leb}
-use Rattle.text.specs.Bytes.{Bytes, part, same}
+use borrow.Author.Tests.{leb-true, le-leb}
+use Rattle.text.specs.Bytes.{Bytes, same}
 use Rattle.text.proofs.Laws.{same-eq, same-refl}
 use Rattle.buffer.specs.Numbers.{twoBytes, twoAt, padded}
 use Rattle.buffer.proofs.Numbers.{two-there}
@@ -170,20 +170,3 @@ all-255 n = go (heldTree l) refl
         let f = text-fits q (d .has) in
         let c : twoAt (treeOf q) 0 ≡ length (tree q) = ap (λ (x : Bytes). twoAt x 0) (sym (form q)) ∙ bytes-hold (tree q) f .count in
         absurd (omega (arith, f .few, c, two-is (treeOf q), byte q d 0 (omega arith), byte q d 1 (omega arith)))
-
--- What the test of bytes answers: too few of them, bytes that are not those of their nodes, nodes that are tried.
-module _ (h : Bytes) (small : (j : ℕ) → getD h j 0 < 256) where
-  pub held-short : length h < treeSize → false ≡ found (heldTree h) (λ q. true) false
-  held-short l = sym (held-tested h small ∙ ap (λ (t : Bool). t && (isExact (take treeSize h) && isTree (nodesIn (take treeSize h)))) (lt-leb treeSize (length h) l))
-
-  module _ (l : treeSize ≤ length h) (g : Bytes) (e : g ≡ part h 0 treeSize) (b : Bool) (f : b ≡ isExact g) where
-    tested : found (heldTree h) (λ q. true) false ≡ (b && isTree (nodesIn g))
-    tested =
-        held-tested h small ∙ ap (λ (t : Bool). t && (isExact (take treeSize h) && isTree (nodesIn (take treeSize h)))) (le-leb treeSize (length h) l) ∙ ap (λ (x : Bytes). isExact x && isTree (nodesIn x)) (sym e)
-        ∙ ap (λ (t : Bool). t && isTree (nodesIn g)) (sym f)
-
-    pub held-inexact : b ≡ false → false ≡ found (heldTree h) (λ q. true) false
-    held-inexact t = sym (tested ∙ ap (λ (x : Bool). x && isTree (nodesIn g)) t)
-
-    pub held-tried : b ≡ true → (r : Bool) → r ≡ isTree (nodesIn g) → r ≡ found (heldTree h) (λ q. true) false
-    held-tried t r k = k ∙ sym (tested ∙ ap (λ (x : Bool). x && isTree (nodesIn g)) t)

@@ -10,6 +10,3 @@ pub mod Exact
 pub mod Tested
 pub mod Held
 pub mod Ways
-pub mod Loops
-pub mod Caps
-pub mod Stacks

@@ -4,4 +4,3 @@ pub mod Building
 pub mod Form
 pub mod Testing
 pub mod Reading
-pub mod Stack

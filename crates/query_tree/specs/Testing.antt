@@ -1,6 +1,5 @@
 -- Working definitions: whether bytes are those of the nodes that they hold, row by row.
-use Prim.Native.Nat.{ℕ, zero, suc, _+_, _*_, _-_, _≤_}
-use mathlib.Core.Path.{_≡_}
+use Prim.Native.Nat.{ℕ, zero, suc, _+_, _*_, _-_}
 use mathlib.Core.Bool.{Bool, true, cond, _&&_, _||_}
 use lib.Dec.{eqb, leb, ltb}
 use Rattle.text.specs.Bytes.{Bytes}
@@ -44,11 +43,6 @@ module _ (h : Bytes) where
   unfoldable pub rowsFit : ℕ → Bool
   rowsFit zero = true
   rowsFit (suc i) = rowsFit i && rowFits (stringAt i) (rowIn h i)
-
-  -- What testing the first n rows answers.
-  pub record RowsTested (n : ℕ) (ok : Bool) (end : ℕ) : Type 0 where
-    pub is : ok ≡ rowsFit n
-    pub ends : ok ≡ true → (end ≡ stringAt n) × (end ≤ 1024)
 
   -- The bytes are those of the nodes that they hold, where there are 5,112.
   unfoldable pub isExact : Bool

@@ -3,12 +3,6 @@ use language::SurfaceComparator;
 use text::Span;
 
 pub mod reading; // reading.rt: nodes from their bytes
-pub mod testing; // testing.rt: whether bytes are those of the nodes that they hold
-pub mod shapes; // shapes.rt: shapes and counts of parts
-pub mod leaves; // leaves.rt: parts that are one node
-pub mod joining; // joining.rt: parts made of others
-pub mod passing; // passing.rt: whether nodes are the tree of a text
-pub mod tree; // tree.rt: whether bytes are a held tree
 
 // The size of a held tree.
 pub const TREE_BYTES: usize = 5112;
@@ -35,12 +29,6 @@ pub struct Item {
     pub kept: bool,
     pub bytes: u16,
     pub depth: u16,
-}
-
-// What a node makes of the parts before it, or nothing.
-pub enum Made {
-    Is(Item),
-    Nothing,
 }
 
 // A node's six bytes: a tag, a comparator, a number, the lengths of a namespace and of a name or value.

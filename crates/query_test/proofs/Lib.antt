@@ -1,0 +1,4 @@
+pub mod Loops
+pub mod Caps
+pub mod Stacks
+pub mod Answers
