@@ -1,23 +1,20 @@
 -- Bytes are those of the nodes that they hold, exactly where the test of each row says so.
-use Prim.Native.Nat.{ℕ, zero, suc, _+_, _*_, _-_, _≤_}
+use Prim.Native.Nat.{ℕ, zero, suc, _+_, _-_, _≤_}
 use mathlib.Core.Path.{_≡_, refl, sym, ap, ap₂, _∙_}
-use mathlib.Core.Bool.{Bool, true, false, cond, _&&_, _||_}
-use mathlib.Core.List.{List, [], _∷_, _++_}
-use native.Mathlib.Nat.{add-zero}
+use mathlib.Core.Bool.{true, cond, _||_}
+use mathlib.Core.List.{[]}
 use native.Mathlib.Omega.{arith}
-use lib.Dec.{eqb, leb, ltb}
-use lib.ListN.{length, getD, take, drop}
+use lib.Dec.{eqb, leb}
+use lib.ListN.{length}
 use borrow.Author.Tests.{eqb-true, leb-true}
 use Rattle.text.specs.Bytes.{Bytes, part}
-use Rattle.buffer.specs.Numbers.{twoBytes, twoAt}
 use Rattle.buffer.proofs.Parts.{length-part, part-add}
-use Rattle.values.specs.Names.{Reference, bare, qualified}
+use Rattle.values.specs.Names.{bare}
 use Rattle.language.proofs.Members.{and-true}
-use Rattle.language.specs.declared.SurfaceComparator.{SurfaceComparator}
 use Rattle.query_tree.specs.Nodes.{Node, stringOf}
 use Rattle.query_tree.specs.declared.Row.{Row}
 use Rattle.query_tree.specs.Form.{rowOf, comparatorCode, rowAt, comparatorFrom, nodeFrom}
-use Rattle.query_tree.specs.Testing.{usesComparator, usesFirst, usesSecond, usesNothing, numberFits, rowFits}
+use Rattle.query_tree.specs.Testing.{usesComparator, usesFirst, usesSecond, numberFits, rowFits}
 
 -- What a row that fits tells.
 record Fitting (at t c n a b : ℕ) : Type 0 where

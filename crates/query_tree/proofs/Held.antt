@@ -1,29 +1,28 @@
 -- A held tree is the form of one query, and each query that some text has is the one of its form.
 use Prim.Native.Nat.{ℕ, zero, suc, _+_, _*_, _≤_, _<_}
-use mathlib.Core.Path.{_≡_, refl, sym, ap, ap₂, subst, _∙_}
+use mathlib.Core.Path.{_≡_, refl, sym, ap, subst, _∙_}
 use mathlib.Core.Logic.{_↔_}
 use mathlib.Core.Bool.{Bool, true, false, _&&_, false≢true}
 use mathlib.Core.List.{List, [], _∷_, _++_}
 use mathlib.Core.Option.{Option, some, none}
 use native.Mathlib.Omega.{arith}
 use lib.Dec.{leb}
-use lib.ListN.{length, getD, take, drop, length-append, length-take, length-replicate, getD-replicate, replicate}
+use lib.ListN.{length, getD, take, length-append, length-take, length-replicate, getD-replicate, replicate}
 use lib.Seq.{take-all, take-append-le, length-take-le, getD-take}
 use borrow.Author.Tests.{leb-true, le-leb}
 use Rattle.text.specs.Bytes.{Bytes, same}
 use Rattle.text.proofs.Laws.{same-eq, same-refl}
-use Rattle.buffer.specs.Numbers.{twoBytes, twoAt, padded}
+use Rattle.buffer.specs.Numbers.{twoAt, padded}
 use Rattle.buffer.proofs.Numbers.{two-there}
 use Rattle.buffer.proofs.Parts.{part-before, part-behind}
 use Rattle.buffer.proofs.Regions.{length-padded}
 use Rattle.language.specs.Answer.{_>>=_, found, onlyIf}
 use Rattle.language.specs.Surface.{Query}
 use Rattle.language.proofs.Members.{and-true, both-true}
-use Rattle.query_spelling.specs.Spelled.{isSpelled, cost, deep, hasText}
+use Rattle.query_spelling.specs.Spelled.{isSpelled, hasText}
 use Rattle.query_tree.specs.Nodes.{Node, tree, strings}
 use Rattle.query_tree.specs.Pass.{isTree}
 use Rattle.query_tree.specs.Building.{built}
-use Rattle.query_tree.specs.declared.Row.{Row}
 use Rattle.query_tree.specs.Form.{treeSize, rowsFrom, nodeBytes, treeOf, nodesIn, heldTree}
 use Rattle.query_tree.specs.Testing.{isExact}
 use Rattle.query_tree.proofs.Counts.{few-nodes, few-strings}
