@@ -1,9 +1,12 @@
 -- Bytes copied over the front of a buffer.
 use Prim.Native.Nat.{ℕ, suc, _+_, _-_, _≤_, _<_, min}
 use mathlib.Core.Path.{_≡_, refl, sym, ap, _∙_}
-use mathlib.Core.List.{List, _++_}
+use mathlib.Core.Bool.{Bool, true, false}
+use mathlib.Core.List.{_++_}
 use native.Mathlib.Omega.{arith}
-use lib.ListN.{length, getD, drop, set, drop-of-length-le}
+use borrow.Author.Tests.{ltb-true, ltb-false}
+use lib.Dec.{ltb}
+use lib.ListN.{length, getD, drop, set}
 use lib.Seq.{sets-eq}
 use Rattle.text.specs.Bytes.{Bytes}
 use Rattle.buffer.specs.Writing.{written}
@@ -29,7 +32,11 @@ module _ (h₀ v : Bytes) where
     copy-more l = bytes-more h₀ 0 v h i i w (omega (arith, e, l))
 
     pub copy-all : end ≤ i → h ≡ written h₀ 0 v
-    copy-all l = ?
+    copy-all l = go (ltb i (length v)) refl
+      where
+        go : (b : Bool) → ltb i (length v) ≡ b → h ≡ written h₀ 0 v
+        go false f = bytes-all h₀ 0 v h i i w (ltb-false i (length v) f)
+        go true f = writing-past h₀ 0 v h i (drop i v) (omega (arith, e, l, ltb-true i (length v) f, w .size)) w
 
 pub ruleset copying = (copy-none, copy-more, copy-all)
 

@@ -12,8 +12,8 @@ use query_fit::Fit;
 use query_fit::fit_tree;
 use query_read::Reading;
 use query_read::read_text;
+use query_test::is_tree;
 use query_tree::TREE_BYTES;
-use query_tree::tree::is_tree;
 use register_form::REGISTER_BYTES;
 use text::part;
 
