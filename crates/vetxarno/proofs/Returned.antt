@@ -21,12 +21,11 @@ use Rattle.language.specs.Semantics.{selects, run}
 use Rattle.language.proofs.Rules.{register-rules}
 use Rattle.register_form.proofs.Forms.{held-is}
 use Rattle.register_form.proofs.Rules.{within}
-use Rattle.query.specs.Call.{Queries}
 use Rattle.ask.specs.Call.{asked, Asks}
 use Rattle.ask.specs.declared.Asked.{Asked}
-use Rattle.calls.specs.Calls.{registerCall, joinCall, queryCall, askCall, marked, marksIn, returned, RegisterCall, JoinCall, QueryCall, AskCall}
-use Rattle.calls.specs.Demands.{lowest, rises, registerTable, queryTable, askTable}
-use Rattle.calls.proofs.Tables.{refusalOf, register-refuses, register-rises, query-refuses, query-rises, ask-refuses, ask-rises, lowest-between, join-few}
+use Rattle.calls.specs.Calls.{registerCall, joinCall, queryCall, readCall, fitCall, askCall, marked, marksIn, returned, RegisterCall, JoinCall, QueryCall, ReadCall, FitCall, AskCall}
+use Rattle.calls.specs.Demands.{lowest, rises, registerTable, queryTable, readTable, askTable}
+use Rattle.calls.proofs.Tables.{refusalOf, register-refuses, register-rises, query-refuses, query-rises, read-refuses, read-rises, ask-refuses, ask-rises, lowest-between, join-few, fit-few}
 use Rattle.calls.proofs.First.{run-is, Ran, ran}
 
 -- a small number as 32 bits with a sign
@@ -58,9 +57,9 @@ module _ (n : ℕ) (h : n ≤ 256) where
   count-passed z e = rw e (toZ-ofZ w32 (pos n) (record { sfits = let y : n < 2147483648 = omega (arith, h) in y }))
 
 module _ {A : Type 0} where
-  few : (table : List Check) (a : Answer A) → refusalOf a ≡ lowest table → rises 0 25 table ≡ true → numberOf a ≤ 256
-  few table (refused n) e h = let k = lowest-between 0 25 n table h (sym e) in omega (arith, k .1)
-  few table (accepted a) e h = omega arith
+  few : {high : ℕ} (table : List Check) (a : Answer A) → refusalOf a ≡ lowest table → rises 0 high table ≡ true → high ≤ 257 → numberOf a ≤ 256
+  few {high} table (refused n) e h l = let k = lowest-between 0 high n table h (sym e) in omega (arith, k .1, l)
+  few table (accepted a) e h l = omega arith
 
   returned-number : (a : Answer A) → negℤ (pos (numberOf a)) ≡ returned (λ x. 0) a
   returned-number (refused n) = refl
@@ -68,7 +67,7 @@ module _ {A : Type 0} where
 
 module _ (t h after : Bytes) (n : ℕ) (r : Answered (registerCall t h) h n after) where
   pub register-few : n ≤ 256
-  register-few = rw (r .number) (few (registerTable t h) (registerCall t h) (register-refuses t h) (register-rises t h))
+  register-few = rw (r .number) (few (registerTable t h) (registerCall t h) (register-refuses t h) (register-rises t h) (omega arith))
 
   pub register-call : RegisterCall t h after (negℤ (pos n))
   register-call = record { number = ap (λ m. negℤ (pos m)) (r .number) ∙ returned-number (registerCall t h); buffer = r .bytes }
@@ -89,15 +88,37 @@ module _ (h k b after : Bytes) (n : ℕ) (r : Answered (joinCall h k b) b n afte
       subst (JoinCall h k b after) (sym (negative-passed n joins-few z (e joins-few)))
       (record { number = ap (λ m. negℤ (pos m)) (r .number) ∙ returned-number (joinCall h k b); buffer = r .bytes })
 
-module _ (h s b after : Bytes) (n : ℕ) (r : Queries h s b after n) where
+module _ (h s b after : Bytes) (n : ℕ) (r : Answered (queryCall h s b) b n after) where
   pub query-few : n ≤ 256
-  query-few = rw (r .number) (few (queryTable h s b) (queryCall h s b) (query-refuses h s b) (query-rises h s b))
+  query-few = rw (r .number) (few (queryTable h s b) (queryCall h s b) (query-refuses h s b) (query-rises h s b) (omega arith))
 
   pub query-call : QueryCall h s b after (negℤ (pos n))
-  query-call = record { number = ap (λ m. negℤ (pos m)) (r .number) ∙ returned-number (queryCall h s b); buffer = r .buffer }
+  query-call = record { number = ap (λ m. negℤ (pos m)) (r .number) ∙ returned-number (queryCall h s b); buffer = r .bytes }
 
   pub query-returns : (z : ℤ) → (n ≤ 256 → z ≡ negℤ (pos n)) → QueryCall h s b after (toZ w32 (ofZ w32 z))
   query-returns z e = subst (QueryCall h s b after) (sym (negative-passed n query-few z (e query-few))) query-call
+
+module _ (s b after : Bytes) (n : ℕ) (r : Answered (readCall s b) b n after) where
+  read-few : n ≤ 256
+  read-few = rw (r .number) (few (readTable s b) (readCall s b) (read-refuses s b) (read-rises s b) (omega arith))
+
+  pub read-returns : (z : ℤ) → (n ≤ 256 → z ≡ negℤ (pos n)) → ReadCall s b after (toZ w32 (ofZ w32 z))
+  read-returns z e =
+      subst (ReadCall s b after) (sym (negative-passed n read-few z (e read-few)))
+      (record { number = ap (λ m. negℤ (pos m)) (r .number) ∙ returned-number (readCall s b); buffer = r .bytes })
+
+module _ (t h b after : Bytes) (n : ℕ) (r : Answered (fitCall t h b) b n after) where
+  fits-few : n ≤ 256
+  fits-few = rw (r .number) (go (fitCall t h b) refl)
+    where
+      go : (a : Answer Bytes) → fitCall t h b ≡ a → numberOf a ≤ 256
+      go (refused m) e = omega (arith, fit-few t h b m e .1)
+      go (accepted x) e = omega arith
+
+  pub fit-returns : (z : ℤ) → (n ≤ 256 → z ≡ negℤ (pos n)) → FitCall t h b after (toZ w32 (ofZ w32 z))
+  fit-returns z e =
+      subst (FitCall t h b after) (sym (negative-passed n fits-few z (e fits-few)))
+      (record { number = ap (λ m. negℤ (pos m)) (r .number) ∙ returned-number (fitCall t h b); buffer = r .bytes })
 
 -- no more pages are marked than there are
 marked-few : (l : List Bool) → marked l ≤ length l
@@ -143,7 +164,7 @@ module _ (q h b after : Bytes) (a : Asked) (r : Asks q h b after a) where
 
   module _ (n : ℕ) where
     pub refusal-few : a ≡ Asked.Refused n → n ≤ 256
-    refusal-few e = let k = few (askTable q h b) (askCall q h b) (ask-refuses q h b) (ask-rises q h b) in let i = ap numberOf (refused-by n e) in omega (arith, k, i)
+    refusal-few e = let k = few (askTable q h b) (askCall q h b) (ask-refuses q h b) (ask-rises q h b) (omega arith) in let i = ap numberOf (refused-by n e) in omega (arith, k, i)
 
     pub refusal-returns : a ≡ Asked.Refused n → (z : ℤ) → (n ≤ 256 → z ≡ negℤ (pos n)) → AskCall q h b after (toZ w32 (ofZ w32 z))
     refusal-returns e z p =

@@ -2,7 +2,7 @@
 ghost use mathlib.Core.Path.{_≡_};
 ghost use Prim.Native.Nat.{ℕ, _≤_};
 ghost use lib.IntN.{pos, negℤ};
-ghost use Rattle.calls.specs.Calls.{RegisterCall, JoinCall, QueryCall, AskCall};
+ghost use Rattle.calls.specs.Calls.{RegisterCall, JoinCall, QueryCall, ReadCall, FitCall, AskCall};
 use ask::Asked;
 use ask::ask;
 
@@ -46,6 +46,24 @@ pub extern "C" fn vetxarno_query(register: &[u8], text: &[u8], held: &mut [u8]) 
 {
     let refusal = query::query(register, text, held);
     negative(refusal)
+}
+
+// The read call.
+#[no_mangle]
+pub extern "C" fn vetxarno_read(text: &[u8], tree: &mut [u8]) -> i32
+    ensures { λ r. ⌜ ReadCall (now (text .entry)) (now (tree .entry)) (now (tree .exit)) r ⌝ }
+{
+    let unread = query::read(text, tree);
+    negative(unread)
+}
+
+// The fit call.
+#[no_mangle]
+pub extern "C" fn vetxarno_fit(tree: &[u8], register: &[u8], held: &mut [u8]) -> i32
+    ensures { λ r. ⌜ FitCall (now (tree .entry)) (now (register .entry)) (now (held .entry)) (now (held .exit)) r ⌝ }
+{
+    let unfit = query::fit(tree, register, held);
+    negative(unfit)
 }
 
 // The ask call.
