@@ -23,10 +23,10 @@ use Rattle.register_form.specs.Opened.{pageIn}
 use Rattle.register_form.proofs.Forms.{held-is}
 use Rattle.register_form.proofs.Rules.{within}
 use Rattle.nodes.specs.Held.{querySize, heldQuery}
-use Rattle.query.specs.Call.{Queries}
+use Rattle.nodes.specs.Form.{queryOf}
 use Rattle.ask.specs.Call.{Asks}
 use Rattle.ask.specs.declared.Asked.{Asked}
-use Rattle.calls.specs.Calls.{registerCall, queryCall, askCall, marked, marksIn, RegisterCall, QueryCall}
+use Rattle.calls.specs.Calls.{registerCall, writtenIn, queryCall, askCall, marked, marksIn, RegisterCall, QueryCall}
 use Rattle.calls.proofs.First.{run-is, register-stores, query-stores}
 use Rattle.calls.proofs.Demands.{asked-is}
 use Rattle.vetxarno.proofs.Returned.{register-few, register-call, query-few, query-call, refused-by, marked-by, refusal-few, marks-few}
@@ -96,15 +96,19 @@ refused-first (refused m) n f out after r e few h w = subst (λ j. Appends out 0
 refused-first (accepted x) n f out after r e few h w = absurd (h e)
 
 -- answer_text
-module _ (h s b q : Bytes) (n : ℕ) (room : 6148 ≤ length b) (k : Queries h s b q n) (out after : Bytes) (r : ℕ) where
+module _ (h s b q : Bytes) (n : ℕ) (room : 21570 ≤ length b) (k : Answered (queryCall h s b) b n q) (out after : Bytes) (r : ℕ) where
   text-number : (R : Register) → heldRegister h ≡ some R → n ≡ numberOf (coreOf R s)
-  unfolding queryCall
+  unfolding queryCall writtenIn
   text-number R p =
       k .number
       ∙ ap numberOf
-      (ap (λ o. andThen (orRefuse 11 o) (λ R. andThen (coreOf R s) (λ c. cond (ltb (length b) querySize) (refused 20) (accepted c)))) p
-      ∙ roomy (length b) querySize 20 (coreOf R s) (λ c. c) room
-      ∙ then-accepted (coreOf R s))
+      (ap (λ o. andThen (orRefuse 11 o) (λ R. andThen (coreOf R s) (λ c. writtenIn 20 querySize (queryOf c) b))) p
+      ∙ roomy (length b) querySize 20 (coreOf R s) (λ c. queryOf c ++ drop querySize b) room)
+      ∙ same (coreOf R s)
+    where
+      same : (a : Answer Core) → numberOf (andThen a (λ c. accepted (queryOf c ++ drop querySize b))) ≡ numberOf a
+      same (refused m) = refl
+      same (accepted c) = refl
 
   pub text-refused : (n ≡ 0 → ⊥) → AppendsRefusal n out after r → AnswersText h s out after r
   unfolding AnswersText ofText
@@ -118,7 +122,7 @@ module _ (h s b q : Bytes) (n : ℕ) (room : 6148 ≤ length b) (k : Queries h s
       let c = query-stores h s b q call in
       let own : c .register ≡ R = let x = c .holds in cc in
       let e : coreOf R s ≡ accepted (c .core) = rw (← own) (c .fits) in
-      subst (λ a. Appends out 0 (outcome (andThen a (λ c. andThen (run c R) (λ m. accepted (listing R m))))) after r) (sym e) (w (c .core) R (c .held) p)
+      subst (λ a. Appends out 0 (outcome (andThen a (λ c. andThen (run c R) (λ m. accepted (listing R m))))) after r) (sym e) (w (c .core) R (c .left .held) p)
 
 -- answer
 module _ (t s h held : Bytes) (n : ℕ) (room : 63628 ≤ length h) (k : Answered (registerCall t h) h n held) (out after : Bytes) (r : ℕ) where

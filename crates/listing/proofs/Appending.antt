@@ -9,8 +9,8 @@ use borrow.Author.Tests.{leb-true, leb-false, lt-ltb, le-ltb}
 use lib.ListN.{length, getD, set, take, length-append}
 use lib.Seq.{take-all}
 use Rattle.text.specs.Bytes.{Bytes}
-use Rattle.nodes.specs.Writing.{written}
-use Rattle.nodes.proofs.Written.{written-past, written-then, length-written}
+use Rattle.buffer.specs.Writing.{written}
+use Rattle.buffer.proofs.Written.{written-past, written-then, length-written}
 use Rattle.listing.specs.Listing.{decimal, nameLine}
 use Rattle.listing.specs.Appends.{least, Appends}
 

@@ -24,7 +24,7 @@ use Rattle.language.proofs.Rules.{Ruled, register-rules, page-rules}
 use Rattle.register_form.specs.Opened.{pageIn}
 use Rattle.register_form.proofs.Lists.{mem-at}
 use Rattle.register_form.proofs.Rules.{within}
-use Rattle.nodes.specs.Writing.{written}
+use Rattle.buffer.specs.Writing.{written}
 use Rattle.calls.specs.Calls.{marked}
 use Rattle.listing.specs.Listing.{decimal, nameLine, lineOf, linesTo, listing, outcome, asklist, Lists}
 use Rattle.listing.specs.Appends.{least, Appends}

@@ -3,7 +3,7 @@ use Prim.Native.Nat.{ℕ, _+_, _-_, _≤_}
 use mathlib.Core.Path.{_≡_}
 use lib.ListN.{length}
 use Rattle.text.specs.Bytes.{Bytes}
-use Rattle.nodes.specs.Writing.{written}
+use Rattle.buffer.specs.Writing.{written}
 
 -- The smaller of two numbers.
 abbrev pub least : ℕ → ℕ → ℕ

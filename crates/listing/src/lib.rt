@@ -8,6 +8,7 @@ pub mod parts; // parts.rt: numbers and lines, one part after the other
 
 use ask::Asked;
 use ask::ask;
+use nodes::QUERY_BYTES;
 use pagelist::put_list;
 use pagelist::put_refusal;
 use query::query;
@@ -29,7 +30,7 @@ fn answer_core(core: &[u8], held: &[u8], out: &mut [u8]) -> usize
 fn answer_text(held: &[u8], question: &[u8], out: &mut [u8]) -> usize
     ensures { λ r. ⌜ AnswersText (now (held .entry)) (now (question .entry)) (now (out .entry)) (now (out .exit)) r ⌝ }
 {
-    let mut core = [0u8; 6148];
+    let mut core = [0u8; QUERY_BYTES];
     let number = query(held, question, &mut core);
     if number != 0 {
         return put_refusal(out, number);

@@ -13,7 +13,7 @@ use ask::ask;
 use files::Read;
 use files::read_file;
 use libc::STDOUT_FILENO;
-use query::QUERY_BYTES;
+use nodes::QUERY_BYTES;
 use query::query;
 use register::register;
 use register_form::REGISTER_BYTES;
