@@ -92,9 +92,9 @@ pub fn read(text: &[u8], tree: &mut [u8]) -> usize
     ensures { λ r. ⌜ Answered (readCall (now (text .entry)) (now (tree .entry))) (now (tree .entry)) r (now (tree .exit)) ⌝ }
 {
     let mut scratch = [0u8; TREE_BYTES];
-    let number = reading_number(read_text(text, &mut scratch));
-    if number != 0 {
-        return number;
+    let unread = reading_number(read_text(text, &mut scratch));
+    if unread != 0 {
+        return unread;
     }
     if tree.len() < TREE_BYTES {
         return 33;

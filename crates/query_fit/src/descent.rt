@@ -100,7 +100,7 @@ fn fit_chain(tree: &[u8], i: usize, register: &[u8], held: &mut [u8], at: Place)
         Step::Link(x) => {
             let kind = kind_at(s, x, register);
             match fit_chain(tree, last, register, held, at) {
-                Emitted::At(inner) => put_subquery(s, held, inner, x, kind),
+                Emitted::At(rest) => put_subquery(s, held, rest, x, kind),
                 Emitted::Unfit => Emitted::Unfit,
             }
         }

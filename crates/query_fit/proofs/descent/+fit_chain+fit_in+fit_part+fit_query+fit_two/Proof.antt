@@ -136,8 +136,8 @@ fit-chain-kind-at-requires-2 t c κs = search needs
 fit-chain-fit-chain-requires : (t : ℕ) → fit-chain-lts.Need-fit-chain-requires (fit-chain-calls t) (fit-chain-at t) fit-chain.Post
 fit-chain-fit-chain-requires t c κs = (omega arith, tt)
 
-fit-chain-enum-known-inner : (t : ℕ) → fit-chain-lts.Need-enum-known-inner (fit-chain-calls t) (fit-chain-at t) fit-chain.Post
-fit-chain-enum-known-inner t c = search needs
+fit-chain-enum-known-rest : (t : ℕ) → fit-chain-lts.Need-enum-known-rest (fit-chain-calls t) (fit-chain-at t) fit-chain.Post
+fit-chain-enum-known-rest t c = search needs
 
 fit-chain-put-subquery-requires : (t : ℕ) → fit-chain-lts.Need-put-subquery-requires (fit-chain-calls t) (fit-chain-at t) fit-chain.Post
 fit-chain-put-subquery-requires t c κs = search needs
@@ -404,7 +404,7 @@ pub +fit-chain+fit-in+fit-part+fit-query+fit-two-spec : {M : Type 1} → stateme
     (fit-chain-enum-known-x-2 t)
     (fit-chain-kind-at-requires-2 t)
     (fit-chain-fit-chain-requires t)
-    (fit-chain-enum-known-inner t)
+    (fit-chain-enum-known-rest t)
     (fit-chain-put-subquery-requires t)
     (fit-chain-enum-told-3 t)
     (fit-chain-enum-told-4 t)
