@@ -1,4 +1,4 @@
-"""The query call: a text and a register to a core query, or a number from 12 to 19."""
+"""The query call and the fit call: a text, or a tree that was read, and a register to a core query, or a number."""
 from functools import reduce
 
 from core import And, Article, Category, Existence, InNamespace, Or, Subquery, Value, nodes
@@ -95,13 +95,8 @@ def query_core(query, kinds):
     return joined(Or, [joined(And, cores) for cores in conjunctions])
 
 
-def query_call(register, text):
-    """(0, the core query) or (the lowest number whose condition holds, None)."""
-    if register is None:
-        return 11, None
-    number, tree = read_query(text)
-    if number:
-        return number, None
+def fitted(tree, register):
+    """(0, the core query) or (17, 18 or 19, None)."""
     bodies = properties(tree)
     if any(name not in register.kinds for body in bodies for name in body.head):
         return 17, None
@@ -109,3 +104,18 @@ def query_call(register, text):
         return 18, None
     core = query_core(tree, register.kinds)
     return (0, core) if nodes(core) <= 256 else (19, None)
+
+
+def query_call(register, text):
+    """(0, the core query) or (the lowest number whose condition holds, None)."""
+    if register is None:
+        return 11, None
+    number, tree = read_query(text)
+    return (number, None) if number else fitted(tree, register)
+
+
+def fit_call(tree, register):
+    """The same of a tree, which is None where its bytes are the form of no text that is read."""
+    if register is None or tree is None:
+        return (11 if register is None else 34), None
+    return fitted(tree, register)

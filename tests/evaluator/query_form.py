@@ -2,8 +2,10 @@
 from core import And, Article, Category, Existence, InNamespace, Or, Subquery, Value
 from values import is_name, is_namespace, is_property_name, is_value
 
-SIZE, TEXT, NODE = 6148, 1024, 20
-NODES = 4 + TEXT  # where the nodes begin
+NODE, MOST_NODES, MOST_HEAP = 20, 256, 16448
+NODES = 2  # where the nodes begin
+HEAP = NODES + NODE * MOST_NODES
+SIZE = HEAP + MOST_HEAP
 BIAS = 10 ** 15
 COMPARATORS = ['=', '!=', '>', '<']
 KINDS = [b'number', b'boolean', b'string']
@@ -19,22 +21,29 @@ def postfix(core):
     return (postfix(core.query) if isinstance(core, Subquery) else []) + [core]
 
 
-def span(text, part):
-    return two(text.index(part)) + two(len(part))
+class Heap:
+    """Names and strings, each behind the one before it."""
+
+    def __init__(self):
+        self.content = b''
+
+    def span(self, part):
+        self.content += part
+        return two(len(self.content) - len(part)) + two(len(part))
 
 
-def node_bytes(node, text):
+def node_bytes(node, heap):
     tag = [And, Or, Category, InNamespace, Existence, Subquery, Article, Value].index(type(node))
     out = bytearray(NODE)
     out[0] = tag
     if tag in (2, 3):
-        out[4:8] = span(text, node.name)
+        out[4:8] = heap.span(node.name)
     if tag in (4, 5, 7):
-        out[4:8] = span(text, node.prop)
+        out[4:8] = heap.span(node.prop)
     if tag >= 6:
         out[1] = COMPARATORS.index(node.comparator)
     if tag == 6:
-        out[8:12] = span(text, node.name)
+        out[8:12] = heap.span(node.name)
     if tag == 7:
         kind, value = node.constant
         out[2] = KINDS.index(kind)
@@ -43,14 +52,15 @@ def node_bytes(node, text):
         elif kind == b'boolean':
             out[3] = value
         else:
-            out[8:12] = span(text, value)
+            out[8:12] = heap.span(value)
     return bytes(out)
 
 
-def held_query(core, text):
-    """The form of a core query whose strings all stand in the text."""
-    nodes = [node_bytes(node, text) for node in postfix(core)]
-    return (two(len(text)) + two(len(nodes)) + text.ljust(TEXT, b'\0') + b''.join(nodes)).ljust(SIZE, b'\0')
+def held_query(core):
+    """The form of a core query. One of more than 256 nodes, which has none, is cut."""
+    heap = Heap()
+    nodes = [node_bytes(node, heap) for node in postfix(core)]
+    return two(len(nodes)) + b''.join(nodes[:MOST_NODES]).ljust(HEAP - NODES, b'\0') + heap.content.ljust(MOST_HEAP, b'\0')[:MOST_HEAP]
 
 
 def kept(rule, text):
@@ -94,16 +104,16 @@ def put_node(stack, slot, first, second):
 
 
 def read_query(held):
-    """The core query that bytes hold, or None."""
-    length, count = (int.from_bytes(held[at:at + 2], 'little') for at in (0, 2))
-    if len(held) < SIZE or length > TEXT or not 1 <= count <= 256:
+    """The core query that bytes hold, or None. Only what a node uses is looked at."""
+    count = int.from_bytes(held[:2], 'little')
+    if len(held) < SIZE or not 1 <= count <= MOST_NODES:
         return None
-    text, stack = held[4:4 + length], []
+    heap, stack = held[HEAP:SIZE], []
     for at in range(NODES, NODES + NODE * count, NODE):
         slot = held[at:at + NODE]
         starts = [int.from_bytes(slot[k:k + 2], 'little') for k in (4, 6, 8, 10)]
         try:
-            put_node(stack, slot, text[starts[0]:starts[0] + starts[1]], text[starts[2]:starts[2] + starts[3]])
+            put_node(stack, slot, heap[starts[0]:starts[0] + starts[1]], heap[starts[2]:starts[2] + starts[3]])
         except (ValueError, IndexError):
             return None
     return stack[0] if len(stack) == 1 else None
