@@ -56,26 +56,30 @@ static inline bool stands(int order, enum comparator c) {
     }
 }
 
-/* Surface queries: what a text says before a register is known, in postfix order. */
-enum slot_tag { GROUP_AND, GROUP_OR, CATEGORY_IS, NAMESPACE_IS, REFERENCE_IS, EXISTS, PIECE, LINK };
+/* Surface queries: what a text says before a register is known, in postfix order, each node behind what it is made of. */
+enum tree_tag { BOTH, EITHER, BAR, CATEGORY_IS, NAMESPACE_IS, BARE, QUALIFIED, EXISTS, PIECE, INNER, PROPERTY, LINK };
+/* As it is written: `>` is AT_LEAST, `>>` is ABOVE. */
+enum written { SAME, OTHER, ABOVE, BELOW, AT_LEAST, AT_MOST };
 
-struct slot {
-    enum slot_tag tag;
-    enum comparator comparator;
-    bool or_equal;
-    struct span prop, text; /* text: the category, the namespace or the piece */
-    struct reference reference;
+struct tree_node {
+    enum tree_tag tag;
+    enum written comparator;
+    unsigned size;           /* of the second of two: how many nodes it takes up */
+    struct span space, name; /* name: of a category, article or property, or a piece */
 };
 
-enum { MOST_SLOTS = 1024, MOST_NODES = 256, MOST_DEPTH = 8, MOST_TEXT = 1024, NODE_BYTES = 20 };
+enum { MOST_TREE = 681, MOST_NODES = 256, MOST_DEPTH = 8, MOST_CHAIN = 8, MOST_TEXT = 1024, NODE_BYTES = 20 };
 
-struct slots {
+struct tree {
     size_t count;
-    struct slot slot[MOST_SLOTS];
+    struct tree_node node[MOST_TREE];
 };
 
 /* Returns 0 or a refusal from 12 to 16. */
-int read_query(struct span text, struct slots *out);
+int read_query(struct span text, struct tree *out);
+void write_tree(const struct tree *tree, uint8_t *held);
+/* Whether bytes are the tree of some text that is read. */
+bool open_held_tree(const uint8_t *held, size_t len, struct tree *out);
 
 /* Core queries: nodes in postfix order. */
 enum node_tag { AND, OR, CATEGORY, NAMESPACE, EXISTENCE, SUBQUERY, ARTICLE, VALUE };
@@ -92,7 +96,7 @@ struct core {
     struct node node[MOST_NODES];
 };
 
-void write_query(const struct core *core, struct span text, uint8_t *held);
+void write_query(const struct core *core, uint8_t *held);
 bool open_query(const uint8_t *held, size_t len, struct core *out);
 
 #endif

@@ -1,16 +1,15 @@
-/* The query text, read to slots. Reading goes on past what 14, 15 and 16 refuse, since 13 is lower. */
+/* The query text, read to a tree. Reading goes on past what 14, 15 and 16 refuse, since 13 is lower. */
 #include "plain_parts.h"
 
 struct reader {
     struct span text;
     size_t at;
     int fault; /* the lowest of 14 to 16 so far, or 0 */
-    struct slots *out;
+    struct tree *out;
 };
 
 struct piece {
-    enum comparator comparator;
-    bool or_equal;
+    enum written comparator;
     struct span text;
 };
 
@@ -20,9 +19,14 @@ static void want(struct reader *r, bool kept, int number) {
     if (!kept && (r->fault == 0 || number < r->fault)) r->fault = number;
 }
 
-/* A text without a fault has fewer slots than bytes. */
-static void put(struct reader *r, struct slot slot) {
-    if (r->out->count < MOST_SLOTS) r->out->slot[r->out->count++] = slot;
+/* Only a text with a fault has more nodes than there is room for. */
+static void put(struct reader *r, struct tree_node node) {
+    if (r->out->count < MOST_TREE) r->out->node[r->out->count++] = node;
+}
+
+/* Joins what was put since the count was `start` to what stands before it. */
+static void put_join(struct reader *r, enum tree_tag tag, size_t start) {
+    put(r, (struct tree_node){.tag = tag, .size = (unsigned)(r->out->count - start)});
 }
 
 static bool stands_at(const struct reader *r, size_t at, const char *word) {
@@ -44,16 +48,16 @@ static bool is_barred(uint8_t b) { return b == '[' || b == ']' || b == '|' || b 
 
 static bool read_subquery(struct reader *r, int depth) { return read_group(r, depth + 1) && take(r, "</q>"); }
 
-static bool is_bare(const struct piece *p) { return p->comparator == EQUAL; }
+static bool is_bare(const struct piece *p) { return p->comparator == SAME; }
 
 static struct piece read_piece(struct reader *r) {
-    struct piece p = {EQUAL, false, {0}};
+    struct piece p = {SAME, {0}};
     skip_blanks(r);
-    if (take(r, "!")) p.comparator = UNEQUAL;
-    else if (take(r, ">>")) p.comparator = GREATER;
-    else if (take(r, "<<")) p.comparator = LESS;
-    else if (take(r, ">")) p.comparator = GREATER, p.or_equal = true;
-    else if (take(r, "<")) p.comparator = LESS, p.or_equal = true;
+    if (take(r, "!")) p.comparator = OTHER;
+    else if (take(r, ">>")) p.comparator = ABOVE;
+    else if (take(r, "<<")) p.comparator = BELOW;
+    else if (take(r, ">")) p.comparator = AT_LEAST;
+    else if (take(r, "<")) p.comparator = AT_MOST;
     size_t start = r->at;
     while (r->at < r->text.len && !is_barred(r->text.at[r->at])) r->at++;
     p.text = trimmed(span_of(r->text.at + start, r->at - start));
@@ -70,7 +74,7 @@ static size_t find_split(const struct reader *r) {
 }
 
 /* The head's names; those past the eighth are judged and not kept. */
-static bool read_head(struct reader *r, size_t end, struct span names[MOST_DEPTH], size_t *count) {
+static bool read_head(struct reader *r, size_t end, struct span names[MOST_CHAIN], size_t *count) {
     size_t start = r->at;
     *count = 0;
     for (size_t i = r->at; i <= end; i++) {
@@ -78,61 +82,60 @@ static bool read_head(struct reader *r, size_t end, struct span names[MOST_DEPTH
         if (i < end && r->text.at[i] != '.') continue;
         struct span name = trimmed(span_of(r->text.at + start, i - start));
         want(r, is_property_name(name), 15);
-        if (*count < MOST_DEPTH) names[*count] = name;
+        if (*count < MOST_CHAIN) names[*count] = name;
         ++*count;
         start = i + 1;
     }
-    want(r, *count <= MOST_DEPTH, 14);
-    if (*count > MOST_DEPTH) *count = MOST_DEPTH;
+    want(r, *count <= MOST_CHAIN, 14);
+    if (*count > MOST_CHAIN) *count = MOST_CHAIN;
     r->at = end + 2;
     return true;
 }
 
-static bool read_alternative(struct reader *r, struct span prop, int depth) {
+static bool read_alternative(struct reader *r, int depth) {
     skip_blanks(r);
     if (take(r, "<q>")) {
         if (!read_subquery(r, depth)) return false;
         skip_blanks(r);
-        put(r, (struct slot){.tag = LINK, .prop = prop});
+        put(r, (struct tree_node){.tag = INNER});
         return true;
     }
     struct piece p = read_piece(r);
-    if (is_bare(&p) && is_word(p.text, "+")) {
-        put(r, (struct slot){.tag = EXISTS, .prop = prop});
-        return true;
-    }
-    want(r, is_value(p.text), 16);
-    put(r, (struct slot){PIECE, p.comparator, p.or_equal, prop, p.text, {{0}, {0}, false}});
+    bool exists = is_bare(&p) && is_word(p.text, "+");
+    want(r, exists || is_value(p.text), 16);
+    put(r, exists ? (struct tree_node){.tag = EXISTS} : (struct tree_node){.tag = PIECE, .comparator = p.comparator, .name = p.text});
     return true;
 }
 
 static bool read_property(struct reader *r, size_t split, int depth) {
-    struct span names[MOST_DEPTH];
+    struct span names[MOST_CHAIN];
     size_t count;
-    if (!read_head(r, split, names, &count) || !read_alternative(r, names[count - 1], depth)) return false;
+    if (!read_head(r, split, names, &count) || !read_alternative(r, depth)) return false;
     while (take(r, "||")) {
-        if (!read_alternative(r, names[count - 1], depth)) return false;
-        put(r, (struct slot){.tag = GROUP_OR});
+        size_t start = r->out->count;
+        if (!read_alternative(r, depth)) return false;
+        put_join(r, BAR, start);
     }
-    while (--count > 0) put(r, (struct slot){.tag = LINK, .prop = names[count - 1]});
+    put(r, (struct tree_node){.tag = PROPERTY, .name = names[count - 1]});
+    while (--count > 0) put(r, (struct tree_node){.tag = LINK, .name = names[count - 1]});
     return take(r, "]]");
 }
 
 static void put_category(struct reader *r, struct span name, bool bare) {
     want(r, bare && is_name(name), 15);
-    put(r, (struct slot){.tag = CATEGORY_IS, .text = name});
+    put(r, (struct tree_node){.tag = CATEGORY_IS, .name = name});
 }
 
 static void put_identifier(struct reader *r, const struct piece *p) {
     struct span before, after;
+    struct reference to;
     if (is_bare(p) && split_at_colon(p->text, &before, &after) && is_word(after, "+")) {
         want(r, is_namespace(before), 15);
-        put(r, (struct slot){.tag = NAMESPACE_IS, .text = before});
+        put(r, (struct tree_node){.tag = NAMESPACE_IS, .space = before});
         return;
     }
-    struct slot slot = {.tag = REFERENCE_IS, .comparator = p->comparator, .or_equal = p->or_equal};
-    want(r, read_reference(p->text, &slot.reference), 15);
-    put(r, slot);
+    want(r, read_reference(p->text, &to), 15);
+    put(r, (struct tree_node){.tag = to.written ? QUALIFIED : BARE, .comparator = p->comparator, .space = to.namespace, .name = to.name});
 }
 
 /* A body without `::`: categories or identifiers. */
@@ -146,7 +149,7 @@ static bool read_plain(struct reader *r) {
         p = read_piece(r);
         if (categories) put_category(r, p.text, is_bare(&p));
         else put_identifier(r, &p);
-        put(r, (struct slot){.tag = GROUP_OR});
+        put(r, (struct tree_node){.tag = BAR, .size = 1});
     }
     return take(r, "]]");
 }
@@ -164,8 +167,9 @@ static bool read_conjunction(struct reader *r, int depth) {
     for (;;) {
         skip_blanks(r);
         if (!take(r, "AND") && !stands_at(r, r->at, "[[") && !stands_at(r, r->at, "<q>")) return true;
+        size_t start = r->out->count;
         if (!read_term(r, depth)) return false;
-        put(r, (struct slot){.tag = GROUP_AND});
+        put_join(r, BOTH, start);
     }
 }
 
@@ -173,13 +177,14 @@ static bool read_group(struct reader *r, int depth) {
     want(r, depth <= MOST_DEPTH, 14);
     if (!read_conjunction(r, depth)) return false;
     while (take(r, "OR")) {
+        size_t start = r->out->count;
         if (!read_conjunction(r, depth)) return false;
-        put(r, (struct slot){.tag = GROUP_OR});
+        put_join(r, EITHER, start);
     }
     return true;
 }
 
-int read_query(struct span text, struct slots *out) {
+int read_query(struct span text, struct tree *out) {
     struct reader r = {text, 0, 0, out};
     out->count = 0;
     if (text.len > MOST_TEXT) return 12;

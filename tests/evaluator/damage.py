@@ -1,4 +1,5 @@
 """Forms that are changed, and forms of what is no register."""
+import tree_form
 from form import BYTES, FORMS, PAGES, PROPS, SIZE, STARTS, TERMS, TEXTS, encode
 from register import page_of, register_of
 
@@ -52,6 +53,26 @@ def damaged(rng, held):
     if way < 0.02:
         return rng.choice([held[:-1], b'', bytes(SIZE), b'\xff' * SIZE, held + b'x', held[:rng.randrange(SIZE)]])
     return with_bytes_changed(rng, held) if way < 0.7 else with_rows_moved(rng, held)
+
+
+def some_tree_place(rng, held):
+    """A byte of a held tree: of its count, its nodes, its strings, or anywhere."""
+    rows = tree_form.NODE * min(tree_form.MOST_NODES - 1, count_at(held, 0))
+    strings = len(held[tree_form.STRINGS:].rstrip(b'\0'))
+    return rng.choice([rng.randrange(2), tree_form.NODES + rng.randrange(rows + tree_form.NODE), tree_form.NODES + rng.randrange(rows + tree_form.NODE),
+                       min(tree_form.SIZE - 1, tree_form.STRINGS + rng.randrange(strings + 2)), rng.randrange(tree_form.SIZE)])
+
+
+def damaged_tree(rng, held):
+    """Some bytes of a held tree changed, or two of its nodes for each other."""
+    held = bytearray(held)
+    if rng.random() < 0.2:
+        one, other = (tree_form.NODES + tree_form.NODE * rng.randrange(count_at(held, 0)) for _ in range(2))
+        held[one:one + tree_form.NODE], held[other:other + tree_form.NODE] = held[other:other + tree_form.NODE], held[one:one + tree_form.NODE]
+    for _ in range(rng.choice([1, 1, 1, 2, 3])):
+        at = some_tree_place(rng, held)
+        held[at] = rng.choice([rng.randrange(256), held[at] ^ (1 << rng.randrange(8)), (held[at] + 1) % 256, (held[at] - 1) % 256, rng.randrange(12)])
+    return bytes(held)
 
 
 def broken(rng, register):

@@ -1,7 +1,6 @@
 """Compares the plain implementation in bench/ with the separate evaluator: `compare.py LIBRARY SEED COUNT`.
 
-Registers: numbers and forms. Queries and asks: numbers, core queries and marks. Joins: numbers and forms. Damaged forms: whether they
-are forms."""
+Registers, trees, queries and joins: numbers and forms. Asks: numbers and marks. Damaged forms: whether they are forms."""
 import random
 import sys
 
@@ -9,13 +8,16 @@ from library import Library  # finds the evaluator
 import cases
 import generate
 import query_form
+import tree_form
 from ask import ask
-from damage import damaged, form_of_broken
+from damage import damaged, damaged_tree, form_of_broken
 from form import SIZE, decode, encode
 from forms_test import Tally, sized
 from join import join
 from odd_forms import odd_forms
-from query import query_call
+from odd_trees import odd_trees
+from query import fit_call, query_call
+from reading import read_query
 from register import page_of, register_call, register_of
 
 
@@ -28,13 +30,39 @@ def compare_register(tally, library, text):
     return register, held
 
 
+def compare_read(tally, library, text):
+    """The tree, and its form."""
+    number, query = read_query(text)
+    tree = tree_form.encode(query) if number == 0 else None
+    tally.want(f'read {text[:100]}', library.read(text, tree_form.SIZE + len(text) % 3) == (number, tree))
+    tally.want(f'read, short {text[:100]}', library.read(text, tree_form.SIZE - 1) == (number or 33, None))
+    return tree
+
+
+def compare_fit(tally, library, tree, register, held, label):
+    """Any bytes as a tree."""
+    number, core = fit_call(tree_form.decode(tree), register)
+    wanted = (number, query_form.held_query(core) if core else None)
+    tally.want(f'fit {label}', library.fit(tree, held) == wanted)
+    tally.want(f'fit, short {label}', library.fit(tree, held, query_form.SIZE - 1) == (number or 20, None))
+    return wanted
+
+
 def compare_query(tally, library, register, held, text):
-    """The core query and its form."""
+    """The core query and its form, by both ways."""
     number, core = query_call(register, text)
-    found, made = library.query(held, text)
-    tally.want(f'query {text[:100]}', found == number and (number > 0 or repr(query_form.read_query(made)) == repr(core)))
+    made = query_form.held_query(core) if core else None
+    tally.want(f'query {text[:100]}', library.query(held, text) == (number, made))
     tally.want(f'query, short {text[:100]}', library.query(held, text, query_form.SIZE - 1) == (number or 20, None))
-    return core, made
+    tree = compare_read(tally, library, text)
+    if tree:
+        tally.want(f'two ways {text[:100]}', compare_fit(tally, library, tree, register, held, text[:100]) == (number, made))
+    return core, made, tree
+
+
+def compare_trees(tally, library, rng, tree, register, held, damages, label):
+    for number in range(damages):
+        compare_fit(tally, library, damaged_tree(rng, tree), register, held, f'{label} damaged tree {number}')
 
 
 def compare_ask(tally, library, core, made, register, held, label):
@@ -63,14 +91,16 @@ def compare_form(tally, library, held, other, label):
     if register is not None:
         tally.want(f'joined {label}', library.join(held, bytes(SIZE)) == (0, encode(register)))
     else:
-        tally.want(f'11 {label}', library.query(held, b'')[0] == 11)
+        tally.want(f'11 {label}', library.query(held, b'')[0] == 11 and library.fit(b'', held)[0] == 11)
         tally.want(f'22 {label}', library.join(held, other)[0] == 22 and library.join(other, held)[0] == 22)
 
 
 def compare_case(tally, library, rng, texts, damages, label):
     first, query, second = texts
     (one, held_one), (two, held_two) = (compare_register(tally, library, text) for text in (first, second))
-    core, made = compare_query(tally, library, one, held_one, query) if one else (None, None)
+    core, made, tree = compare_query(tally, library, one, held_one, query) if one else (None, None, None)
+    if tree:
+        compare_trees(tally, library, rng, tree, one, held_one, damages, label)
     for register, held in ((one, held_one), (two, held_two)):
         if core and register:
             compare_ask(tally, library, core, made, register, held, f'{label} {query[:100]}')
@@ -85,8 +115,17 @@ def compare_case(tally, library, rng, texts, damages, label):
         tally.want(f'22 {label}', wanted == 0 or library.ask(made, bad, 0)[0] == wanted)
 
 
+def tree_edges(tally, library):
+    """Trees that are written by hand."""
+    register = register_of([(b'P', b'page'), (b'Q', b'page'), (b'R s', b'string')], [])
+    for label, is_tree, tree in odd_trees():
+        found = compare_fit(tally, library, tree, register, encode(register), label)
+        tally.want(f'{label} is stated', (found[0] != 34) == is_tree)
+
+
 def edges(tally, library):
     """Forms that are written by hand, limits of a join and of a form, and registers that no text gives."""
+    tree_edges(tally, library)
     for label, is_form, held in odd_forms():
         tally.want(f'{label} is stated', library.is_register(held) == is_form)
         compare_form(tally, library, held, bytes(SIZE), label)

@@ -7,6 +7,7 @@ sys.path.insert(0, os.path.join(os.path.dirname(os.path.abspath(__file__)), '..'
 
 from form import SIZE
 from query_form import SIZE as QUERY
+from tree_form import SIZE as TREE
 
 FILLING = b'\xa5'
 
@@ -35,6 +36,14 @@ class Library:
 
     def query(self, held, text, room=QUERY):
         number, _, made = self.call('plain_query', [held, text], room, QUERY)
+        return number, made
+
+    def read(self, text, room=TREE):
+        number, _, tree = self.call('plain_read', [text], room, TREE)
+        return number, tree
+
+    def fit(self, tree, held, room=QUERY):
+        number, _, made = self.call('plain_fit', [tree, held], room, QUERY)
         return number, made
 
     def ask(self, query, held, pages, room=256):
