@@ -1,14 +1,16 @@
 /* Vetxarno: ask queries over a register of pages.
  *
  * A register text becomes a held register, two held registers become one, a query text becomes a held query for a
- * register's properties, and asking marks the pages that the query selects. Held forms are plain bytes of a fixed size: they
- * may be copied, kept in a file and lent to a later call. docs/LAYOUT.md says how they lie. A register has one form: the same
- * properties, pages, categories and values in the same orders give the same bytes, however they were written.
+ * register's properties, and asking marks the pages that the query selects. A query that is put to several registers is read
+ * once, to a held tree that knows no register, and the tree is fitted to each of them. Held forms are plain bytes of a fixed
+ * size: they may be copied, kept in a file and lent to a later call. docs/LAYOUT.md says how they lie. A register has one
+ * form: the same properties, pages, categories and values in the same orders give the same bytes, however they were written.
+ * So has a query that was read, whatever groups, blanks and ANDs its text had that change nothing in it.
  *
- * What holds of all four calls:
+ * What holds of all six calls:
  * - A negative number is a refusal: its number in the tables below, made negative. If several conditions hold, the
- *   lowest number is returned, save by vetxarno_join, which goes by the order of its table. A refused call has changed no
- *   byte of any buffer.
+ *   lowest number is returned, save by vetxarno_join and vetxarno_fit, which go by the order of their tables. A refused call
+ *   has changed no byte of any buffer.
  * - Any bytes may be lent: a buffer that is no held form is refused, not trusted. A held register is the form of any register
  *   that keeps the rules of names, values and kinds and the limits of vetxarno_join, whether or not one text gives it.
  * - The buffers of one call must not overlap. A buffer of length 0 still needs a pointer that is not null.
@@ -26,9 +28,10 @@
 extern "C" {
 #endif
 
-/* The size of a held register and of a held query. A longer buffer may be lent; only its first bytes count. */
+/* The size of a held register, of a held tree and of a held query. A longer buffer may be lent; only its first bytes count. */
 #define VETXARNO_REGISTER_BYTES 63628
-#define VETXARNO_QUERY_BYTES 6148
+#define VETXARNO_TREE_BYTES 5112
+#define VETXARNO_QUERY_BYTES 21570
 
 /* Reads a register text and writes the held register into the first VETXARNO_REGISTER_BYTES bytes of `held`; later bytes
  * stay as they are. Returns 0, or:
@@ -59,7 +62,31 @@ int32_t vetxarno_register(const uint8_t *text, size_t text_len, uint8_t *held, s
 int32_t vetxarno_join(const uint8_t *first, size_t first_len, const uint8_t *second, size_t second_len, uint8_t *held,
                       size_t held_len);
 
-/* Reads a query text, fits it to the properties of a held register, and writes the held query into the first
+/* Reads a query text and writes the held tree into the first VETXARNO_TREE_BYTES bytes of `tree`; later bytes stay as they are.
+ * No register is needed. Texts that are read alike give the same bytes. Returns 0, or:
+ *
+ *   -12  the text is longer than 1,024 bytes
+ *   -13  the text does not read as a query
+ *   -14  <q> is nested deeper than 8, or a property chain has more than 8 names
+ *   -15  a name or reference outside property values breaks its rule, or a category has a comparator
+ *   -16  a property's piece breaks the rule for values
+ *   -33  tree_len is less than VETXARNO_TREE_BYTES */
+int32_t vetxarno_read(const uint8_t *text, size_t text_len, uint8_t *tree, size_t tree_len);
+
+/* Fits a held tree to the properties of a held register, and writes the held query into the first VETXARNO_QUERY_BYTES bytes of
+ * `held_query`; later bytes stay as they are. The bytes are those that vetxarno_query writes for the text. Returns 0, or the
+ * first of these that holds, in this order:
+ *
+ *   -11  held_register is no held register, or is too short for one
+ *   -34  tree is the held tree of no text that vetxarno_read accepts, or is too short for one
+ *   -17  a property is not declared in the register
+ *   -18  a piece does not fit its property's kind, or a subquery or chain goes through a property that is no link
+ *   -19  the query has more than 256 nodes
+ *   -20  held_query_len is less than VETXARNO_QUERY_BYTES */
+int32_t vetxarno_fit(const uint8_t *tree, size_t tree_len, const uint8_t *held_register, size_t held_register_len,
+                     uint8_t *held_query, size_t held_query_len);
+
+/* Reads and fits in one call. Reads a query text, fits it to the properties of a held register, and writes the held query into the first
  * VETXARNO_QUERY_BYTES bytes of `held_query`; later bytes stay as they are. Returns 0, or:
  *
  *   -11  held_register is no held register, or is too short for one

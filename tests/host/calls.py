@@ -10,25 +10,29 @@ import tempfile
 from collections import Counter
 from multiprocessing import Pool
 
-from records import ask_case, case, held_register, join_case, query_case, query_form_case, read_text  # finds the evaluator
+from records import ask_case, case, fit_case, held_register, join_case, query_case, read_text  # finds the evaluator
 import cases
 import counting
 import generate
 import query_form
-from damage import damaged, form_of_broken
+import tree_form
+from damage import damaged, damaged_tree, form_of_broken
 from form import SIZE
 from handmade import handmade, stated
 from joins import made_joins
 from query import nodes, query_call
+from reading import read_query
+from trees import made_trees
 
 CHUNK = 500
 
 
 def damaged_query(rng, held, end):
-    """Some bytes of a held query changed, its header and first nodes more often."""
+    """Some bytes of a held query changed, its header, its nodes up to `end` and its first strings more often."""
     held = bytearray(held)
     for _ in range(rng.choice([1, 1, 2, 3])):
-        at = rng.choice([rng.randrange(4), rng.randrange(end), query_form.NODES + rng.randrange(120), rng.randrange(len(held))])
+        places = rng.randrange(2), rng.randrange(end), query_form.NODES + rng.randrange(120), query_form.HEAP + rng.randrange(60)
+        at = rng.choice([*places, rng.randrange(len(held))])
         held[at] = rng.choice([rng.randrange(256), held[at] ^ (1 << rng.randrange(8)), rng.randrange(9), (held[at] + 1) % 256])
     return bytes(held)
 
@@ -39,22 +43,16 @@ def forged(rng, first, query, second):
     core = query_call(register, query)[1] if register else None
     if core is None:
         return
-    held, made = held_register(first), query_form.held_query(core, query)
-    yield query_form_case(first, query)
+    held, made, tree = held_register(first), query_form.held_query(core), tree_form.encode(read_query(query)[1])
     for _ in range(3):
+        yield fit_case(damaged_tree(rng, tree), held, query_form.SIZE)
         yield ask_case(damaged_query(rng, made, query_form.NODES + query_form.NODE * nodes(core)), held, 256)
     for bad in (damaged(rng, held), damaged(rng, held), form_of_broken(rng, register)):
         yield ask_case(made, bad, 256)
         yield query_case(bad, query, query_form.SIZE)
+        yield fit_case(tree, bad, query_form.SIZE)
         pair = (bad, held_register(second) if other else held)
         yield join_case(*pair[::rng.choice([1, -1])], SIZE)
-
-
-def agrees(got, wanted):
-    try:
-        return wanted(got) if callable(wanted) else got == wanted
-    except (ValueError, TypeError):  # no line, or no form
-        return False
 
 
 def numbers_in(printed):
@@ -77,7 +75,7 @@ def run_host(host, made):
     bad = []
     for at, (content, wanted, doubts) in enumerate(made):
         got = printed[at] if at < len(printed) else None
-        if doubts or not agrees(got, wanted):
+        if doubts or got != wanted:
             bad.append(f'{content[:1]} {content[5:125]!r}: {got!r}, not {wanted!r} {doubts}')
     found = numbers_in(printed)
     if done.returncode or not found:
@@ -89,12 +87,15 @@ def run_stated(job):
     host, vectors = job
     with open(vectors, encoding='utf-8') as lines:
         found = [json.loads(line) for line in lines] + list(cases.cases())
-    written = [query_form_case(one['register'].encode('latin-1'), one['query'].encode('latin-1')) for one in found]
-    return run_host(host, [*map(stated, found), *filter(None, written), *handmade()])
+    return run_host(host, [*map(stated, found), *handmade()])
 
 
 def run_joins(job):
     return run_host(job, list(made_joins()))
+
+
+def run_trees(job):
+    return run_host(job, list(made_trees()))
 
 
 def run_drawn(job):
@@ -119,7 +120,7 @@ def main(host, vectors, seed, count):
     count = int(count)
     jobs = [(host, f'{seed} {start}', min(CHUNK, count - start)) for start in range(0, count, CHUNK)]
     with Pool(min(2, os.cpu_count() or 1)) as pool:
-        first = [pool.apply_async(run_joins, (host,)), pool.apply_async(run_stated, ((host, vectors),))]
+        first = [pool.apply_async(run, (job,)) for run, job in ((run_joins, host), (run_trees, host), (run_stated, (host, vectors)))]
         results = [*pool.imap_unordered(run_drawn, jobs)]
         drawn, calls = (sum((result[at] for result in results), Counter()) for at in (3, 2))
         results += [one.get() for one in first]

@@ -5,10 +5,11 @@ from records import read_text  # finds the evaluator
 from join import all_of_both
 from register import limits_passed
 
-NUMBERS = {'register': [*range(9)], 'query': [0, *range(11, 21)], 'ask': [0, *range(21, 25)], 'join': [0, 7, 8, 22, 32]}
+READ = [0, *range(12, 17)]
+NUMBERS = {'register': [*range(9)], 'read': [*READ, 33], 'fit': [0, 11, *range(17, 21), 34], 'query': [0, *range(11, 21)], 'ask': [0, *range(21, 25)], 'join': [0, 7, 8, 22, 32]}
 LIMITS = ['properties', 'pages', 'forms', 'bytes']
 # By the evaluator: a drawn case lends buffers long enough and held forms that are forms. All other numbers are counted by the host.
-DRAWN = {'register': [*range(8)], 'query': [0, *range(12, 20)], 'join': [0, 7, 32], 'over': LIMITS}
+DRAWN = {'register': [*range(8)], 'read': READ, 'query': [0, *range(12, 20)], 'join': [0, 7, 32], 'over': LIMITS}
 FEWEST_CASES = 2000  # with fewer, something rare may not be drawn
 
 
@@ -25,6 +26,7 @@ def drawn(texts, line):
     first, _, second = texts
     words = line.split()
     found = Counter(('register', -int(word)) for word in words[:2])
+    found['read', -int(words[words.index('read') + 1])] += 1
     if words[0] == '0':
         found['query', -int(words[2])] += 1
     if 'join' in words:

@@ -112,6 +112,8 @@ static int is_between(int32_t number, int32_t first, int32_t last) { return firs
 static int is_known(enum call call, int32_t number) {
     switch (call) {
     case REGISTER_CALL: return is_between(number, 1, 8);
+    case READ_CALL: return is_between(number, 12, 16) || number == 33;
+    case FIT_CALL: return number == 11 || number == 34 || is_between(number, 17, 20);
     case QUERY_CALL: return is_between(number, 11, 20);
     case ASK_CALL: return is_between(number, 21, 24);
     default: return number == 22 || number == 32 || number == 7 || number == 8;
@@ -135,16 +137,25 @@ static int32_t end_form(struct output out, size_t size, int32_t number, uint8_t 
     return number;
 }
 
-int32_t register_call(struct bytes text, size_t len, uint8_t *out) {
+/* A call of a text that writes a form of `size` bytes: register and read have one type. */
+typedef int32_t one_input(const uint8_t *, size_t, uint8_t *, size_t);
+
+static int32_t text_call(enum call call, one_input *make, size_t size, struct bytes text, size_t len, uint8_t *out) {
     struct input t = lend(text, 0);
     struct output held = lend_output(len);
-    int32_t number = vetxarno_register(t.at, text.len, held.at, len);
-    check_number(REGISTER_CALL, number);
+    int32_t number = make(t.at, text.len, held.at, len);
+    check_number(call, number);
     give_back(t);
-    return end_form(held, HELD, number, out);
+    return end_form(held, size, number, out);
 }
 
-/* A call of two inputs that writes a form of `size` bytes: query and join have one type. */
+int32_t register_call(struct bytes text, size_t len, uint8_t *out) {
+    return text_call(REGISTER_CALL, vetxarno_register, HELD, text, len, out);
+}
+
+int32_t read_call(struct bytes text, size_t len, uint8_t *out) { return text_call(READ_CALL, vetxarno_read, TREE, text, len, out); }
+
+/* A call of two inputs that writes a form of `size` bytes: fit, query and join have one type. */
 typedef int32_t two_inputs(const uint8_t *, size_t, const uint8_t *, size_t, uint8_t *, size_t);
 
 static int32_t form_call(enum call call, two_inputs *make, size_t size, struct bytes first, struct bytes second, size_t len,
@@ -156,6 +167,10 @@ static int32_t form_call(enum call call, two_inputs *make, size_t size, struct b
     give_back(a);
     give_back(b);
     return end_form(held, size, number, out);
+}
+
+int32_t fit_call(struct bytes tree, struct bytes held, size_t len, uint8_t *out) {
+    return form_call(FIT_CALL, vetxarno_fit, QUERY, tree, held, len, out);
 }
 
 int32_t query_call(struct bytes held, struct bytes text, size_t len, uint8_t *out) {

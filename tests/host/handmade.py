@@ -4,7 +4,7 @@ from itertools import permutations
 from records import ask_case, case, held_register, query_case, register_case  # finds the evaluator
 import cases
 import query_form
-from core import And, Article, Existence, InNamespace, Or, Subquery
+from core import And, Article, Existence, InNamespace, Or, Subquery, Value
 from form import SIZE
 from query import query_call
 from register import register_call
@@ -28,7 +28,7 @@ def stated(found):
 
 
 def form_of(text):
-    return query_form.held_query(query_call(register_call(SAMPLE)[1], text)[1], text)
+    return query_form.held_query(query_call(register_call(SAMPLE)[1], text)[1])
 
 
 def edges():
@@ -77,31 +77,47 @@ def chains():
 
 def by_hand():
     """Core queries that no text gives, and node counts round 256."""
-    text, links = b'D1 Brought by In region', (b'Brought by', b'In region')
+    links = (b'Brought by', b'In region')
     article, right, left, deep = Article('=', b'D1'), Article('=', b'D1'), Article('=', b'D1'), InNamespace(b'')
     for count in range(1, 258):
         if count < 9 or count > 250:
-            yield ask_case(query_form.held_query(deep, text), HELD_SAMPLE, 6)
+            yield ask_case(query_form.held_query(deep), HELD_SAMPLE, 6)
         deep = Subquery(links[count % 2], deep)
     for count in range(128):
         right, left = And(article, right), Or(left, article)
         if count < 4 or count > 124:
-            yield from (ask_case(query_form.held_query(core, text), HELD_SAMPLE, 6) for core in (right, left))
-    yield ask_case(query_form.held_query(And(right.right, Subquery(links[0], Existence(links[0]))), text), HELD_SAMPLE, 6)
+            yield from (ask_case(query_form.held_query(core), HELD_SAMPLE, 6) for core in (right, left))
+    yield ask_case(query_form.held_query(And(right.right, Subquery(links[0], Existence(links[0])))), HELD_SAMPLE, 6)
 
 
 ALL_NODES = b'[[Category:Delivery]] [[!a]] OR [[Crates::12]] OR [[Chilled::no]] OR [[Lot::A7]] OR [[Brought by::<q>[[In region::+]] [[:+]]</q>]]'
 
 
 def field_edits():
-    """Every byte of every node of a query with all kinds of nodes, changed to each of a few values."""
+    """Every byte of the nodes and strings of a query with all kinds of nodes, changed to each of a few values."""
     form = form_of(ALL_NODES)
-    count = int.from_bytes(form[2:4], 'little')
-    for at in [*range(4), *range(1028, 1028 + 20 * count)]:
+    ends = query_form.NODES + query_form.NODE * int.from_bytes(form[:2], 'little'), len(form.rstrip(b'\0'))
+    for at in [*range(ends[0]), *range(query_form.HEAP, ends[1] + 1)]:
         for byte in {0, 1, 2, 3, 4, 8, 255, form[at] + 1, abs(form[at] - 1)} - {form[at]}:
             yield ask_case(form[:at] + bytes([byte % 256]) + form[at + 1:], HELD_SAMPLE, 6)
 
 
+def heap_edges():
+    """Strings at the end of the heap and past it, where they are cut, and a heap that is full."""
+    for tag, content in ((2, b'Delivery'), (3, b'Talk'), (4, b'Crates'), (6, b'D1')):
+        for start in (query_form.MOST_HEAP - len(content), query_form.MOST_HEAP - 1, query_form.MOST_HEAP, 65535):
+            for length in (len(content) - 1, len(content), len(content) + 1, 65535):
+                at = 8 if tag == 6 else 4
+                row = bytes([tag]).ljust(at, b'\0') + query_form.two(start) + query_form.two(length)
+                yield ask_case(query_form.two(1) + row.ljust(query_form.SIZE - 2 - len(content), b'\0') + content, HELD_SAMPLE, 6)
+    name = b'p' * 64
+    full = Value(name, '=', (b'string', b'v' * 64))
+    for _ in range(255):
+        full = Subquery(name, full)
+    held = query_form.held_query(full)
+    yield from (ask_case(one, HELD_SAMPLE, 6) for one in (held, held[:-1] + b'~', held[:-1] + b'"', held + b'x'))
+
+
 def handmade():
-    for some in (edges, fault_sets, chains, by_hand, field_edits):
+    for some in (edges, fault_sets, chains, by_hand, field_edits, heap_edges):
         yield from some()

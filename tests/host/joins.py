@@ -86,7 +86,7 @@ def fitted(register, kinds):
 def odd():
     """Forms that are those of a register or miss it by one thing, in every call."""
     text = b'[[Category:a]] OR [[a]] OR [[b]]'
-    query = query_form.held_query(query_call(register_call(b'')[1], text)[1], text)
+    query = query_form.held_query(query_call(register_call(b'')[1], text)[1])
     for _, _, held in odd_forms():
         yield ask_case(query, held, 256)
         yield query_case(held, text, query_form.SIZE)
@@ -130,7 +130,7 @@ def single_bytes():
     for held, step, values in ((HELD_SAMPLE, 1, 5), (encode(both), 7, 2), (encode(made(rng, 30, 4)), 97, 1), (EMPTY, 13, 3), (one_page, 11, 5)):
         yield from edit_cases(form_of(ALL_NODES), b'[[Crates::>12]] OR [[Lot::A7]]', held, list(edits_of(rng, held, step, values)))
     text = b'[[Category:a]] OR [[a]] OR [[b]]'  # of two pages, all kinds
-    query = query_form.held_query(query_call(register_call(b'')[1], text)[1], text)
+    query = query_form.held_query(query_call(register_call(b'')[1], text)[1])
     yield from edit_cases(query, b'[[S::a]] OR [[N::>7]] OR [[L::T:a]] OR [[B::1]]', laid(), all_edits_of(laid()))
 
 

@@ -4,8 +4,8 @@
 
 #include "calls.h"
 
-static const char LETTERS[] = "CRQAJFD";
-static const size_t PARTS[] = {10, 2, 3, 4, 4, 2, 4};
+static const char LETTERS[] = "CRQAJTFDE";
+static const size_t PARTS[] = {12, 2, 3, 4, 4, 3, 4, 4, 3};
 
 static uint32_t two(const uint8_t *at) { return at[0] | (uint32_t)at[1] << 8; }
 

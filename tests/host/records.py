@@ -1,22 +1,25 @@
 """Records for the C host, each with the line that it has to print by the separate evaluator.
 
-A made record is (bytes, line, doubts). Where the line is not fixed, it is a function that tells whether a line is right. A doubt is
-where the evaluator differs from itself or from what is stated."""
+A made record is (bytes, line, doubts). A doubt is where the evaluator differs from itself or from what is stated."""
 import os
 import sys
+import zlib
 from functools import lru_cache
 
 sys.path.insert(0, os.path.join(os.path.dirname(os.path.abspath(__file__)), '..', 'evaluator'))
 
 import query_form
+import tree_form
 from ask import ask, direct
 from form import BYTES, FORMS, PAGES, PROPS, SIZE, STARTS, TERMS, TEXTS, decode, encode
 from join import join
-from query import query_call
+from query import fit_call, query_call
+from reading import read_query
 from register import register_call
 
 read_register, read_text = lru_cache(64)(decode), lru_cache(8)(register_call)
 REGIONS = (0, PROPS, PAGES, STARTS, FORMS, TERMS, TEXTS, BYTES)
+TREE_REGIONS, QUERY_REGIONS = (0, tree_form.STRINGS), (0, query_form.HEAP)
 
 
 def part(content):
@@ -33,14 +36,31 @@ def without_zeros(content):
     return content[:(int.from_bytes(content, 'little').bit_length() + 7) // 8]
 
 
-def packed(held):
-    """A held register, or what is lent as one, without the zeros at the end of each region."""
+def packed(held, regions=REGIONS):
+    """A held register, or what is lent as a held form, without the zeros at the end of each region."""
     out = [len(held).to_bytes(4, 'little')]
-    for start, end in zip(REGIONS, (*REGIONS[1:], len(held))):
+    for start, end in zip(regions, (*regions[1:], len(held))):
         content = without_zeros(held[start:end])
         if content:
             out.append(start.to_bytes(2, 'little') + len(content).to_bytes(2, 'little') + content)
     return b''.join(out)
+
+
+def packed_tree(tree):
+    return packed(tree, TREE_REGIONS)
+
+
+def packed_query(held_query):
+    return packed(held_query, QUERY_REGIONS)
+
+
+def form_or_none(core):
+    """The packed form of a core query, if there is one."""
+    return packed_query(query_form.held_query(core)) if core else b''
+
+
+def tree_or_none(query):
+    return packed_tree(tree_form.encode(query)) if query else b''
 
 
 @lru_cache(8)
@@ -80,7 +100,7 @@ def run_on_both(core, query, register, other, both, doubts):
 
 
 def case(first, query, second, forgeries=0):
-    """The calls one after the other: the query asked of both registers, then made for their join and asked of that."""
+    """The calls one after the other: the query made by both ways and asked of both registers, then made for their join and asked of that."""
     (one, register), (two, other) = read_text(first), read_text(second)
     words, doubts = [str(-one), str(-two)], []
     number, core = query_call(register, query) if register else (None, None)
@@ -94,10 +114,13 @@ def case(first, query, second, forgeries=0):
         words += ['join', str(-refusal)]
     if both:
         words += run_on_both(core, query, register, other, both, doubts)
+    refusal, tree = read_query(query)
+    words += ['read', str(-refusal)]
     forms = [packed(held_register(text)) if found else b'' for text, found in ((first, register), (second, other))]
     forms.append(packed(encode(both)) if both else b'')
     pages = [len(one.pages) if one else 0 for one in (register, other, both)]
-    return record(b'C', first, query, second, *forms, *pages, forgeries), ' '.join(words), doubts
+    made = [tree_or_none(tree), form_or_none(core)]
+    return record(b'C', first, query, second, *forms, *pages, *made, forgeries), ' '.join(words), doubts
 
 
 def ask_case(held_query, held_register, length):
@@ -107,7 +130,7 @@ def ask_case(held_query, held_register, length):
     pages = len(register.pages) if register else 0
     if number == 0 and length < pages:
         number, marks = 24, None
-    return record(b'A', held_query, packed(held_register), length, pages), ' ' + ' '.join(answer(number, marks)), []
+    return record(b'A', packed_query(held_query), packed(held_register), length, pages), ' ' + ' '.join(answer(number, marks)), []
 
 
 def query_case(held_register, text, length):
@@ -136,15 +159,28 @@ def edit_case(held_query, text, held, edits):
         if register:
             words += [f'{at}:{byte}', *answer(*ask(core, register)), str(-query_call(register, text)[0]), '0', '0']
     content = b''.join(at.to_bytes(2, 'little') + bytes([byte, thorough]) for at, byte, thorough in edits)
-    return record(b'D', held_query, text, packed(held), content), ''.join(' ' + word for word in words), []
+    return record(b'D', packed_query(held_query), text, packed(held), content), ''.join(' ' + word for word in words), []
 
 
-def query_form_case(first, query):
-    """The held query that the calls write: it reads as the core query meant, node for node. None for a refused case."""
-    register = read_text(first)[1]
-    core = query_call(register, query)[1] if register else None
+def read_case(text, length):
+    number, query = read_query(text)
+    number = number or (33 if length < tree_form.SIZE else 0)
+    return record(b'T', text, length, b'' if number else tree_or_none(query)), str(-number), []
 
-    def reads_back(line):
-        return repr(query_form.read_query(bytes.fromhex(line).ljust(query_form.SIZE, b'\0'))) == repr(core)
 
-    return (record(b'F', first, query), reads_back, []) if core else None
+def fit_case(tree, held_register, length):
+    """Any bytes as a tree and as a register."""
+    number, core = fit_call(tree_form.decode(tree), read_register(held_register))
+    number = number or (20 if length < query_form.SIZE else 0)
+    return record(b'F', packed_tree(tree), packed(held_register), length, b'' if number else form_or_none(core)), str(-number), []
+
+
+def tree_edit_case(tree, held_register, edits):
+    """Each of the edits (where, byte) made on a held tree; a held query is told by its checksum."""
+    register, words = read_register(held_register), []
+    for at, byte in edits:
+        number, core = fit_call(tree_form.decode(tree[:at] + bytes([byte]) + tree[at + 1:]), register)
+        if number != 34:
+            words += [f'{at}:{byte}', str(-number)] + ([] if number else [f'{zlib.crc32(query_form.held_query(core)):08x}'])
+    content = b''.join(at.to_bytes(2, 'little') + bytes([byte, 0]) for at, byte in edits)
+    return record(b'E', packed_tree(tree), packed(held_register), content), ''.join(' ' + word for word in words), []
