@@ -4,8 +4,11 @@ use mathlib.Core.Path.{_≡_, refl, sym, _∙_}
 use mathlib.Core.Bool.{Bool, true, false, cond, not, _&&_, _||_, or-false}
 use mathlib.Core.List.{List, [], _∷_, _++_, append-assoc, append-nil}
 use mathlib.Core.Option.{Option, some, none}
+use mathlib.Core.Logic.{⊎-elim}
 use native.Mathlib.Omega.{arith}
-use lib.Dec.{ltb, leb}
+use denote.Enum.Declared.{tagOf}
+use types.Run.{OneOf}
+use lib.Dec.{ltb, leb, eqb}
 use lib.ListN.{length}
 use borrow.Author.Tests.{lt-ltb, le-ltb, leb-true, leb-false}
 use Rattle.text.specs.Bytes.{Bytes, bytes, any, same, after, span, part}
@@ -30,11 +33,12 @@ use Rattle.pieces.specs.declared.First.{First}
 use Rattle.pieces.specs.declared.Placed.{Placed}
 use Rattle.pieces.specs.declared.Read.{Read}
 use Rattle.pieces.proofs.Laws.{head-last, head-dot}
+use Rattle.pieces.proofs.Read.{the-type}
 use Rattle.query_tree.specs.Nodes.{Node, tree, treeIn, treeCategories, treeIdentifiers}
 use Rattle.query_tree.specs.Reading.{nodeBy}
 use Rattle.query_tree.specs.declared.TreeNode.{TreeNode}
 use Rattle.query_heads.specs.Effects.{Effect, noded, one, met, _then_, flagged, After, Reads}
-use Rattle.query_heads.specs.Trees.{deeper, effect, effectIn, chainNodes, chainEffect, valueNode, nodeOfPiece, pieceEffect, restEffect, tailPieces}
+use Rattle.query_heads.specs.Trees.{deeper, effect, effectIn, chainNodes, chainEffect, valueNode, nodeOfPiece, pieceEffect, restEffect, tailPieces, numberOfRead}
 use Rattle.query_heads.specs.declared.Seen.{Seen}
 use Rattle.query_heads.specs.declared.Outcome.{Outcome}
 use Rattle.query_heads.proofs.Following.{after-then, after-met, nothing-met, after-noded}
@@ -133,6 +137,26 @@ module _ (s : Bytes) (i : Identifiers) (b : Bool) (p : Read) (h : readTold s p �
       go : (b : Bool) → none ≡ onlyIf (not b) (some i) → true ≡ b
       go true h = refl
       go false h = cc
+
+-- by its number
+pub broken-number : (s : Bytes) (i : Identifiers) (b : Bool) (p : Read) (n : ℕ) → readTold s p ≡ onlyIf (not b) (some i) → n ≡ numberOfRead p → not (eqb n 0) ≡ b
+broken-number s i b (Read.Namespace x) n h e = rw e (unbroken-namespace s i b (Read.Namespace x) h x refl)
+broken-number s i b (Read.Reference c x) n h e = rw e (unbroken-reference s i b (Read.Reference c x) h c x refl)
+broken-number s i b Read.Broken n h e = rw e (broken-piece s i b Read.Broken h refl)
+
+-- The number of a piece that is neither.
+pub number-left : (p : Read) → OneOf (1 ∷ 2 ∷ []) (tagOf the-type p) → OneOf (0 ∷ 2 ∷ []) (tagOf the-type p) → 15 ≡ numberOfRead p
+number-left (Read.Namespace p) h k = absurd (⊎-elim (λ (e : _≡_ {A = ℕ} 0 1). omega arith) (λ (e : _≡_ {A = ℕ} 0 2). omega arith) h)
+number-left (Read.Reference c p) h k = absurd (⊎-elim (λ (e : _≡_ {A = ℕ} 1 0). omega arith) (λ (e : _≡_ {A = ℕ} 1 2). omega arith) k)
+number-left Read.Broken h k = refl
+
+pub number-namespace : (p : Read) (x : Span) → p ≡ Read.Namespace x → 0 ≡ numberOfRead p
+number-namespace p x e = rw e
+
+pub number-reference : (p : Read) (c : SurfaceComparator) (x : Span) → p ≡ Read.Reference c x → 0 ≡ numberOfRead p
+number-reference p c x e = rw e
+
+pub ruleset numbers = (broken-number, number-namespace, number-reference)
 
 -- A piece outside property bodies has one node.
 one-node : (p : Piece) → treeIdentifiers (identifierOf p) ≡ nodeOfPiece p ∷ []

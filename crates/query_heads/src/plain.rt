@@ -9,7 +9,7 @@ ghost use Rattle.pieces.specs.Places.{from, pieceOf, headOf};
 ghost use Rattle.query_tree.specs.Nodes.{Node};
 ghost use Rattle.query_tree.specs.Reading.{nodeBy};
 ghost use Rattle.query_heads.specs.Effects.{After, noded, Reads};
-ghost use Rattle.query_heads.specs.Trees.{deeper, valueNode, nodeOfPiece, pieceEffect, effectIn, chainEffect, restEffect, tailPieces, effect};
+ghost use Rattle.query_heads.specs.Trees.{deeper, valueNode, nodeOfPiece, pieceEffect, effectIn, chainEffect, restEffect, tailPieces, effect, numberOfRead};
 use crate::Outcome;
 use crate::Seen;
 use crate::adding::add;
@@ -122,15 +122,24 @@ fn identifier_node(s: &[u8], c: SurfaceComparator, text: Span) -> TreeNode
     }
 }
 
+// The number that refuses a piece, 0 for none.
+fn piece_number(piece: Read) -> u8
+    ensures { λ r. ⌜ r ≡ numberOfRead piece ⌝ }
+{
+    if let Read::Namespace(_) = piece {
+        return 0;
+    }
+    let Read::Reference(_, _) = piece else {
+        return 15;
+    };
+    0
+}
+
 // Whether such a piece breaks a rule.
 fn is_broken(s: &[u8], c: SurfaceComparator, text: Span) -> bool
     ensures { λ r. ⌜ r ≡ breaksReference (pieceOf (now (s .entry)) c text) ⌝ }
 {
-    match read_piece(s, c, text) {
-        Read::Namespace(_) => false,
-        Read::Reference(_, _) => false,
-        Read::Broken => true,
-    }
+    piece_number(read_piece(s, c, text)) != 0
 }
 
 // A piece that is `namespace:+` or a reference.
