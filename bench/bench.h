@@ -5,23 +5,32 @@
 #include <stddef.h>
 #include <stdint.h>
 
-/* HELD_BYTES is room for any implementation's held register. */
-enum { QUESTIONS = 4, MARK_BYTES = 256, HELD_BYTES = 65536, QUERY_BYTES = 6148, MOST_TEXT_BYTES = 32768 };
+/* HELD_BYTES is room for any implementation's held register, QUERY_BYTES for its held query. */
+enum { QUESTIONS = 4, MARK_BYTES = 256, HELD_BYTES = 65536, TREE_BYTES = 5112, QUERY_BYTES = 21570, MOST_TEXT_BYTES = 32768 };
 
 struct register_text {
     uint8_t at[MOST_TEXT_BYTES + 1];
     size_t len;
 };
 
-/* The calls of one implementation, and the size of its held register. */
+/* Where a held query has the number of its nodes, its nodes and its names. */
+struct query_layout {
+    size_t count, nodes, names;
+};
+
+/* The calls of one implementation, and how its held forms lie. */
 struct calls {
     const char *name;
-    size_t held; /* 0 where it is not in this build */
+    size_t held; /* the size of a held register; 0 where it is not in this build */
+    struct query_layout layout;
     int32_t (*reg)(const uint8_t *, size_t, uint8_t *, size_t);
     int32_t (*query)(const uint8_t *, size_t, const uint8_t *, size_t, uint8_t *, size_t);
     int32_t (*ask)(const uint8_t *, size_t, const uint8_t *, size_t, uint8_t *, size_t);
-    int32_t (*join)(const uint8_t *, size_t, const uint8_t *, size_t, uint8_t *, size_t); /* null where there is none */
-    int32_t (*test)(const uint8_t *, size_t);                                             /* whether bytes are a held register; likewise */
+    /* Null where there is none. */
+    int32_t (*read)(const uint8_t *, size_t, uint8_t *, size_t);
+    int32_t (*fit)(const uint8_t *, size_t, const uint8_t *, size_t, uint8_t *, size_t);
+    int32_t (*join)(const uint8_t *, size_t, const uint8_t *, size_t, uint8_t *, size_t);
+    int32_t (*test)(const uint8_t *, size_t); /* whether bytes are a held register */
 };
 
 /* The proved library, the plain implementation, its build without memcmp and wide loads, and the library of the first handover. */
@@ -51,7 +60,7 @@ int statement_run(struct statement *s, uint8_t *marks);
 /* What one figure times: a call on these, or SQLite where there are no calls. */
 struct work {
     const struct calls *calls;
-    const uint8_t *text, *held, *second, *query;
+    const uint8_t *text, *held, *second, *tree, *query;
     size_t len;
     struct base *base;
     const struct question *question;
@@ -59,7 +68,9 @@ struct work {
 };
 
 enum { COLUMNS = IMPLEMENTATIONS + 1, SQLITE = IMPLEMENTATIONS };
-enum call { REGISTER, QUERY, ASK, JOIN, TEST, CALLS };
+/* Those up to JOIN are calls; then what is timed beside them. */
+enum call { REGISTER, READ, FIT, QUERY, ASK, JOIN, READ_AND_FIT, TEST, CALLS };
+extern const char *const call_names[CALLS];
 
 /* A row of the table: microseconds, 0 for a column that has nothing to run. */
 struct row {
@@ -75,7 +86,7 @@ struct row {
 void time_row(struct row row, void (*run)(const struct work *), const struct work w[COLUMNS], const int runs[COLUMNS]);
 void print_head(void);
 /* All rows so far. */
-enum { MOST_ROWS = 100 };
+enum { MOST_ROWS = 200 };
 extern struct row rows[MOST_ROWS];
 extern size_t row_count;
 /* The time of the faster build of the plain implementation. */
@@ -83,7 +94,7 @@ double best_plain(const struct row *row);
 /* What a row is about: `full, ask: category`. */
 const char *row_name(const struct row *row, char out[160]);
 
-/* The largest stack of each call but the test, in bytes; 0 where there is none. Queries are made for and asked of the first text. */
+/* The largest stack of each call, in bytes; 0 where there is none. Queries are made for and asked of the first text. */
 struct stacks {
     size_t of[IMPLEMENTATIONS][CALLS];
 };

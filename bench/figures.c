@@ -57,19 +57,20 @@ static void figure_of_worst(enum call call, const char *what, const struct row *
 
 /* The largest of the first handover's calls, measured here or else as docs/BENCHMARKS.md had it then. */
 static void figure_of_stacks(const struct stacks *stacks) {
-    static const char *const names[] = {"register", "query", "ask", "join"};
     enum call worst = REGISTER;
     size_t wanted = 659424;
     if (is_built(FIRST)) wanted = stacks->of[FIRST][ASK];
     for (enum call call = REGISTER; call <= JOIN; call++)
         if (stacks->of[PROVED][call] > stacks->of[PROVED][worst]) worst = call;
-    print_figure("largest stack of any call, bytes", names[worst], (double)stacks->of[PROVED][worst], 1, (double)wanted);
+    print_figure("largest stack of any call, bytes", call_names[worst], (double)stacks->of[PROVED][worst], 1, (double)wanted);
 }
 
 void print_figures(const struct stacks *stacks) {
     puts("| figure | where | found | wanted | |\n|---|---|---|---|---|");
-    static const char *const full[] = {"register call beside the plain implementation, full register", "query calls, full register", "ask calls, full register", "join, full register"};
-    static const char *const all[] = {"register calls beside the plain implementation, any register", "query calls, any register", "ask calls, any register", "joins, any register"};
+    static const char *const full[] = {"register call beside the plain implementation, full register", "read calls, full register", "fit calls, full register",
+                                       "query calls, full register", "ask calls, full register", "join, full register"};
+    static const char *const all[] = {"register calls beside the plain implementation, any register", "read calls, any register", "fit calls, any register",
+                                      "query calls, any register", "ask calls, any register", "joins, any register"};
     for (enum call call = REGISTER; call <= JOIN; call++) figure_beside_plain(call, "full", full[call]);
     for (enum call call = REGISTER; call <= JOIN; call++) figure_beside_plain(call, NULL, all[call]);
     figures_of_asks();

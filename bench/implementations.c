@@ -5,6 +5,8 @@
 
 /* The plain implementation in its second build. */
 int32_t loops_register(const uint8_t *, size_t, uint8_t *, size_t);
+int32_t loops_read(const uint8_t *, size_t, uint8_t *, size_t);
+int32_t loops_fit(const uint8_t *, size_t, const uint8_t *, size_t, uint8_t *, size_t);
 int32_t loops_query(const uint8_t *, size_t, const uint8_t *, size_t, uint8_t *, size_t);
 int32_t loops_ask(const uint8_t *, size_t, const uint8_t *, size_t, uint8_t *, size_t);
 int32_t loops_join(const uint8_t *, size_t, const uint8_t *, size_t, uint8_t *, size_t);
@@ -16,16 +18,24 @@ int32_t first_register(const uint8_t *, size_t, uint8_t *, size_t);
 int32_t first_query(const uint8_t *, size_t, const uint8_t *, size_t, uint8_t *, size_t);
 int32_t first_ask(const uint8_t *, size_t, const uint8_t *, size_t, uint8_t *, size_t);
 
+/* All calls of one prefix. */
+#define ALL_CALLS(prefix)                                                                                                                    \
+    .held = PLAIN_REGISTER_BYTES, .layout = {0, 2, 5122}, .reg = prefix##_register, .read = prefix##_read, .fit = prefix##_fit,               \
+    .query = prefix##_query, .ask = prefix##_ask, .join = prefix##_join
+_Static_assert(PLAIN_REGISTER_BYTES == VETXARNO_REGISTER_BYTES && PLAIN_TREE_BYTES == VETXARNO_TREE_BYTES && PLAIN_QUERY_BYTES == VETXARNO_QUERY_BYTES &&
+                   PLAIN_TREE_BYTES == TREE_BYTES && PLAIN_QUERY_BYTES == QUERY_BYTES,
+               "held forms of one size");
+
 const struct calls calls_of[IMPLEMENTATIONS] = {
 #ifdef WITHOUT_LIBRARY
-    [PROVED] = {"plain, for the proved", PLAIN_REGISTER_BYTES, plain_register, plain_query, plain_ask, plain_join, NULL},
+    [PROVED] = {.name = "plain, for the proved", ALL_CALLS(plain)},
 #else
-    [PROVED] = {"proved", VETXARNO_REGISTER_BYTES, vetxarno_register, vetxarno_query, vetxarno_ask, vetxarno_join, NULL},
+    [PROVED] = {.name = "proved", ALL_CALLS(vetxarno)},
 #endif
-    [PLAIN] = {"plain", PLAIN_REGISTER_BYTES, plain_register, plain_query, plain_ask, plain_join, plain_is_register},
-    [LOOPS] = {"plain, byte loops", PLAIN_REGISTER_BYTES, loops_register, loops_query, loops_ask, loops_join, loops_is_register},
+    [PLAIN] = {.name = "plain", ALL_CALLS(plain), .test = plain_is_register},
+    [LOOPS] = {.name = "plain, byte loops", ALL_CALLS(loops), .test = loops_is_register},
 #ifdef WITH_FIRST
-    [FIRST] = {"first handover", FIRST_REGISTER_BYTES, first_register, first_query, first_ask, NULL, NULL},
+    [FIRST] = {.name = "first handover", .held = FIRST_REGISTER_BYTES, .layout = {2, 1028, 4}, .reg = first_register, .query = first_query, .ask = first_ask},
 #else
     [FIRST] = {.name = "first handover"},
 #endif

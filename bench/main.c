@@ -27,6 +27,24 @@ static void make_query(const struct work *w) {
     else if (w->calls->query(w->held, w->calls->held, w->text, w->len, query, sizeof query) != 0) stop("a query is refused");
 }
 
+static void make_tree(const struct work *w) {
+    static uint8_t tree[TREE_BYTES];
+    if (w->calls->read(w->text, w->len, tree, sizeof tree) != 0) stop("a text is refused");
+}
+
+static void fit_tree(const struct work *w) {
+    static uint8_t query[QUERY_BYTES];
+    if (w->calls->fit(w->tree, TREE_BYTES, w->held, w->calls->held, query, sizeof query) != 0) stop("a tree is refused");
+}
+
+static void make_and_fit(const struct work *w) {
+    static uint8_t tree[TREE_BYTES];
+    struct work made = *w;
+    if (w->calls->read(w->text, w->len, tree, sizeof tree) != 0) stop("a text is refused");
+    made.tree = tree;
+    fit_tree(&made);
+}
+
 static void run_query(const struct work *w) {
     static uint8_t marks[MARK_BYTES];
     if (w->calls == NULL) statement_run(w->statement, marks);
@@ -58,7 +76,38 @@ static int check_same(const struct work w[COLUMNS], const int runs[COLUMNS]) {
     return counts[PLAIN];
 }
 
-/* The query call and the ask call on the subject's form; the question may be asked of SQLite too. */
+/* The trees of all that read; what is fitted is what the query call made, and all have the same bytes. */
+static void make_trees(struct work w[COLUMNS], const int reads[COLUMNS]) {
+    static uint8_t tree[IMPLEMENTATIONS][TREE_BYTES];
+    uint8_t query[QUERY_BYTES];
+    for (int i = 0; i < IMPLEMENTATIONS; i++) {
+        if (!reads[i]) continue;
+        w[i].tree = tree[i];
+        if (w[i].calls->read(w[i].text, w[i].len, tree[i], TREE_BYTES) != 0) stop("a text is refused");
+        if (w[i].calls->fit(w[i].tree, TREE_BYTES, w[i].held, w[i].calls->held, query, QUERY_BYTES) != 0) stop("a tree is refused");
+        if (memcmp(query, w[i].query, QUERY_BYTES) != 0) stop("fitting and the query call differ");
+    }
+    for (int i = 0; i < IMPLEMENTATIONS; i++) {
+        if (!reads[i]) continue;
+        if (memcmp(tree[i], tree[PLAIN], TREE_BYTES) != 0) stop("the trees differ");
+        if (memcmp(w[i].query, w[PLAIN].query, QUERY_BYTES) != 0) stop("the held queries differ");
+    }
+}
+
+/* Reading, fitting a tree that is ready, and both. */
+static void time_fitting(struct row row, struct work w[COLUMNS], const int runs[COLUMNS]) {
+    int reads[COLUMNS] = {0};
+    for (int i = 0; i < IMPLEMENTATIONS; i++) reads[i] = runs[i] && calls_of[i].read != NULL;
+    make_trees(w, reads);
+    row.call = READ;
+    time_row(row, make_tree, w, reads);
+    row.call = FIT;
+    time_row(row, fit_tree, w, reads);
+    row.call = READ_AND_FIT;
+    time_row(row, make_and_fit, w, reads);
+}
+
+/* The calls on a question's text and on the subject's form; the question may be asked of SQLite too. */
 static void time_question(const struct subject *on, const struct question *question, struct base *base, const int runs[COLUMNS]) {
     static uint8_t query[IMPLEMENTATIONS][QUERY_BYTES];
     struct work w[COLUMNS] = {{0}};
@@ -72,6 +121,7 @@ static void time_question(const struct subject *on, const struct question *quest
     row.label = question->label;
     row.marked = check_same(w, runs);
     time_row(row, make_query, w, runs);
+    time_fitting(row, w, runs);
     row.call = ASK;
     time_row(row, run_query, w, runs);
     if (runs[SQLITE]) statement_free(w[SQLITE].statement);

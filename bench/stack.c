@@ -10,8 +10,8 @@ enum { STACK = 32 << 20, PATTERN = 0xC7 };
 
 struct job {
     const struct calls *calls;
-    char letter; /* R, Q, A or J */
-    const uint8_t *text, *held, *second, *query;
+    enum call call;
+    const uint8_t *text, *held, *second, *tree, *query;
     size_t len;
     uint8_t *out, *top; /* top: where the caller's frame lies */
 };
@@ -20,10 +20,14 @@ static void *run_job(void *given) {
     struct job *j = given;
     j->top = __builtin_frame_address(0);
     size_t size = j->calls->held;
-    if (j->letter == 'R') j->calls->reg(j->text, j->len, j->out, size);
-    if (j->letter == 'Q') j->calls->query(j->held, size, j->text, j->len, j->out, QUERY_BYTES);
-    if (j->letter == 'A') j->calls->ask(j->query, QUERY_BYTES, j->held, size, j->out, MARK_BYTES);
-    if (j->letter == 'J') j->calls->join(j->held, size, j->second, size, j->out, size);
+    switch (j->call) {
+    case REGISTER: j->calls->reg(j->text, j->len, j->out, size); break;
+    case READ: j->calls->read(j->text, j->len, j->out, TREE_BYTES); break;
+    case FIT: j->calls->fit(j->tree, TREE_BYTES, j->held, size, j->out, QUERY_BYTES); break;
+    case QUERY: j->calls->query(j->held, size, j->text, j->len, j->out, QUERY_BYTES); break;
+    case ASK: j->calls->ask(j->query, QUERY_BYTES, j->held, size, j->out, MARK_BYTES); break;
+    default: j->calls->join(j->held, size, j->second, size, j->out, size);
+    }
     return NULL;
 }
 
@@ -46,24 +50,25 @@ static size_t depth_of(struct job *j) {
     return (size_t)(j->top - (stack + i));
 }
 
-/* A query made by hand as docs/LAYOUT.md says: one namespace node inside 255 subqueries on L. */
-static void write_nested(uint8_t query[QUERY_BYTES]) {
+/* A query made by hand as docs/LAYOUT.md says: one namespace node inside 255 subqueries on L. The first handover's begins with the
+ * length of its text. */
+static void write_nested(const struct query_layout *at, uint8_t query[QUERY_BYTES]) {
     memset(query, 0, QUERY_BYTES);
-    query[0] = 1;
-    query[3] = 1; /* 256 nodes */
-    query[4] = 'L';
-    query[1028] = 3;
+    if (at->count > 0) query[0] = 1;
+    query[at->count + 1] = 1; /* 256 nodes */
+    query[at->names] = 'L';
+    query[at->nodes] = 3;
     for (int i = 1; i < 256; i++) {
-        query[1028 + 20 * i] = 5;
-        query[1028 + 20 * i + 6] = 1;
+        query[at->nodes + 20 * i] = 5;
+        query[at->nodes + 20 * i + 6] = 1;
     }
 }
 
 /* 128 selectors and 127 ANDs behind them: as many queries wait at once as can. */
-static void write_waiting(uint8_t query[QUERY_BYTES]) {
+static void write_waiting(const struct query_layout *at, uint8_t query[QUERY_BYTES]) {
     memset(query, 0, QUERY_BYTES);
-    query[2] = 255;
-    for (int i = 0; i < 255; i++) query[1028 + 20 * i] = i < 128 ? 3 : 0;
+    query[at->count] = 255;
+    for (int i = 0; i < 255; i++) query[at->nodes + 20 * i] = i < 128 ? 3 : 0;
 }
 
 static void repeat(char *out, const char *word, int count) {
@@ -72,18 +77,44 @@ static void repeat(char *out, const char *word, int count) {
 
 static size_t largest(size_t a, size_t b) { return a > b ? a : b; }
 
-/* Texts that nest as deep as 1,024 bytes allow, whether or not they are accepted, and the questions. */
-static size_t query_depth(struct job j) {
-    static const char *const nested[] = {"<q>", "[[L::<q>", "[[::<q>"};
+/* Texts of many nodes, and texts that nest as deep as a query may, or as 1,024 bytes allow. */
+static const struct {
+    const char *start, *part;
+    int times;
+    const char *last, *end;
+    int ends;
+} SHAPES[] = {
+    {"", "<q>", 341, "", "", 0},      {"", "[[L::<q>", 128, "", "", 0},        {"", "[[::<q>", 146, "", "", 0},
+    {"", "[[!a]]", 128, "", "", 0},   {"", "[[!a]]OR", 127, "[[!a]]", "", 0},  {"[[", "a||", 339, "a]]", "", 0},
+    {"", "[[!a]]<q>", 8, "[[!a]]", "</q>", 8}, {"", "[[L::<q>", 8, "[[!a]]", "</q>]]", 8},
+};
+enum { TEXTS = QUESTIONS + sizeof SHAPES / sizeof *SHAPES, TEXT_ROOM = 1100 };
+
+/* The questions are the first texts. */
+static void write_text(int which, char out[TEXT_ROOM]) {
     struct question questions[QUESTIONS];
+    int shape = which - QUESTIONS;
+    if (shape < 0) {
+        write_questions(1, questions);
+        strcpy(out, questions[which].query);
+        return;
+    }
+    strcpy(out, SHAPES[shape].start);
+    repeat(out + strlen(out), SHAPES[shape].part, SHAPES[shape].times);
+    strcat(out, SHAPES[shape].last);
+    repeat(out + strlen(out), SHAPES[shape].end, SHAPES[shape].ends);
+}
+
+/* A call on each text: the query call, or reading it, or fitting the tree of it where it is read. */
+static size_t text_depth(struct job j, enum call call) {
+    static uint8_t tree[TREE_BYTES];
     size_t most = 0;
-    char text[1100];
-    write_questions(1, questions);
-    for (size_t i = 0; i < QUESTIONS + 3; i++) {
-        if (i < QUESTIONS) strcpy(text, questions[i].query);
-        else repeat(text, nested[i - QUESTIONS], (int)(1024 / strlen(nested[i - QUESTIONS])));
-        j.text = (const uint8_t *)text;
+    char text[TEXT_ROOM];
+    j.call = call, j.text = (const uint8_t *)text, j.tree = tree;
+    for (int i = 0; i < TEXTS; i++) {
+        write_text(i, text);
         j.len = strlen(text);
+        if (call == FIT && j.calls->read(j.text, j.len, tree, TREE_BYTES) != 0) continue;
         most = largest(most, depth_of(&j));
     }
     return most;
@@ -94,10 +125,10 @@ static size_t ask_depth(struct job j) {
     struct question questions[QUESTIONS];
     size_t most = 0;
     write_questions(1, questions);
-    j.query = query;
+    j.call = ASK, j.query = query;
     for (int i = 0; i < QUESTIONS + 2; i++) {
-        if (i == QUESTIONS) write_nested(query);
-        if (i == QUESTIONS + 1) write_waiting(query);
+        if (i == QUESTIONS) write_nested(&j.calls->layout, query);
+        if (i == QUESTIONS + 1) write_waiting(&j.calls->layout, query);
         if (i < QUESTIONS)
             j.calls->query(j.held, j.calls->held, (const uint8_t *)questions[i].query, strlen(questions[i].query), query, QUERY_BYTES);
         if (j.calls->ask(query, QUERY_BYTES, j.held, j.calls->held, j.out, MARK_BYTES) < 0) stop("a question is refused");
@@ -112,13 +143,13 @@ static void make_form(const struct calls *calls, const struct register_text *tex
 }
 
 static size_t register_depth(struct job j, const struct register_text *text) {
-    j.letter = 'R', j.text = text->at, j.len = text->len;
+    j.call = REGISTER, j.text = text->at, j.len = text->len;
     return depth_of(&j);
 }
 
 static size_t join_depth(struct job j, const text_pair pair) {
     static uint8_t held[2][HELD_BYTES];
-    j.letter = 'J', j.held = held[0], j.second = held[1];
+    j.call = JOIN, j.held = held[0], j.second = held[1];
     for (int half = 0; half < 2; half++) make_form(j.calls, pair[half], held[half]);
     return depth_of(&j);
 }
@@ -133,15 +164,16 @@ void measure_stacks(const struct register_text *const *texts, size_t text_count,
         for (size_t k = 0; k < text_count; k++) most[REGISTER] = largest(most[REGISTER], register_depth(j, texts[k]));
         for (size_t k = 0; k < pair_count && j.calls->join != NULL; k++) most[JOIN] = largest(most[JOIN], join_depth(j, pairs[k]));
         make_form(j.calls, texts[0], held);
-        j.letter = 'Q';
-        most[QUERY] = query_depth(j);
-        j.letter = 'A';
+        for (enum call call = READ; call <= QUERY; call++)
+            if (call == QUERY || j.calls->read != NULL) most[call] = text_depth(j, call);
         most[ASK] = ask_depth(j);
     }
 }
 
 void print_stacks(const struct stacks *stacks) {
-    puts("| largest stack, bytes | register | query | ask | join |\n|---|---|---|---|---|");
+    printf("| largest stack, bytes |");
+    for (enum call call = REGISTER; call <= JOIN; call++) printf(" %s |", call_names[call]);
+    puts("\n|---|---|---|---|---|---|---|");
     for (int i = 0; i < IMPLEMENTATIONS; i++) {
         if (!is_built(i)) continue;
         printf("| %s |", calls_of[i].name);

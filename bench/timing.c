@@ -51,18 +51,15 @@ void print_head(void) {
 
 double best_plain(const struct row *row) { return row->us[PLAIN] < row->us[LOOPS] ? row->us[PLAIN] : row->us[LOOPS]; }
 
-static const char *call_name(enum call call) {
-    static const char *const names[CALLS] = {"register", "query", "ask", "join", "the test of a form alone"};
-    return names[call];
-}
+const char *const call_names[CALLS] = {"register", "read", "fit", "query", "ask", "join", "read then fit", "the test of a form alone"};
 
 const char *row_name(const struct row *row, char out[160]) {
-    snprintf(out, 160, "%s, %s%s%s", row->subject, call_name(row->call), row->label == NULL ? "" : ": ", row->label == NULL ? "" : row->label);
+    snprintf(out, 160, "%s, %s%s%s", row->subject, call_names[row->call], row->label == NULL ? "" : ": ", row->label == NULL ? "" : row->label);
     return out;
 }
 
 static void print_row(const struct row *row) {
-    printf("| %s | %s", row->subject, call_name(row->call));
+    printf("| %s | %s", row->subject, call_names[row->call]);
     if (row->label != NULL) printf(": %s", row->label);
     if (row->call == ASK) printf(" (%d marked)", row->marked);
     printf(" |");
