@@ -29,7 +29,7 @@ use Rattle.nodes.specs.Postfix.{Node}
 use Rattle.nodes.specs.Held.{querySize}
 use Rattle.nodes.specs.Form.{stringOf, strings, codeOf, spanAt, numberSlot, slotAt, slotBytes, slotsFrom, queryBytes}
 use Rattle.nodes.specs.Reading.{joinedBy, nodeBy}
-use Rattle.nodes.specs.Writing.{joinedStrings, nodeStrings, joinedSlot, slotOf, hasRoom, Fits, Laid, Puts, Finishes}
+use Rattle.nodes.specs.Writing.{joinedStrings, nodeStrings, joinedSlot, slotOf, hasRoom, Fits, Laid, Puts, Finishes, countOf, endOf}
 
 -- Strings and slots of one more node.
 pub strings-append : (k l : List Node) → strings (k ++ l) ≡ strings k ++ strings l
@@ -156,7 +156,7 @@ laid-both l s v w n e b r =
 
 -- The place behind nodes.
 abbrev placeAt : ℕ → ℕ → Place
-placeAt n m = record { count = n; end = m }
+placeAt n m = record { code = n + 512 * m }
 
 -- What fits with a node more fits without it.
 module _ (l : List Node) (m : Node) where
@@ -171,7 +171,7 @@ module _ (l : List Node) (m : Node) where
 
 -- The ways to lay a node: too many, no room for its strings, laid.
 module _ (s : Bytes) (x : DeclaredNode) (h : Bytes) (p : Place) where
-  pub put-full : 256 ≤ p .count → Puts s x h p h (placeAt 257 (p .end))
+  pub put-full : 256 ≤ countOf p → Puts s x h p h (record { code = p .code - countOf p + 257 })
   unfolding Puts
   put-full b l d =
       record {
@@ -180,14 +180,14 @@ module _ (s : Bytes) (x : DeclaredNode) (h : Bytes) (p : Place) where
         is = λ f. absurd (omega (arith, d .count, b, count-more l (nodeBy s x), f .0));
       }
 
-  module _ (few : p .count < 256) (r : Strings) (e : r ≡ nodeStrings x) (a b : Bytes) (f : a ≡ partOf s (r .first)) (g : b ≡ partOf s (r .second)) where
+  module _ (few : countOf p < 256) (r : Strings) (e : r ≡ nodeStrings x) (a b : Bytes) (f : a ≡ partOf s (r .first)) (g : b ≡ partOf s (r .second)) where
     string-is : stringOf (nodeBy s x) ≡ a ++ b
     string-is = sym (rw (f, g, e) (strings-joined s (x .connective) (x .selector)))
 
     string-long : length (stringOf (nodeBy s x)) ≡ length a + length b
     string-long = ap length string-is ∙ length-append a b
 
-    pub put-nothing : 16448 < p .end + length a + length b → Puts s x h p h (placeAt (p .count + 1) (p .end))
+    pub put-nothing : 16448 < endOf p + length a + length b → Puts s x h p h (record { code = p .code + 1 })
     unfolding Puts
     put-nothing o l d =
         record {
@@ -197,42 +197,42 @@ module _ (s : Bytes) (x : DeclaredNode) (h : Bytes) (p : Place) where
         }
 
     pub put-there : (y : Slot) (h1 h2 h3 : Bytes)
-        → y ≡ slotOf x (spanAt (p .end) (length a)) (spanAt (p .end + length a) (length b))
-        → h1 ≡ written h (2 + 20 * p .count) (slotBytes y)
-        → h2 ≡ written h1 (5122 + p .end) a
-        → h3 ≡ written h2 (5122 + p .end + length a) b
-        → Puts s x h p h3 (placeAt (p .count + 1) (p .end + length a + length b))
+        → y ≡ slotOf x (spanAt (endOf p) (length a)) (spanAt (endOf p + length a) (length b))
+        → h1 ≡ written h (2 + 20 * countOf p) (slotBytes y)
+        → h2 ≡ written h1 (5122 + endOf p) a
+        → h3 ≡ written h2 (5122 + endOf p + length a) b
+        → Puts s x h p h3 (placeAt (countOf p + 1) (endOf p + length a + length b))
     unfolding Puts
     put-there y h1 h2 h3 w i j k l d =
         record {
-          long = ap length laid ∙ length-written h1 (5122 + p .end) (a ++ b) ∙ ap length i ∙ length-written h (2 + 20 * p .count) (slotBytes y) ∙ d .long;
+          long = ap length laid ∙ length-written h1 (5122 + endOf p) (a ++ b) ∙ ap length i ∙ length-written h (2 + 20 * countOf p) (slotBytes y) ∙ d .long;
           count = omega (arith, d .count, few, count-more l (nodeBy s x));
           is = λ t. (there t, omega (arith, d .is (fits-less l (nodeBy s x) t) .1, bytes-more l (nodeBy s x), string-long));
         }
       where
-        laid : h3 ≡ written h1 (5122 + p .end) (a ++ b)
-        laid = next h1 (5122 + p .end) a b j k
+        laid : h3 ≡ written h1 (5122 + endOf p) (a ++ b)
+        laid = next h1 (5122 + endOf p) a b j k
 
-        same-slot : y ≡ slotAt (p .end) (nodeBy s x)
-        same-slot = w ∙ rw (f, g, e) (slot-joined s (p .end) (x .connective) (x .selector))
+        same-slot : y ≡ slotAt (endOf p) (nodeBy s x)
+        same-slot = w ∙ rw (f, g, e) (slot-joined s (endOf p) (x .connective) (x .selector))
 
         there : Fits (l ++ (nodeBy s x ∷ [])) → h3 ≡ zeros 2 ++ (padded 5120 (slotsFrom 0 (l ++ (nodeBy s x ∷ []))) ++ padded 16448 (strings (l ++ (nodeBy s x ∷ []))))
         there t =
             let q = d .is (fits-less l (nodeBy s x) t) in
-            let n : length (slotsFrom 0 l) ≡ 20 * p .count = omega (arith, length-slots 0 l, d .count, few) in
+            let n : length (slotsFrom 0 l) ≡ 20 * countOf p = omega (arith, length-slots 0 l, d .count, few) in
             laid
-            ∙ ap (λ (z : Bytes). written z (5122 + p .end) (a ++ b)) (i ∙ ap (λ (z : Bytes). written z (2 + 20 * p .count) (slotBytes y)) (q .0))
-            ∙ ap (λ (z : ℕ). written (written (zeros 2 ++ (padded 5120 (slotsFrom 0 l) ++ padded 16448 (strings l))) (2 + 20 * p .count) (slotBytes y)) (5122 + z) (a ++ b)) (q .1)
-            ∙ laid-both (slotsFrom 0 l) (strings l) (slotBytes y) (a ++ b) (20 * p .count) n (omega (arith, few, length-slot y)) (omega (arith, bytes-more l (nodeBy s x), string-long, length-append a b, t .1))
+            ∙ ap (λ (z : Bytes). written z (5122 + endOf p) (a ++ b)) (i ∙ ap (λ (z : Bytes). written z (2 + 20 * countOf p) (slotBytes y)) (q .0))
+            ∙ ap (λ (z : ℕ). written (written (zeros 2 ++ (padded 5120 (slotsFrom 0 l) ++ padded 16448 (strings l))) (2 + 20 * countOf p) (slotBytes y)) (5122 + z) (a ++ b)) (q .1)
+            ∙ laid-both (slotsFrom 0 l) (strings l) (slotBytes y) (a ++ b) (20 * countOf p) n (omega (arith, few, length-slot y)) (omega (arith, bytes-more l (nodeBy s x), string-long, length-append a b, t .1))
             ∙ ap₂ (λ (u v : Bytes). zeros 2 ++ (padded 5120 u ++ padded 16448 v))
             (ap (λ (z : Slot). slotsFrom 0 l ++ slotBytes z) same-slot ∙ ap (λ (z : ℕ). slotsFrom 0 l ++ slotBytes (slotAt z (nodeBy s x))) (q .1) ∙ sym (slots-more l (nodeBy s x)))
             (ap (λ (z : Bytes). strings l ++ z) (sym string-is) ∙ sym (strings-more l (nodeBy s x)))
 
 -- The count before the nodes.
-pub put-count : (h h′ : Bytes) (p : Place) → h′ ≡ written h 0 (twoBytes (p .count)) → Finishes h p h′
+pub put-count : (h h′ : Bytes) (p : Place) → h′ ≡ written h 0 (twoBytes (countOf p)) → Finishes h p h′
 unfolding Finishes queryBytes
 put-count h h′ p e l d f =
-    let n : p .count ≡ length l = omega (arith, d .count, f .0) in
+    let n : countOf p ≡ length l = omega (arith, d .count, f .0) in
     let rest = padded 5120 (slotsFrom 0 l) ++ padded 16448 (strings l) in
     e
     ∙ ap₂ (λ (t : Bytes) (k : ℕ). written t 0 (twoBytes k)) (d .is f .0) n
@@ -240,6 +240,9 @@ put-count h h′ p e l d f =
     ∙ ap (λ (t : Bytes). t ++ rest) (written-over (twoBytes (length l)) (zeros 2) (length-zeros 2))
 
 -- Nothing is laid into a cleared buffer.
+pub count-put : (h h′ : Bytes) (p : Place) (n : ℕ) → n ≡ countOf p → h′ ≡ written h 0 (twoBytes n) → Finishes h p h′
+count-put h h′ p n e w = put-count h h′ p (w ∙ ap (λ (k : ℕ). written h 0 (twoBytes k)) e)
+
 pub laid-none : Laid (zeros querySize) (placeAt 0 0) []
 unfolding slotsFrom strings padded
 laid-none =

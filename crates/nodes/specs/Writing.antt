@@ -1,5 +1,5 @@
 -- Working definitions: a declared node as a slot, the strings that it takes along, and a buffer that nodes are laid into.
-use Prim.Native.Nat.{ℕ, _+_, _≤_, min}
+use Prim.Native.Nat.{ℕ, _+_, _/_, _%_, _≤_, min}
 use mathlib.Core.Path.{_≡_}
 use mathlib.Core.Bool.{Bool}
 use mathlib.Core.List.{List, [], _∷_, _++_}
@@ -75,11 +75,18 @@ hasRoom end a b = leb (end + a + b) 16448
 abbrev pub Fits : List Postfix.Node → Type 0
 Fits l = (length l ≤ 256) × (length (strings l) ≤ 16448)
 
+-- How many nodes there are before a place, and how many bytes of the heap their strings take.
+abbrev pub countOf : Place → ℕ
+countOf p = p .code % 512
+
+abbrev pub endOf : Place → ℕ
+endOf p = p .code / 512
+
 -- A buffer that nodes were laid into, all but their count, and the place behind them. Where the nodes do not fit it keeps its length.
 pub record Laid (h : Bytes) (p : Place) (l : List Postfix.Node) : Type 0 where
   pub long : length h ≡ querySize
-  pub count : p .count ≡ min 257 (length l)
-  pub is : Fits l → (h ≡ zeros 2 ++ (padded 5120 (slotsFrom 0 l) ++ padded 16448 (strings l))) × (p .end ≡ length (strings l))
+  pub count : countOf p ≡ min 257 (length l)
+  pub is : Fits l → (h ≡ zeros 2 ++ (padded 5120 (slotsFrom 0 l) ++ padded 16448 (strings l))) × (endOf p ≡ length (strings l))
 
 -- A declared node of the text s, laid behind others.
 unfoldable pub Puts : Bytes → Node → Bytes → Place → Bytes → Place → Type 0

@@ -9,6 +9,7 @@ pub use reading::follows_at;
 pub use reading::node_at;
 pub use reading::wants_at;
 use text::Span;
+pub use writing::count_of;
 pub use writing::finish;
 pub use writing::put_node;
 
@@ -51,11 +52,10 @@ pub struct Strings {
     pub second: Span,
 }
 
-// The place behind nodes that are laid into a held query: how many there are, 257 for more than 256, and how many bytes of the
-// heap their strings take.
+// The place behind nodes that are laid into a held query: how many there are, 257 for more than 256, and 512 times how many bytes of
+// the heap their strings take. One number, since it goes through every call of a recursion.
 pub struct Place {
-    pub count: usize,
-    pub end: usize,
+    pub code: usize,
 }
 
 // The numbers in a node's 20 bytes.

@@ -16,7 +16,7 @@ use text::part;
 ghost use mathlib.Core.Path.{_≡_};
 ghost use Rattle.buffer.specs.Writing.{written};
 ghost use Rattle.nodes.specs.Form.{codeOf, tagged, headBytes, spanBytes, slotBytes};
-ghost use Rattle.nodes.specs.Writing.{constantStrings, selectorStrings, nodeStrings, constantSlot, selectorSlot, slotOf, hasRoom, Puts, Finishes};
+ghost use Rattle.nodes.specs.Writing.{constantStrings, selectorStrings, nodeStrings, constantSlot, selectorSlot, slotOf, hasRoom, countOf, Puts, Finishes};
 
 // The code of a comparator.
 fn code_of(c: Comparator) -> u8
@@ -233,14 +233,23 @@ fn has_room(end: usize, first: usize, second: usize) -> bool
     second <= 16448 - end - first
 }
 
+// How many nodes there are before a place.
+pub fn count_of(at: Place) -> usize
+    ensures { λ r. ⌜ r ≡ countOf at ⌝ }
+{
+    at.code % 512
+}
+
 // Lays a node behind others, where there is room for it; its strings lie in s.
 pub fn put_node(s: &[u8], held: &mut [u8], at: Place, node: Node) -> Place
     ensures { λ r. ⌜ Puts (now (s .entry)) node (now (held .entry)) at (now (held .exit)) r ⌝ }
 {
-    let count = at.count;
-    let end = at.end;
+    let count = at.code % 512;
+    let end = at.code / 512;
     if 256 <= count {
-        return Place { count: 257, end };
+        return Place {
+            code: at.code - count + 257,
+        };
     }
     let strings = strings_of(node);
     let p = strings.first;
@@ -250,10 +259,7 @@ pub fn put_node(s: &[u8], held: &mut [u8], at: Place, node: Node) -> Place
     let a = first.len();
     let b = second.len();
     if !has_room(end, a, b) {
-        return Place {
-            count: count + 1,
-            end,
-        };
+        return Place { code: at.code + 1 };
     }
     let slot = slot_of(
         node,
@@ -267,8 +273,7 @@ pub fn put_node(s: &[u8], held: &mut [u8], at: Place, node: Node) -> Place
     put_bytes(held, 5122 + end, first);
     put_bytes(held, 5122 + end + a, second);
     Place {
-        count: count + 1,
-        end: end + a + b,
+        code: count + 1 + 512 * (end + a + b),
     }
 }
 
@@ -276,5 +281,5 @@ pub fn put_node(s: &[u8], held: &mut [u8], at: Place, node: Node) -> Place
 pub fn finish(held: &mut [u8], at: Place)
     ensures { λ _. ⌜ Finishes (now (held .entry)) at (now (held .exit)) ⌝ }
 {
-    put_two(held, 0, at.count);
+    put_two(held, 0, count_of(at));
 }

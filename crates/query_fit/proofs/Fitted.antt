@@ -22,7 +22,7 @@ use Rattle.nodes.specs.declared.Place.{Place}
 use Rattle.nodes.specs.Held.{querySize}
 use Rattle.nodes.specs.Form.{queryOf}
 use Rattle.nodes.specs.Postfix.{post}
-use Rattle.nodes.specs.Writing.{Fits as Room, Laid, Finishes}
+use Rattle.nodes.specs.Writing.{countOf, Laid, Finishes}
 use Rattle.nodes.proofs.Postfix.{length-post}
 use Rattle.nodes.proofs.Counts.{few-strings}
 use Rattle.nodes.proofs.Laying.{laid-none}
@@ -42,7 +42,7 @@ abbrev elaborated : Option Core → Answer Core
 elaborated o = found o (λ c. cond (ltb 256 (nodes c)) (refused 19) (accepted c)) (refused 18)
 
 abbrev start : Place
-start = record { count = 0; end = 0 }
+start = record { code = 0 }
 
 module _ (t g : Bytes) (n w : ℕ) (u : Bool) (there : w ≡ twoAt t 0) (wide : n ≡ w) (is : u ≡ any (nodeUndeclared (kindsOf (registerIn g))) (tabulate n (nodeIn t))) where
   abbrev Γ : Typing
@@ -90,7 +90,7 @@ module _ (t g : Bytes) (n w : ℕ) (u : Bool) (there : w ≡ twoAt t 0) (wide : 
         core : Core
         says : elaborate q Γ ≡ some core
         laid : Laid h₁ p (post core)
-        count : p .count ≡ min 257 (nodes core)
+        count : countOf p ≡ min 257 (nodes core)
 
       laid-core : (q : Query) → nodesIn t ≡ tree q → h ≡ zeros querySize → CoreLaid q
       unfolding Emits
@@ -99,19 +99,19 @@ module _ (t g : Bytes) (n w : ℕ) (u : Bool) (there : w ≡ twoAt t 0) (wide : 
           let l : Laid h₁ p (post (d .0)) = d .2 .laid [] (subst (λ (x : Bytes). Laid x start []) (sym z) laid-none) in
           record { core = d .0; says = d .1; laid = l; count = l .count ∙ ap (min 257) (length-post (d .0)) }
 
-      pub fit-many : 256 < p .count → FitsTree t (kindsOf (registerIn g)) h Fit.TooMany h₁
-      fit-many m =
+      pub fit-many : (k : ℕ) → k ≡ countOf p → 256 < k → FitsTree t (kindsOf (registerIn g)) h Fit.TooMany h₁
+      fit-many k i m =
           record {
             number = λ q e s z. rw (many q e z);
             bytes = λ q c e s z a. absurd (let y : refused 19 ≡ accepted c = sym (many q e z) ∙ a in let x : _≡_ {A = ℕ} 0 1 = cc in omega arith);
           }
         where
           many : (q : Query) → nodesIn t ≡ tree q → h ≡ zeros querySize → fit Γ q ≡ refused 19
-          many q e z = let d = laid-core q e z in rw (declared-is q e, d .says, lt-ltb 256 (nodes (d .core)) (omega (arith, m, d .count)))
+          many q e z = let d = laid-core q e z in rw (declared-is q e, d .says, lt-ltb 256 (nodes (d .core)) (omega (arith, i, m, d .count)))
 
-      pub fit-fine : (h₂ : Bytes) → p .count ≤ 256 → Finishes h₁ p h₂ → FitsTree t (kindsOf (registerIn g)) h Fit.Fine h₂
+      pub fit-fine : (h₂ : Bytes) (k : ℕ) → k ≡ countOf p → k ≤ 256 → Finishes h₁ p h₂ → FitsTree t (kindsOf (registerIn g)) h Fit.Fine h₂
       unfolding Finishes queryOf
-      fit-fine h₂ m done =
+      fit-fine h₂ k i m done =
           record {
             number = λ q e s z. rw (fine q e z);
             bytes =
@@ -122,11 +122,11 @@ module _ (t g : Bytes) (n w : ℕ) (u : Bool) (there : w ≡ twoAt t 0) (wide : 
           }
         where
           fine : (q : Query) (e : nodesIn t ≡ tree q) (z : h ≡ zeros querySize) → fit Γ q ≡ accepted (laid-core q e z .core)
-          fine q e z = let d = laid-core q e z in rw (declared-is q e, d .says, le-ltb 256 (nodes (d .core)) (omega (arith, m, d .count)))
+          fine q e z = let d = laid-core q e z in rw (declared-is q e, d .says, le-ltb 256 (nodes (d .core)) (omega (arith, i, m, d .count)))
 
           written : (q : Query) → isSpelled q ≡ true → (d : CoreLaid q) → h₂ ≡ queryOf (d .core)
           written q s d =
-              let few : nodes (d .core) ≤ 256 = omega (arith, m, d .count) in
+              let few : nodes (d .core) ≤ 256 = omega (arith, i, m, d .count) in
               done (post (d .core)) (d .laid) (omega (arith, few, length-post (d .core)), omega (arith, few, few-strings (d .core) (elaborated-keeps Γ q (d .core) s (d .says))))
 
 pub ruleset fitted = (fit-undeclared, fit-unfit, fit-many, fit-fine)

@@ -6,6 +6,7 @@ use buffer::two_at;
 use descent::fit_query;
 use names::some_undeclared;
 use nodes::Place;
+use nodes::count_of;
 use nodes::finish;
 use query_emit::Emitted;
 use tables::widen;
@@ -50,12 +51,12 @@ pub fn fit_tree(tree: &[u8], register: &[u8], held: &mut [u8]) -> Fit
     if some_undeclared(tree, n, register) {
         return Fit::Undeclared;
     }
-    let start = Place { count: 0, end: 0 };
+    let start = Place { code: 0 };
     let fitted = fit_query(tree, n, register, held, start);
     let Emitted::At(place) = fitted else {
         return Fit::Unfit;
     };
-    if 256 < place.count {
+    if 256 < count_of(place) {
         return Fit::TooMany;
     }
     finish(held, place);

@@ -30,6 +30,9 @@ same-length c = search needs
 returns-2 : tie.Need-returns-2
 returns-2 c = search (fitted, needs)
 
+count-of-requires : tie.Need-count-of-requires
+count-of-requires c κs = search needs
+
 same-length-2 : tie.Need-same-length-2
 same-length-2 c = search needs
 
@@ -58,6 +61,7 @@ fit-tree-spec =
     enum-told
     same-length
     returns-2
+    count-of-requires
     same-length-2
     returns-3
     finish-requires

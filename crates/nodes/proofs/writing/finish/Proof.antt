@@ -1,7 +1,10 @@
-use Rattle.nodes.proofs.Laying.{put-count}
+use Rattle.nodes.proofs.Laying.{count-put}
 use borrow.Author.Needs.{needs}
 use Rattle.nodes.proofs.writing.finish.Statement.{statement}
 use Rattle.nodes.proofs.writing.finish.Tie as tie
+
+count-of-requires : tie.Need-count-of-requires
+count-of-requires c κs = search needs
 
 put-two-requires : tie.Need-put-two-requires
 put-two-requires c κs = search needs
@@ -10,7 +13,7 @@ same-length : tie.Need-same-length
 same-length c = search needs
 
 returns : tie.Need-returns
-returns c = put-count _ _ _ (c .before .before .put-two .ensures)
+returns c = count-put _ _ _ _ (c .before .before .before .count-of .ensures) (c .before .before .put-two .ensures)
 
 pub finish-spec : {M : Type 1} → statement M
-finish-spec = tie.close (tie.spec put-two-requires same-length returns)
+finish-spec = tie.close (tie.spec count-of-requires put-two-requires same-length returns)
