@@ -16,8 +16,8 @@
  * - The buffers of one call must not overlap. A buffer of length 0 still needs a pointer that is not null.
  * - No state is kept and no memory is allocated. Calls from several threads are fine as long as they share no buffer
  *   that one of them writes.
- * - Stack: vetxarno_ask needs up to 0.55 MB, for 256 nodes nested in one another; vetxarno_register, vetxarno_join,
- *   vetxarno_query and vetxarno_fit 0.4 MB, vetxarno_read 0.3 MB (docs/BENCHMARKS.md). */
+ * - Stack: vetxarno_ask needs up to 0.55 MB, for 256 nodes nested in one another; vetxarno_register and vetxarno_join
+ *   0.4 MB, vetxarno_query, vetxarno_read and vetxarno_fit 0.3 MB (docs/BENCHMARKS.md). */
 #ifndef VETXARNO_H
 #define VETXARNO_H
 
@@ -86,8 +86,8 @@ int32_t vetxarno_read(const uint8_t *text, size_t text_len, uint8_t *tree, size_
 int32_t vetxarno_fit(const uint8_t *tree, size_t tree_len, const uint8_t *held_register, size_t held_register_len,
                      uint8_t *held_query, size_t held_query_len);
 
-/* Reads and fits in one call. Reads a query text, fits it to the properties of a held register, and writes the held query into the first
- * VETXARNO_QUERY_BYTES bytes of `held_query`; later bytes stay as they are. Returns 0, or:
+/* Both in one call: reads a query text, fits it to the properties of a held register, and writes the held query into the
+ * first VETXARNO_QUERY_BYTES bytes of `held_query`; later bytes stay as they are. Returns 0, or:
  *
  *   -11  held_register is no held register, or is too short for one
  *   -12  the text is longer than 1,024 bytes
