@@ -1,4 +1,5 @@
--- The second and the third demand, from the calls' contracts. Registers and queries are held in any buffers, however they were made.
+-- The second and the third demand, from the calls' contracts, and that reading then fitting is the query call. Registers and queries
+-- are held in any buffers, however they were made.
 use Prim.Native.Nat.{ℕ, zero, suc, _≤_, _<_}
 use mathlib.Core.Path.{_≡_, refl, sym, ap, _∙_, subst}
 use mathlib.Core.Bool.{Bool, true, false, cond}
