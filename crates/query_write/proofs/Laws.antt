@@ -13,6 +13,7 @@ use Rattle.text.specs.Parts.{partOf}
 use Rattle.text.proofs.Laws.{all-append}
 use Rattle.buffer.specs.Numbers.{twoBytes, zeros, padded}
 use Rattle.buffer.specs.Writing.{written}
+use Rattle.buffer.proofs.Padding.{zeros-add}
 use Rattle.buffer.proofs.Written.{written-then, written-past, length-written, next}
 use Rattle.values.specs.Names.{bare, qualified}
 use Rattle.language.proofs.Members.{and-true, both-true}
@@ -27,7 +28,7 @@ use Rattle.query_tree.proofs.Rows.{length-rows, rows-append, Fits as FitsTree}
 use Rattle.query_write.specs.declared.Place.{Place}
 use Rattle.query_write.specs.declared.Entry.{Entry}
 use Rattle.query_write.specs.Laying.{entryOf, hasRoom, hasShort, Fits, Laid, Adds}
-use Rattle.query_write.proofs.Regions.{zeros-append, written-rows, written-texts, written-front}
+use Rattle.query_write.proofs.Regions.{written-rows, written-texts, written-front}
 
 -- Nodes that fit.
 pub fits-front : (k l : List Node) → Fits (k ++ l) → Fits k
@@ -208,7 +209,7 @@ adds-none t p = record { long = refl; laid = λ l f d. subst (Laid t p) (sym (ap
 -- No node, and all.
 pub laid-none : Laid (zeros treeSize) (record { count = 0; end = 0 }) []
 unfolding padded rowsFrom strings
-laid-none = record { bytes = sym (ap (λ (r : Bytes). zeros 2 ++ r) (zeros-append 4086 1024) ∙ zeros-append 2 5110); count = refl; end = refl }
+laid-none = record { bytes = zeros-add 2 5110 ∙ ap (λ (r : Bytes). zeros 2 ++ r) (zeros-add 4086 1024); count = refl; end = refl }
 
 pub finished : (t : Bytes) (p : Place) (l : List Node) → Laid t p l → written t 0 (twoBytes (p .count)) ≡ nodeBytes l
 unfolding nodeBytes
