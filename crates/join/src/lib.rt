@@ -3,6 +3,7 @@ ghost use Rattle.language.specs.Answer.{Answered};
 ghost use Rattle.calls.specs.Calls.{joinCall};
 ghost use Rattle.join.specs.Stages.{Joins, Writes};
 use register_form::REGISTER_BYTES;
+use register_form::layout;
 use register_join::draft_join;
 use register_join::kinds_clash;
 use register_merge::merge;
@@ -24,12 +25,12 @@ fn write_join(
 ) -> usize
     ensures { λ r. ⌜ Writes (now (h .entry)) (now (g .entry)) (now (heap .entry)) (now (starts .entry)) (now (lens .entry)) m (now (items1 .entry)) (now (items2 .entry)) (now (held .entry)) r (now (held .exit)) ⌝ }
 {
-    let mut kinds = [0u8; 128];
-    let mut names = [0u16; 128];
-    let mut identifiers = [0u16; 512];
-    let mut firsts = [0u16; 513];
-    let mut groups = [0u8; 4096];
-    let mut codes = [0u64; 4096];
+    let mut kinds = [0u8; layout::DRAFT_PROPERTIES];
+    let mut names = [0u16; layout::DRAFT_PROPERTIES];
+    let mut identifiers = [0u16; layout::DRAFT_PAGES];
+    let mut firsts = [0u16; layout::DRAFT_PAGE_STARTS];
+    let mut groups = [0u8; layout::DRAFT_FORMS];
+    let mut codes = [0u64; layout::DRAFT_FORMS];
     let c = draft_join(
         h,
         g,
@@ -64,11 +65,11 @@ fn write_join(
 fn join_forms<'a>(h: &'a [u8], g: &'a [u8], held: &mut [u8]) -> usize
     ensures { λ r. ⌜ Joins (now (h .entry)) (now (g .entry)) (now (held .entry)) r (now (held .exit)) ⌝ }
 {
-    let mut heap = [0u8; 70272];
-    let mut starts = [0u32; 4736];
-    let mut lens = [0u16; 4736];
-    let mut items1 = [0u16; 2368];
-    let mut items2 = [0u16; 2368];
+    let mut heap = [0u8; layout::DRAFT_TEXT_BYTES];
+    let mut starts = [0u32; layout::DRAFT_TEXTS];
+    let mut lens = [0u16; layout::DRAFT_TEXTS];
+    let mut items1 = [0u16; layout::TEXT_ROOM];
+    let mut items2 = [0u16; layout::TEXT_ROOM];
     let m = merge(
         h,
         g,
@@ -90,7 +91,7 @@ pub fn join<'a>(first: &'a [u8], second: &'a [u8], held: &mut [u8]) -> usize
 {
     let h = part(first, 0, REGISTER_BYTES);
     let g = part(second, 0, REGISTER_BYTES);
-    let mut places = [0u16; 2368];
+    let mut places = [0u16; layout::TEXT_ROOM];
     if !open(h, &mut places) {
         return 22;
     }

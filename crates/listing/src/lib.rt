@@ -13,6 +13,7 @@ use pagelist::put_list;
 use pagelist::put_refusal;
 use query::query;
 use register::register;
+use register_form::REGISTER_BYTES;
 
 // Writes the answer to a held query on a held register.
 fn answer_core(core: &[u8], held: &[u8], out: &mut [u8]) -> usize
@@ -45,7 +46,7 @@ pub const ANSWER_BYTES: usize = 34314;
 pub fn answer(text: &[u8], question: &[u8], out: &mut [u8]) -> usize
     ensures { λ r. ⌜ Lists (now (text .entry)) (now (question .entry)) (now (out .entry)) (now (out .exit)) r ⌝ }
 {
-    let mut held = [0u8; 63628];
+    let mut held = [0u8; REGISTER_BYTES];
     let number = register(text, &mut held);
     if number != 0 {
         return put_refusal(out, number);

@@ -1,9 +1,11 @@
 // Core queries as postfix nodes, and the held query that carries them.
-pub mod query;
-pub mod reading;
-pub mod writing;
+pub mod layout; // layout.rt: the regions and tags of a held query
+pub mod query; // query.rt: number 21's test
+pub mod reading; // reading.rt: a node from its bytes
+pub mod writing; // writing.rt: nodes into a held query
 
 use language::Comparator;
+pub use layout::QUERY_BYTES;
 pub use query::is_query;
 pub use reading::follows_at;
 pub use reading::node_at;
@@ -12,9 +14,6 @@ use text::Span;
 pub use writing::count_of;
 pub use writing::finish;
 pub use writing::put_node;
-
-// The size of a held query.
-pub const QUERY_BYTES: usize = 21570;
 
 // A constant by its kind: a number with 10^15 added, a truth value, or where a string lies in a text.
 pub enum Constant {

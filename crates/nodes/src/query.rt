@@ -4,6 +4,7 @@ use crate::Node;
 use crate::NodeRead;
 use crate::QUERY_BYTES;
 use crate::Selector;
+use crate::layout;
 use crate::reading::node_at;
 use buffer::two_at;
 use tables::widen;
@@ -36,7 +37,7 @@ pub fn is_query(h: &[u8]) -> bool
     ensures { λ r. ⌜ r ≡ isSome (heldQuery (now (h .entry))) ⌝ }
 {
     let count = widen(two_at(h, 0));
-    let sized = (QUERY_BYTES <= h.len()) & (1 <= count) & (count <= 256);
+    let sized = (QUERY_BYTES <= h.len()) & (1 <= count) & (count <= layout::MOST_NODES);
     if !sized {
         return false;
     }

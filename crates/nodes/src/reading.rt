@@ -7,6 +7,7 @@ use crate::Node;
 use crate::NodeRead;
 use crate::Selector;
 use crate::Slot;
+use crate::layout;
 use buffer::eight_at;
 use buffer::two_at;
 use language::Comparator;
@@ -28,10 +29,10 @@ fn comparator_from(code: u8) -> ComparatorRead
     ensures { λ r. ⌜ r ≡ comparatorRead (comparatorFrom code) ⌝ }
 {
     match code {
-        0 => ComparatorRead::Is(Comparator::Equal),
-        1 => ComparatorRead::Is(Comparator::Unequal),
-        2 => ComparatorRead::Is(Comparator::Greater),
-        3 => ComparatorRead::Is(Comparator::Less),
+        layout::EQUAL => ComparatorRead::Is(Comparator::Equal),
+        layout::UNEQUAL => ComparatorRead::Is(Comparator::Unequal),
+        layout::GREATER => ComparatorRead::Is(Comparator::Greater),
+        layout::LESS => ComparatorRead::Is(Comparator::Less),
         _ => ComparatorRead::Nothing,
     }
 }
@@ -53,16 +54,16 @@ fn constant_from(heap: &[u8], x: Slot) -> ConstantRead
 {
     let kind = x.kind;
     match kind {
-        0 => {
+        layout::NUMBER => {
             let n = x.number;
             let fit = (0 < n) & (n < 2_000_000_000_000_000);
             chosen_if(fit, Constant::Number(n))
         }
-        1 => {
+        layout::BOOLEAN => {
             let b = x.truth;
             chosen_if(b <= 1, Constant::Boolean(b == 1))
         }
-        2 => {
+        layout::STRING => {
             let p = x.second;
             let fit = is_value(part(heap, p.start, p.len));
             chosen_if(fit, Constant::String(p))
@@ -167,35 +168,35 @@ fn node_from(heap: &[u8], tag: u8, b: &[u8]) -> NodeRead
     ensures { λ r. ⌜ Reads (now (heap .entry)) (nodeOf (now (heap .entry)) tag (slotFrom (now (b .entry)))) r ⌝ }
 {
     match tag {
-        0 => joined(Connective::And),
-        1 => joined(Connective::Or),
-        2 => {
+        layout::AND => joined(Connective::And),
+        layout::OR => joined(Connective::Or),
+        layout::CATEGORY => {
             let p = first_of(b);
             selected_if(is_name(part(heap, p.start, p.len)), Selector::Category(p))
         }
-        3 => {
+        layout::NAMESPACE => {
             let p = first_of(b);
             selected_if(
                 is_namespace(part(heap, p.start, p.len)),
                 Selector::Namespace(p),
             )
         }
-        4 => {
+        layout::EXISTENCE => {
             let p = first_of(b);
             selected_if(
                 is_property_name(part(heap, p.start, p.len)),
                 Selector::Existence(p),
             )
         }
-        5 => {
+        layout::SUBQUERY => {
             let p = first_of(b);
             selected_if(
                 is_property_name(part(heap, p.start, p.len)),
                 Selector::Subquery(p),
             )
         }
-        6 => article_from(heap, b),
-        7 => value_from(heap, slot_from(b)),
+        layout::ARTICLE => article_from(heap, b),
+        layout::VALUE => value_from(heap, slot_from(b)),
         _ => NodeRead::Nothing,
     }
 }
@@ -204,10 +205,14 @@ fn node_from(heap: &[u8], tag: u8, b: &[u8]) -> NodeRead
 fn slot_bytes(h: &[u8], i: usize) -> &[u8]
     ensures { λ r. ⌜ now r ≡ partFrom (now (h .entry)) (slot i) 20 ⌝ }
 {
-    if h.len() / 20 < i {
+    if h.len() / layout::NODE_BYTES < i {
         return &h[..0];
     }
-    part(h, 2 + 20 * i, 20)
+    part(
+        h,
+        layout::NODES + layout::NODE_BYTES * i,
+        layout::NODE_BYTES,
+    )
 }
 
 // The tag of the node in a place.
@@ -221,7 +226,7 @@ fn tag_at(h: &[u8], i: usize) -> u8
 pub fn follows_at(h: &[u8], i: usize) -> bool
     ensures { λ r. ⌜ Tells followsLinks (nodeIn (now (h .entry)) i) r ⌝ }
 {
-    tag_at(h, i) == 5
+    tag_at(h, i) == layout::SUBQUERY
 }
 
 // Whether the node in a place is a subquery or a value comparison: by its tag alone.
@@ -229,14 +234,14 @@ pub fn wants_at(h: &[u8], i: usize) -> bool
     ensures { λ r. ⌜ Tells wantsKind (nodeIn (now (h .entry)) i) r ⌝ }
 {
     let tag = tag_at(h, i);
-    (tag == 5) | (tag == 7)
+    (tag == layout::SUBQUERY) | (tag == layout::VALUE)
 }
 
 // The node in a place.
 pub fn node_at(h: &[u8], i: usize) -> NodeRead
     ensures { λ r. ⌜ Reads (heapIn (now (h .entry))) (nodeIn (now (h .entry)) i) r ⌝ }
 {
-    let heap = part(h, 5122, 16448);
+    let heap = part(h, layout::HEAP, layout::HEAP_BYTES);
     let b = slot_bytes(h, i);
     node_from(heap, byte_at(b, 0), b)
 }

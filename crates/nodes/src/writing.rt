@@ -6,6 +6,7 @@ use crate::Place;
 use crate::Selector;
 use crate::Slot;
 use crate::Strings;
+use crate::layout;
 use buffer::put_byte;
 use buffer::put_bytes;
 use buffer::put_eight;
@@ -23,10 +24,10 @@ fn code_of(c: Comparator) -> u8
     ensures { λ r. ⌜ r ≡ codeOf c ⌝ }
 {
     match c {
-        Comparator::Equal => 0,
-        Comparator::Unequal => 1,
-        Comparator::Greater => 2,
-        Comparator::Less => 3,
+        Comparator::Equal => layout::EQUAL,
+        Comparator::Unequal => layout::UNEQUAL,
+        Comparator::Greater => layout::GREATER,
+        Comparator::Less => layout::LESS,
     }
 }
 
@@ -120,9 +121,9 @@ fn constant_slot(code: u8, k: Constant, p: Span, q: Span) -> Slot
     let none = Span { start: 0, len: 0 };
     match k {
         Constant::Number(n) => Slot {
-            tag: 7,
+            tag: layout::VALUE,
             comparator: code,
-            kind: 0,
+            kind: layout::NUMBER,
             truth: 0,
             first: p,
             second: none,
@@ -131,9 +132,9 @@ fn constant_slot(code: u8, k: Constant, p: Span, q: Span) -> Slot
         Constant::Boolean(b) => {
             let truth: u8 = if b { 1 } else { 0 };
             Slot {
-                tag: 7,
+                tag: layout::VALUE,
                 comparator: code,
-                kind: 1,
+                kind: layout::BOOLEAN,
                 truth,
                 first: p,
                 second: none,
@@ -141,9 +142,9 @@ fn constant_slot(code: u8, k: Constant, p: Span, q: Span) -> Slot
             }
         }
         Constant::String(_) => Slot {
-            tag: 7,
+            tag: layout::VALUE,
             comparator: code,
-            kind: 2,
+            kind: layout::STRING,
             truth: 0,
             first: p,
             second: q,
@@ -158,11 +159,11 @@ fn selector_slot(s: Selector, p: Span, q: Span) -> Slot
 {
     let none = Span { start: 0, len: 0 };
     match s {
-        Selector::Category(_) => tagged_slot(2, 0, p, none),
-        Selector::Namespace(_) => tagged_slot(3, 0, p, none),
-        Selector::Existence(_) => tagged_slot(4, 0, p, none),
-        Selector::Subquery(_) => tagged_slot(5, 0, p, none),
-        Selector::Article(c, _) => tagged_slot(6, code_of(c), none, q),
+        Selector::Category(_) => tagged_slot(layout::CATEGORY, 0, p, none),
+        Selector::Namespace(_) => tagged_slot(layout::NAMESPACE, 0, p, none),
+        Selector::Existence(_) => tagged_slot(layout::EXISTENCE, 0, p, none),
+        Selector::Subquery(_) => tagged_slot(layout::SUBQUERY, 0, p, none),
+        Selector::Article(c, _) => tagged_slot(layout::ARTICLE, code_of(c), none, q),
         Selector::Value(_, c, k) => constant_slot(code_of(c), k, p, q),
     }
 }
@@ -175,8 +176,8 @@ fn slot_of(node: Node, p: Span, q: Span) -> Slot
     let selector = node.selector;
     let none = Span { start: 0, len: 0 };
     match connective {
-        Connective::And => tagged_slot(0, 0, none, none),
-        Connective::Or => tagged_slot(1, 0, none, none),
+        Connective::And => tagged_slot(layout::AND, 0, none, none),
+        Connective::Or => tagged_slot(layout::OR, 0, none, none),
         Connective::Select => selector_slot(selector, p, q),
     }
 }
@@ -224,13 +225,13 @@ fn put_slot(h: &mut [u8], at: usize, x: Slot)
 fn has_room(end: usize, first: usize, second: usize) -> bool
     ensures { λ r. ⌜ r ≡ hasRoom end first second ⌝ }
 {
-    if 16448 < end {
+    if layout::HEAP_BYTES < end {
         return false;
     }
-    if 16448 - end < first {
+    if layout::HEAP_BYTES - end < first {
         return false;
     }
-    second <= 16448 - end - first
+    second <= layout::HEAP_BYTES - end - first
 }
 
 // How many nodes there are before a place.
@@ -246,7 +247,7 @@ pub fn put_node(s: &[u8], held: &mut [u8], at: Place, node: Node) -> Place
 {
     let count = at.code % 512;
     let end = at.code / 512;
-    if 256 <= count {
+    if layout::MOST_NODES <= count {
         return Place {
             code: at.code - count + 257,
         };
@@ -269,9 +270,9 @@ pub fn put_node(s: &[u8], held: &mut [u8], at: Place, node: Node) -> Place
             len: b,
         },
     );
-    put_slot(held, 2 + 20 * count, slot);
-    put_bytes(held, 5122 + end, first);
-    put_bytes(held, 5122 + end + a, second);
+    put_slot(held, layout::NODES + layout::NODE_BYTES * count, slot);
+    put_bytes(held, layout::HEAP + end, first);
+    put_bytes(held, layout::HEAP + end + a, second);
     Place {
         code: count + 1 + 512 * (end + a + b),
     }

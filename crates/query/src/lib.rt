@@ -15,6 +15,7 @@ use query_read::read_text;
 use query_test::is_tree;
 use query_tree::TREE_BYTES;
 use register_form::REGISTER_BYTES;
+use register_form::layout;
 use text::part;
 
 // The number of what reading answers, 0 for none.
@@ -67,7 +68,7 @@ fn is_register(register: &[u8]) -> bool
     ensures { λ r. ⌜ Opened (now (register .entry)) r ⌝ }
 {
     let h = part(register, 0, REGISTER_BYTES);
-    let mut places = [0u16; 2368];
+    let mut places = [0u16; layout::TEXT_ROOM];
     register_test::open(h, &mut places)
 }
 

@@ -16,6 +16,7 @@ use crate::leaves::step_of;
 use nodes::Place;
 use query_emit::Emitted;
 use query_emit::writing::put_join;
+use query_tree::layout;
 use query_tree::reading::node_at;
 use text::Span;
 use text::part;
@@ -77,7 +78,12 @@ pub fn fit_query(tree: &[u8], i: usize, register: &[u8], held: &mut [u8], at: Pl
         Step::Subquery => Emitted::Unfit,
         Step::Property(_) => fit_chain(tree, i, register, held, at),
         Step::Link(_) => fit_chain(tree, i, register, held, at),
-        Step::Leaf => put_leaf(part(tree, 4088, 1024), held, at, node),
+        Step::Leaf => put_leaf(
+            part(tree, layout::STRINGS, layout::STRING_BYTES),
+            held,
+            at,
+            node,
+        ),
     }
 }
 
@@ -89,7 +95,7 @@ fn fit_chain(tree: &[u8], i: usize, register: &[u8], held: &mut [u8], at: Place)
         return Emitted::Unfit;
     }
     let last = i - 1;
-    let s = part(tree, 4088, 1024);
+    let s = part(tree, layout::STRINGS, layout::STRING_BYTES);
     match step_of(node_at(tree, last)) {
         Step::Two(_, _) => Emitted::Unfit,
         Step::Subquery => Emitted::Unfit,
@@ -124,7 +130,7 @@ fn fit_in(
         return Emitted::Unfit;
     }
     let last = i - 1;
-    let s = part(tree, 4088, 1024);
+    let s = part(tree, layout::STRINGS, layout::STRING_BYTES);
     let node = node_at(tree, last);
     match step_of(node) {
         Step::Two(n, or) => fit_two(

@@ -8,6 +8,7 @@ use names::some_undeclared;
 use nodes::Place;
 use nodes::count_of;
 use nodes::finish;
+use nodes::layout;
 use query_emit::Emitted;
 use tables::widen;
 use text::Span;
@@ -56,7 +57,7 @@ pub fn fit_tree(tree: &[u8], register: &[u8], held: &mut [u8]) -> Fit
     let Emitted::At(place) = fitted else {
         return Fit::Unfit;
     };
-    if 256 < count_of(place) {
+    if layout::MOST_NODES < count_of(place) {
         return Fit::TooMany;
     }
     finish(held, place);

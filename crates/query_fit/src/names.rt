@@ -13,6 +13,7 @@ use crate::Step;
 use crate::leaves::kind_at;
 use crate::leaves::step_of;
 use query_tree::TreeNode;
+use query_tree::layout;
 use query_tree::reading::node_at;
 use text::part;
 use values::KindRead;
@@ -44,7 +45,7 @@ fn is_undeclared(s: &[u8], node: TreeNode, register: &[u8]) -> bool
 pub fn some_undeclared(tree: &[u8], n: usize, register: &[u8]) -> bool
     ensures { λ r. ⌜ r ≡ any (nodeUndeclared (kindsOf (registerIn (now (register .entry))))) (tabulate n (nodeIn (now (tree .entry)))) ⌝ }
 {
-    let s = part(tree, 4088, 1024);
+    let s = part(tree, layout::STRINGS, layout::STRING_BYTES);
     let mut i: usize = 0;
     while i < n {
         let node = node_at(tree, i);

@@ -27,6 +27,7 @@ use buffer::two_at;
 use query_tree::Item;
 use query_tree::Shape;
 use query_tree::TreeNode;
+use query_tree::layout;
 use query_tree::reading::node_at;
 use tables::widen;
 use text::part;
@@ -101,7 +102,7 @@ pub fn passes(h: &[u8]) -> bool
     ensures { λ r. ⌜ r ≡ isTree (nodesIn (now (h .entry))) ⌝ }
 {
     let n = widen(two_at(h, 0));
-    let s = part(h, 4088, 1024);
+    let s = part(h, layout::STRINGS, layout::STRING_BYTES);
     let mut items = [BLANK; 30];
     let mut count: usize = 0;
     let mut i: usize = 0;

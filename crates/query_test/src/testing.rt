@@ -6,6 +6,7 @@ ghost use Rattle.query_test.specs.Loops.{RowsTested};
 use buffer::two_at;
 use buffer::zeros;
 use query_tree::Row;
+use query_tree::layout;
 use query_tree::reading::row_at;
 use text::widen;
 
@@ -13,8 +14,8 @@ use text::widen;
 fn last_comparator(tag: u8) -> u8
     ensures { λ r. ⌜ r ≡ cond (usesComparator tag) 5 0 ⌝ }
 {
-    if (tag == 5) | (tag == 6) | (tag == 8) {
-        5
+    if (tag == layout::BARE) | (tag == layout::QUALIFIED) | (tag == layout::VALUE) {
+        layout::AT_MOST
     } else {
         0
     }
@@ -23,40 +24,49 @@ fn last_comparator(tag: u8) -> u8
 fn uses_first(tag: u8) -> bool
     ensures { λ r. ⌜ r ≡ usesFirst tag ⌝ }
 {
-    (tag == 4) | (tag == 6)
+    (tag == layout::NAMESPACE) | (tag == layout::QUALIFIED)
 }
 
 fn uses_second(tag: u8) -> bool
     ensures { λ r. ⌜ r ≡ usesSecond tag ⌝ }
 {
-    (tag == 3) | (tag == 5) | (tag == 6) | (tag == 8) | (tag == 10) | (tag == 11)
+    (tag == layout::CATEGORY)
+        | (tag == layout::BARE)
+        | (tag == layout::QUALIFIED)
+        | (tag == layout::VALUE)
+        | (tag == layout::PROPERTY)
+        | (tag == layout::LINK)
 }
 
 // The number of a tag's row whose string begins at a place.
 fn place_of(tag: u8, at: usize) -> usize
     ensures { λ r. ⌜ r ≡ cond (usesNothing tag) 0 at ⌝ }
 {
-    if (tag == 7) | (tag == 9) { 0 } else { at }
+    if (tag == layout::EXISTENCE) | (tag == layout::SUBQUERY) {
+        0
+    } else {
+        at
+    }
 }
 
 // Whether a row is that of its node, whose string begins at a place.
 pub fn row_fits(row: Row, at: usize) -> bool
     ensures { λ r. ⌜ r ≡ rowFits at row ⌝ }
 {
-    if 1024 < at {
+    if layout::STRING_BYTES < at {
         return false;
     }
     let tag = row.tag;
     let first = widen(row.first);
     let second = widen(row.second);
-    let placed = (tag < 3) | (tables::widen(row.number) == place_of(tag, at));
+    let placed = (tag < layout::CATEGORY) | (tables::widen(row.number) == place_of(tag, at));
     let end = at + first + second;
-    (tag <= 11)
+    (tag <= layout::LINK)
         & (row.comparator <= last_comparator(tag))
         & placed
         & (uses_first(tag) | (first == 0))
         & (uses_second(tag) | (second == 0))
-        & (end <= 1024)
+        & (end <= layout::STRING_BYTES)
 }
 
 // Whether some rows fit, and where their strings end.
@@ -87,7 +97,7 @@ pub fn is_exact(h: &[u8]) -> bool
     ensures { λ r. ⌜ r ≡ isExact (now (h .entry)) ⌝ }
 {
     let n = tables::widen(two_at(h, 0));
-    if 681 < n {
+    if layout::MOST_NODES < n {
         return false;
     }
     let rows = rows_fit(h, n);
@@ -95,6 +105,7 @@ pub fn is_exact(h: &[u8]) -> bool
         return false;
     }
     let end = rows.end;
-    let rows = 6 * n;
-    zeros(h, 2 + rows, 4086 - rows) & zeros(h, 4088 + end, 1024 - end)
+    let rows = layout::NODE_BYTES * n;
+    zeros(h, layout::NODES + rows, layout::ALL_NODE_BYTES - rows)
+        & zeros(h, layout::STRINGS + end, layout::STRING_BYTES - end)
 }

@@ -2,10 +2,10 @@
 use language::SurfaceComparator;
 use text::Span;
 
+pub mod layout; // layout.rt: the regions and tags of a held tree
 pub mod reading; // reading.rt: nodes from their bytes
 
-// The size of a held tree.
-pub const TREE_BYTES: usize = 5112;
+pub use layout::TREE_BYTES;
 
 // A part of a query: a bracket of categories or of identifiers, the alternatives of a property, a property's bracket, two joined.
 pub enum Shape {

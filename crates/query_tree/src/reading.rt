@@ -5,6 +5,7 @@ ghost use Rattle.query_tree.specs.Form.{comparatorFrom, nodeFrom, rowIn,
 ghost use Rattle.query_tree.specs.Reading.{nodeBy};
 use crate::Row;
 use crate::TreeNode;
+use crate::layout;
 use buffer::two_at;
 use language::SurfaceComparator;
 use text::Span;
@@ -16,11 +17,11 @@ fn comparator_from(code: u8) -> SurfaceComparator
     ensures { λ r. ⌜ r ≡ comparatorFrom code ⌝ }
 {
     match code {
-        0 => SurfaceComparator::Equal,
-        1 => SurfaceComparator::Unequal,
-        2 => SurfaceComparator::Greater,
-        3 => SurfaceComparator::Less,
-        4 => SurfaceComparator::AtLeast,
+        layout::EQUAL => SurfaceComparator::Equal,
+        layout::UNEQUAL => SurfaceComparator::Unequal,
+        layout::GREATER => SurfaceComparator::Greater,
+        layout::LESS => SurfaceComparator::Less,
+        layout::AT_LEAST => SurfaceComparator::AtLeast,
         _ => SurfaceComparator::AtMost,
     }
 }
@@ -39,17 +40,17 @@ fn node_from(row: Row) -> TreeNode
     };
     let tag = row.tag;
     match tag {
-        0 => TreeNode::And(start),
-        1 => TreeNode::Or(start),
-        2 => TreeNode::Bar(start),
-        3 => TreeNode::Category(second),
-        4 => TreeNode::Namespace(first),
-        5 => TreeNode::Bare(c, second),
-        6 => TreeNode::Qualified(c, first, second),
-        7 => TreeNode::Existence,
-        8 => TreeNode::Value(c, second),
-        9 => TreeNode::Subquery,
-        10 => TreeNode::Property(second),
+        layout::AND => TreeNode::And(start),
+        layout::OR => TreeNode::Or(start),
+        layout::BAR => TreeNode::Bar(start),
+        layout::CATEGORY => TreeNode::Category(second),
+        layout::NAMESPACE => TreeNode::Namespace(first),
+        layout::BARE => TreeNode::Bare(c, second),
+        layout::QUALIFIED => TreeNode::Qualified(c, first, second),
+        layout::EXISTENCE => TreeNode::Existence,
+        layout::VALUE => TreeNode::Value(c, second),
+        layout::SUBQUERY => TreeNode::Subquery,
+        layout::PROPERTY => TreeNode::Property(second),
         _ => TreeNode::Link(second),
     }
 }
@@ -58,7 +59,7 @@ fn node_from(row: Row) -> TreeNode
 pub fn row_at(h: &[u8], i: usize) -> Row
     ensures { λ r. ⌜ r ≡ rowIn (now (h .entry)) i ⌝ }
 {
-    if h.len() / 6 < i {
+    if h.len() / layout::NODE_BYTES < i {
         return Row {
             tag: 0,
             comparator: 0,
@@ -67,7 +68,7 @@ pub fn row_at(h: &[u8], i: usize) -> Row
             second: 0,
         };
     }
-    let at = 6 * i;
+    let at = layout::NODE_BYTES * i;
     Row {
         tag: byte_at(h, at + 2),
         comparator: byte_at(h, at + 3),

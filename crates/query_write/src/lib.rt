@@ -10,6 +10,7 @@ use buffer::put_bytes;
 use buffer::put_two;
 use language::SurfaceComparator;
 use query_tree::TreeNode;
+use query_tree::layout;
 use text::Span;
 use text::part;
 
@@ -33,12 +34,12 @@ fn code_of(c: SurfaceComparator) -> u8
     ensures { λ r. ⌜ r ≡ comparatorCode c ⌝ }
 {
     match c {
-        SurfaceComparator::Equal => 0,
-        SurfaceComparator::Unequal => 1,
-        SurfaceComparator::Greater => 2,
-        SurfaceComparator::Less => 3,
-        SurfaceComparator::AtLeast => 4,
-        SurfaceComparator::AtMost => 5,
+        SurfaceComparator::Equal => layout::EQUAL,
+        SurfaceComparator::Unequal => layout::UNEQUAL,
+        SurfaceComparator::Greater => layout::GREATER,
+        SurfaceComparator::Less => layout::LESS,
+        SurfaceComparator::AtLeast => layout::AT_LEAST,
+        SurfaceComparator::AtMost => layout::AT_MOST,
     }
 }
 
@@ -67,18 +68,18 @@ fn entry_of(node: TreeNode, end: usize) -> Entry
     let none = Span { start: 0, len: 0 };
     let equal = SurfaceComparator::Equal;
     match node {
-        TreeNode::And(n) => entry_with(0, equal, n, none, none),
-        TreeNode::Or(n) => entry_with(1, equal, n, none, none),
-        TreeNode::Bar(n) => entry_with(2, equal, n, none, none),
-        TreeNode::Category(p) => entry_with(3, equal, end, none, p),
-        TreeNode::Namespace(p) => entry_with(4, equal, end, p, none),
-        TreeNode::Bare(c, p) => entry_with(5, c, end, none, p),
-        TreeNode::Qualified(c, p, q) => entry_with(6, c, end, p, q),
-        TreeNode::Existence => entry_with(7, equal, 0, none, none),
-        TreeNode::Value(c, p) => entry_with(8, c, end, none, p),
-        TreeNode::Subquery => entry_with(9, equal, 0, none, none),
-        TreeNode::Property(p) => entry_with(10, equal, end, none, p),
-        TreeNode::Link(p) => entry_with(11, equal, end, none, p),
+        TreeNode::And(n) => entry_with(layout::AND, equal, n, none, none),
+        TreeNode::Or(n) => entry_with(layout::OR, equal, n, none, none),
+        TreeNode::Bar(n) => entry_with(layout::BAR, equal, n, none, none),
+        TreeNode::Category(p) => entry_with(layout::CATEGORY, equal, end, none, p),
+        TreeNode::Namespace(p) => entry_with(layout::NAMESPACE, equal, end, p, none),
+        TreeNode::Bare(c, p) => entry_with(layout::BARE, c, end, none, p),
+        TreeNode::Qualified(c, p, q) => entry_with(layout::QUALIFIED, c, end, p, q),
+        TreeNode::Existence => entry_with(layout::EXISTENCE, equal, 0, none, none),
+        TreeNode::Value(c, p) => entry_with(layout::VALUE, c, end, none, p),
+        TreeNode::Subquery => entry_with(layout::SUBQUERY, equal, 0, none, none),
+        TreeNode::Property(p) => entry_with(layout::PROPERTY, equal, end, none, p),
+        TreeNode::Link(p) => entry_with(layout::LINK, equal, end, none, p),
     }
 }
 
@@ -86,7 +87,7 @@ fn entry_of(node: TreeNode, end: usize) -> Entry
 fn has_room(count: usize, end: usize, first: usize, second: usize) -> bool
     ensures { λ r. ⌜ r ≡ hasRoom count end first second ⌝ }
 {
-    (count < 681) & (end <= 1024) & (first <= 64) & (second <= 64)
+    (count < layout::MOST_NODES) & (end <= layout::STRING_BYTES) & (first <= 64) & (second <= 64)
 }
 
 // Writes a row.
@@ -130,15 +131,15 @@ pub fn put_node(s: &[u8], tree: &mut [u8], at: Place, node: TreeNode) -> Place
     }
     put_row(
         tree,
-        2 + 6 * count,
+        layout::NODES + layout::NODE_BYTES * count,
         e.tag,
         code_of(comparator),
         e.number,
         n as u8,
         m as u8,
     );
-    put_bytes(tree, 4088 + end, a);
-    put_bytes(tree, 4088 + end + n, b);
+    put_bytes(tree, layout::STRINGS + end, a);
+    put_bytes(tree, layout::STRINGS + end + n, b);
     Place {
         count: count + 1,
         end: end + n + m,

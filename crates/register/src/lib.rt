@@ -3,6 +3,7 @@ ghost use Rattle.language.specs.Answer.{Answered};
 ghost use Rattle.calls.specs.Calls.{registerCall};
 ghost use Rattle.register.specs.Writing.{Writes};
 use register_draft::draft_text;
+use register_form::layout;
 use register_write::write_draft;
 use rows::judge;
 
@@ -10,15 +11,15 @@ use rows::judge;
 fn write_text(text: &[u8], t: &[u16], n: usize, props: &[u16], np: usize, held: &mut [u8]) -> usize
     ensures { λ r. ⌜ Writes (now (text .entry)) (now (t .entry)) (now (props .entry)) n np (now (held .entry)) r (now (held .exit)) ⌝ }
 {
-    let mut heap = [0u8; 35136];
-    let mut starts = [0u32; 2368];
-    let mut lens = [0u16; 2368];
-    let mut kinds = [0u8; 64];
-    let mut names = [0u16; 64];
-    let mut identifiers = [0u16; 256];
-    let mut firsts = [0u16; 257];
-    let mut groups = [0u8; 2048];
-    let mut codes = [0u64; 2048];
+    let mut heap = [0u8; layout::TEXT_BYTES];
+    let mut starts = [0u32; layout::TEXT_ROOM];
+    let mut lens = [0u16; layout::TEXT_ROOM];
+    let mut kinds = [0u8; layout::PROPERTY_ROOM];
+    let mut names = [0u16; layout::PROPERTY_ROOM];
+    let mut identifiers = [0u16; layout::PAGE_ROOM];
+    let mut firsts = [0u16; layout::PAGE_START_ROOM];
+    let mut groups = [0u8; layout::FORM_ROOM];
+    let mut codes = [0u64; layout::FORM_ROOM];
     let c = draft_text(
         text,
         t,

@@ -1,5 +1,5 @@
 -- The forms that pages keep: keeping one, a pass over a page's, page after page.
-use Prim.Native.Nat.{ℕ, suc, _+_, _-_, _≤_, _<_, min}
+use Prim.Native.Nat.{ℕ, zero, suc, _+_, _-_, _≤_, _<_, min}
 use mathlib.Core.Path.{_≡_, refl, sym, ap, ap₂, _∙_}
 use mathlib.Core.Bool.{Bool, true, false, cond, _||_}
 use mathlib.Core.List.{List, [], _∷_, _++_, map, flatMap, append-assoc, append-nil, map-append}
@@ -8,7 +8,7 @@ use native.Mathlib.Numerals.{add-one}
 use native.Mathlib.Decide.{ℕ-discrete}
 use native.Mathlib.Omega.{arith}
 use lib.Dec.{eqb}
-use lib.ListN.{length, getD, set, length-set, length-append, List·getD-append}
+use lib.ListN.{length, getD, set, replicate, length-replicate, length-set, length-append, List·getD-append}
 use lib.Seq.{getD-set-same, getD-set-other, getD-at}
 use borrow.Author.Tests.{eq-eqb, ne-eqb}
 use Rattle.text.specs.Bytes.{Bytes, any}
@@ -167,29 +167,35 @@ module _ (first : Bool) (groups numbers : List ℕ) where
             good = λ k before kept s. rw (← e) (a .good (λ y z q. k y z (omega arith)) before kept s);
           }
 
+-- A table of zeros.
+pub zeros-at : (n x : ℕ) → _≡_ {A = ℕ} (getD (replicate n 0) x 0) 0
+zeros-at zero x = refl
+zeros-at (suc n) zero = refl
+zeros-at (suc n) (suc x) = zeros-at n x
+
 -- Page after page.
 module _ (groups numbers firsts : List ℕ) where
   kept-up-to : (i : ℕ) → keptUpTo groups numbers firsts (i + 1) ≡ keptUpTo groups numbers firsts i ++ keptOn groups numbers firsts i
   unfolding keptUpTo
   kept-up-to i = rw add-one (flat-more (λ (t : Bytes). t) i (keptOn groups numbers firsts))
 
-  module _ (n : ℕ) (used₀ table₀ starts₀ : List ℕ) where
+  module _ (n : ℕ) (table₀ starts₀ : List ℕ) where
     -- What holds when some pages are done.
     pub record Paging (page : ℕ) (used table starts : List ℕ) (count : ℕ) : Type 0 where
-      pub used-size : length used ≡ length used₀
+      pub used-size : length used ≡ 4096
       pub table-size : length table ≡ length table₀
       pub starts-size : length starts ≡ length starts₀
-      pub ready : Fresh n used₀ table₀ starts₀ → Within numbers firsts n (length used₀) → Ready page (keptUpTo groups numbers firsts page) used table count
-      pub begins : Fresh n used₀ table₀ starts₀ → Within numbers firsts n (length used₀) → (j : ℕ) → j ≤ page → getD starts j 0 ≡ min (length (keptUpTo groups numbers firsts j)) 2049
+      pub ready : Fresh n table₀ starts₀ → Within numbers firsts n 4096 → Ready page (keptUpTo groups numbers firsts page) used table count
+      pub begins : Fresh n table₀ starts₀ → Within numbers firsts n 4096 → (j : ℕ) → j ≤ page → getD starts j 0 ≡ min (length (keptUpTo groups numbers firsts j)) 2049
 
-    pub paging-none : Paging 0 used₀ table₀ starts₀ 0
+    pub paging-none : Paging 0 (replicate 4096 0) table₀ starts₀ 0
     unfolding keptUpTo tabulate flatMap
     paging-none =
         record {
-          used-size = refl;
+          used-size = length-replicate {A = ℕ} 4096 0;
           table-size = refl;
           starts-size = refl;
-          ready = λ f w. record { listed = record { count = omega arith; at = λ j h k. absurd (omega arith) }; room = f .room; most = λ x. rw (f .unused x) (le-refl 0) };
+          ready = λ f w. record { listed = record { count = omega arith; at = λ j h k. absurd (omega arith) }; room = f .room; most = λ x. rw (zeros-at 4096 x) (le-refl 0) };
           begins = λ f w j h. let e : j ≡ 0 = omega arith in rw (e, f .first) (omega arith);
         }
 
@@ -234,7 +240,7 @@ module _ (groups numbers firsts : List ℕ) where
           forms : range from to ≡ formsAt firsts page
           forms = ap₂ range from-is to-is
 
-          next : Fresh n used₀ table₀ starts₀ → Within numbers firsts n (length used₀) → Ready (page + 1) (keptUpTo groups numbers firsts (page + 1)) used″ table″ r
+          next : Fresh n table₀ starts₀ → Within numbers firsts n 4096 → Ready (page + 1) (keptUpTo groups numbers firsts (page + 1)) used″ table″ r
           next s w =
               let before = keptUpTo groups numbers firsts page in
               let one = x .good (λ i b c. rw (a .used-size) (w page i h (omega (arith, from-is)) (omega (arith, to-is)))) before [] (ready-page page before used table count (a .ready s w)) in
@@ -242,13 +248,13 @@ module _ (groups numbers firsts : List ℕ) where
               let same : keptBy false groups numbers (keptBy true groups numbers [] (range from to)) (range from to) ≡ keptOn groups numbers firsts page = rw forms in
               record { listed = rw (kept-up-to page, ← same) (two .listed); room = two .room; most = two .most }
 
-          go : Fresh n used₀ table₀ starts₀ → Within numbers firsts n (length used₀) → (j : ℕ) → Dec (j ≡ page + 1) → j ≤ page + 1 → getD starts′ j 0 ≡ min (length (keptUpTo groups numbers firsts j)) 2049
+          go : Fresh n table₀ starts₀ → Within numbers firsts n 4096 → (j : ℕ) → Dec (j ≡ page + 1) → j ≤ page + 1 → getD starts′ j 0 ≡ min (length (keptUpTo groups numbers firsts j)) 2049
           go s w j (yes i) b =
               let room : page + 1 < length starts = omega (arith, s .starts-room, a .starts-size) in
               rw (v, z, i) (getD-set-same starts (page + 1) r 0 room ∙ next s w .listed .count)
           go s w j (no i) b = rw (v, z) (getD-set-other starts (page + 1) j r 0 i ∙ a .begins s w j (omega (arith, i)))
 
-      pub paging-all : page ≤ n → n ≤ page → Fresh n used₀ table₀ starts₀ → Within numbers firsts n (length used₀) → PagesKept groups numbers firsts n table starts count
+      pub paging-all : page ≤ n → n ≤ page → Fresh n table₀ starts₀ → Within numbers firsts n 4096 → PagesKept groups numbers firsts n table starts count
       paging-all b c s w =
           let e : n ≡ page = omega arith in
           record { listed = rw e (a .ready s w .listed); begins = λ j h. a .begins s w j (omega arith) }

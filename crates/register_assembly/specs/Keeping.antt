@@ -69,9 +69,8 @@ pub record PagesKept (groups numbers firsts : List ℕ) (n : ℕ) (table starts 
   pub listed : Listed (keptUpTo groups numbers firsts n) table r
   pub begins : (j : ℕ) → j ≤ n → getD starts j 0 ≡ min (length (keptUpTo groups numbers firsts j)) 2049
 
--- Tables with nothing in them, and room.
-pub record Fresh (n : ℕ) (used table starts : List ℕ) : Type 0 where
-  pub unused : (x : ℕ) → getD used x 0 ≡ 0
+-- Room for what is kept; the first page's begins at 0.
+pub record Fresh (n : ℕ) (table starts : List ℕ) : Type 0 where
   pub room : 2048 ≤ length table
   pub first : getD starts 0 0 ≡ 0
   pub starts-room : n < length starts

@@ -7,6 +7,7 @@ ghost use Rattle.register_assembly.specs.Counting.{booleanBytes, textByt
 use dictionary::text_at;
 use register_bytes::regions::text_length;
 use register_form::kind_from;
+use register_form::layout;
 use register_form::minus;
 use register_form::spelled::number_length;
 use tables::code_at;
@@ -16,15 +17,24 @@ use tables::widen;
 use text::byte_at;
 use values::Kind;
 
+// The most bytes that a register may have, and what stands for more.
+pub const MOST_COUNTED: u16 = 32768;
+
+const UNCOUNTED: u16 = 32769;
+
 // A sum, up to 32,769.
 fn add_capped(a: u16, x: usize) -> u16
     ensures { λ r. ⌜ r ≡ min (a + x) 32769 ⌝ }
 {
-    if 32768 < x {
-        return 32769;
+    if layout::MOST_BYTES < x {
+        return UNCOUNTED;
     }
     let sum = widen(a) + x;
-    if 32768 < sum { 32769 } else { sum as u16 }
+    if layout::MOST_BYTES < sum {
+        UNCOUNTED
+    } else {
+        sum as u16
+    }
 }
 
 fn low(c: u64) -> u16

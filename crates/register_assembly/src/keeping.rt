@@ -1,8 +1,8 @@
 // The forms that each page keeps: categories first, then values, each once, in the order in which they came.
 ghost use mathlib.Core.Path.{_≡_};
 ghost use Prim.Native.Nat.{_+_, min};
-ghost use lib.ListN.{length};
 ghost use Rattle.register_assembly.specs.Keeping.{wants, Kept, PassKept, PagesKept, Fresh, Within};
+use register_form::layout;
 use tables::get;
 use tables::put;
 use tables::widen;
@@ -69,20 +69,40 @@ pub fn keep_forms(
     numbers: &[u16],
     firsts: &[u16],
     n: u16,
-    used: &mut [u16],
     table: &mut [u16],
     starts: &mut [u16],
 ) -> u16
-    ensures { λ r. ⌜ (Fresh n (now (used .entry)) (now (table .entry)) (now (starts .entry)) → Within (now (numbers .entry)) (now (firsts .entry)) n (length (now (used .entry))) → PagesKept (now (groups .entry)) (now (numbers .entry)) (now (firsts .entry)) n (now (table .exit)) (now (starts .exit)) r) ⌝ }
+    ensures { λ r. ⌜ (Fresh n (now (table .entry)) (now (starts .entry)) → Within (now (numbers .entry)) (now (firsts .entry)) n 4096 → PagesKept (now (groups .entry)) (now (numbers .entry)) (now (firsts .entry)) n (now (table .exit)) (now (starts .exit)) r) ⌝ }
 {
+    let mut used = [0u16; layout::DRAFT_FORMS];
     let mut count: u16 = 0;
     let mut page: u16 = 0;
     while page < n {
         let from = get(firsts, widen(page));
         page += 1;
         let to = get(firsts, widen(page));
-        let some = keep_pass(page, true, groups, numbers, from, to, used, table, count);
-        count = keep_pass(page, false, groups, numbers, from, to, used, table, some);
+        let some = keep_pass(
+            page,
+            true,
+            groups,
+            numbers,
+            from,
+            to,
+            &mut used,
+            table,
+            count,
+        );
+        count = keep_pass(
+            page,
+            false,
+            groups,
+            numbers,
+            from,
+            to,
+            &mut used,
+            table,
+            some,
+        );
         put(starts, widen(page), count);
     }
     count

@@ -4,18 +4,17 @@ ghost use Prim.Native.Nat.{suc, _+_, _*_, _-_};
 ghost use Rattle.register_form.specs.Dictionary.{spaceOf, nameOf, groupOf, codeOf};
 ghost use Rattle.register_form.specs.Form.{kindByte, pageCount, propertyCount, termCount, textCount, kindFrom, propertyAt, pageAt, formStart, formAt, termAt, textStart, textAt};
 
+pub mod layout; // layout.rt: where the regions begin, and how many rows they have room for
 pub mod spelled; // spelled.rt: how long a number is, spelled
 
 use buffer::eight_at;
 use buffer::two_at;
+pub use layout::REGISTER_BYTES;
 use tables::wide;
 use tables::widen;
 use text::byte_at;
 use text::part;
 use values::Kind;
-
-// How many bytes a held register has.
-pub const REGISTER_BYTES: usize = 63628;
 
 // How many properties, pages, terms and texts there are.
 pub fn property_count(h: &[u8]) -> u16
@@ -46,7 +45,7 @@ pub fn text_count(h: &[u8]) -> u16
 pub fn kind_byte(h: &[u8], p: u16) -> u8
     ensures { λ r. ⌜ r ≡ kindByte (now (h .entry)) p ⌝ }
 {
-    byte_at(h, 8 + 3 * widen(p))
+    byte_at(h, layout::PROPERTIES + 3 * widen(p))
 }
 
 // The kind that a byte tells.
@@ -56,10 +55,14 @@ pub fn kind_from(b: u8) -> Kind
     if b == 0 {
         return Kind::Page;
     }
-    if b == 1 {
+    if b == layout::NUMBER {
         return Kind::Number;
     }
-    if b == 2 { Kind::Boolean } else { Kind::String }
+    if b == layout::BOOLEAN {
+        Kind::Boolean
+    } else {
+        Kind::String
+    }
 }
 
 pub fn kind_at(h: &[u8], p: u16) -> Kind
@@ -71,65 +74,65 @@ pub fn kind_at(h: &[u8], p: u16) -> Kind
 pub fn name_number(h: &[u8], p: u16) -> u16
     ensures { λ r. ⌜ r ≡ propertyAt (now (h .entry)) p .name ⌝ }
 {
-    two_at(h, 9 + 3 * widen(p))
+    two_at(h, layout::PROPERTY_NAMES + 3 * widen(p))
 }
 
 // The number of the text that is page i's identifier; where its forms begin, and where they end.
 pub fn identifier_number(h: &[u8], i: u16) -> u16
     ensures { λ r. ⌜ r ≡ pageAt (now (h .entry)) i .identifier ⌝ }
 {
-    two_at(h, 200 + 2 * widen(i))
+    two_at(h, layout::PAGES + 2 * widen(i))
 }
 
 pub fn form_start(h: &[u8], i: u16) -> u16
     ensures { λ r. ⌜ r ≡ formStart (now (h .entry)) i ⌝ }
 {
-    two_at(h, 712 + 2 * widen(i))
+    two_at(h, layout::FORM_STARTS + 2 * widen(i))
 }
 
 pub fn form_end(h: &[u8], i: u16) -> u16
     ensures { λ r. ⌜ r ≡ formStart (now (h .entry)) (suc i) ⌝ }
 {
-    two_at(h, 714 + 2 * widen(i))
+    two_at(h, layout::FORM_ENDS + 2 * widen(i))
 }
 
 // The number of the term that form j is.
 pub fn form_at(h: &[u8], j: u16) -> u16
     ensures { λ r. ⌜ r ≡ formAt (now (h .entry)) j ⌝ }
 {
-    two_at(h, 1226 + 2 * widen(j))
+    two_at(h, layout::FORMS + 2 * widen(j))
 }
 
 // The bytes of term f, its group and its code.
 pub fn term_at(h: &[u8], f: u16) -> &[u8]
     ensures { λ r. ⌜ now r ≡ termAt (now (h .entry)) f ⌝ }
 {
-    part(h, 5322 + 9 * widen(f), 9)
+    part(h, layout::TERMS + 9 * widen(f), 9)
 }
 
 pub fn group_at(h: &[u8], f: u16) -> u8
     ensures { λ r. ⌜ r ≡ groupOf (termAt (now (h .entry)) f) ⌝ }
 {
-    byte_at(h, 5322 + 9 * widen(f))
+    byte_at(h, layout::TERMS + 9 * widen(f))
 }
 
 pub fn code_at(h: &[u8], f: u16) -> u64
     ensures { λ r. ⌜ r ≡ codeOf (termAt (now (h .entry)) f) ⌝ }
 {
-    eight_at(h, 5323 + 9 * widen(f))
+    eight_at(h, layout::CODES + 9 * widen(f))
 }
 
 // Where text x begins among the bytes of all texts, and where it ends.
 pub fn text_start(h: &[u8], x: u16) -> u16
     ensures { λ r. ⌜ r ≡ textStart (now (h .entry)) x ⌝ }
 {
-    two_at(h, 23754 + 2 * widen(x))
+    two_at(h, layout::TEXT_STARTS + 2 * widen(x))
 }
 
 pub fn text_end(h: &[u8], x: u16) -> u16
     ensures { λ r. ⌜ r ≡ textStart (now (h .entry)) (suc x) ⌝ }
 {
-    two_at(h, 23756 + 2 * widen(x))
+    two_at(h, layout::TEXT_ENDS + 2 * widen(x))
 }
 
 // How far b lies behind a, 0 where it does not.
@@ -144,7 +147,11 @@ pub fn text_at(h: &[u8], x: u16) -> &[u8]
     ensures { λ r. ⌜ now r ≡ textAt (now (h .entry)) x ⌝ }
 {
     let start = text_start(h, x);
-    part(h, 28492 + widen(start), widen(minus(text_end(h, x), start)))
+    part(
+        h,
+        layout::TEXTS + widen(start),
+        widen(minus(text_end(h, x), start)),
+    )
 }
 
 // The namespace and the name in a text; in text x.

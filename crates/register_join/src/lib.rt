@@ -7,6 +7,7 @@ ghost use Rattle.register_join.specs.Drafting.{Entering, PropertiesPut, 
 use forms::put_page;
 use register_form::identifier_number;
 use register_form::kind_byte;
+use register_form::layout;
 use register_form::name_number;
 use register_form::page_count;
 use register_form::property_count;
@@ -107,7 +108,7 @@ pub fn kinds_clash(h: &[u8], g: &[u8], items1: &[u16], items2: &[u16]) -> bool
 {
     let mut kinds = [0u8; 64];
     let mut names = [0u16; 64];
-    let mut table = [0u16; 4736];
+    let mut table = [0u16; layout::DRAFT_TEXTS];
     put_properties(g, items2, &mut kinds, &mut names, &mut table, 0);
     some_clash(h, g, items1, &table)
 }
@@ -164,10 +165,10 @@ pub fn draft_join(
 ) -> Counts
     ensures { λ r. ⌜ JoinPut (now (h .entry)) (now (g .entry)) (now (items1 .entry)) (now (items2 .entry)) (now (kinds .entry)) (now (names .entry)) (now (identifiers .entry)) (now (firsts .entry)) (now (groups .entry)) (now (codes .entry)) (now (kinds .exit)) (now (names .exit)) (now (identifiers .exit)) (now (firsts .exit)) (now (groups .exit)) (now (codes .exit)) (r .properties) (r .pages) (r .forms) ⌝ }
 {
-    let mut places = [0u16; 4736];
-    let mut both = [0u16; 4736];
-    let mut pages = [0u16; 4736];
-    let mut list = [0u16; 256];
+    let mut places = [0u16; layout::DRAFT_TEXTS];
+    let mut both = [0u16; layout::DRAFT_TEXTS];
+    let mut pages = [0u16; layout::DRAFT_TEXTS];
+    let mut list = [0u16; layout::PAGE_ROOM];
     let first = put_properties(h, items1, kinds, names, &mut places, 0);
     let properties = put_properties(g, items2, kinds, names, &mut places, first);
     let own = put_identifiers(h, items1, identifiers, &mut both, 0);

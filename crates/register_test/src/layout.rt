@@ -10,12 +10,44 @@ use buffer::zeros;
 use register_form::REGISTER_BYTES;
 use register_form::form_start;
 use register_form::kind_byte;
+use register_form::layout;
 use register_form::page_count;
 use register_form::property_count;
 use register_form::term_count;
 use register_form::text_count;
 use register_form::text_start;
 use tables::widen;
+
+// The layout's numbers in 16 bits.
+const FORMS: u16 = layout::FORMS as u16;
+
+const FORM_BYTES: u16 = layout::FORM_BYTES as u16;
+
+const FORM_ENDS: u16 = layout::FORM_ENDS as u16;
+
+const FORM_STARTS: u16 = layout::FORM_STARTS as u16;
+
+const PAGES: u16 = layout::PAGES as u16;
+
+const PAGE_BYTES: u16 = layout::PAGE_BYTES as u16;
+
+const PROPERTIES: u16 = layout::PROPERTIES as u16;
+
+const PROPERTY_BYTES: u16 = layout::PROPERTY_BYTES as u16;
+
+const TERMS: u16 = layout::TERMS as u16;
+
+const TERM_BYTES: u16 = layout::TERM_BYTES as u16;
+
+const TEXTS: u16 = layout::TEXTS as u16;
+
+const TEXT_BYTES: u16 = layout::TEXT_BYTES as u16;
+
+const TEXT_ENDS: u16 = layout::TEXT_ENDS as u16;
+
+const TEXT_END_BYTES: u16 = layout::TEXT_END_BYTES as u16;
+
+const TEXT_STARTS: u16 = layout::TEXT_STARTS as u16;
 
 // Whether a region's bytes behind the first n are 0.
 fn zeros_behind(h: &[u8], base: u16, size: u16, n: usize) -> bool
@@ -33,10 +65,10 @@ fn are_rows_padded(h: &[u8]) -> bool
     ensures { λ r. ⌜ r ≡ areRowsPadded (now (h .entry)) ⌝ }
 {
     let pages = page_count(h);
-    zeros_behind(h, 8, 192, 3 * widen(property_count(h)))
-        & zeros_behind(h, 200, 512, 2 * widen(pages))
-        & zeros_behind(h, 714, 512, 2 * widen(pages))
-        & zeros_behind(h, 1226, 4096, 2 * widen(form_start(h, pages)))
+    zeros_behind(h, PROPERTIES, PROPERTY_BYTES, 3 * widen(property_count(h)))
+        & zeros_behind(h, PAGES, PAGE_BYTES, 2 * widen(pages))
+        & zeros_behind(h, FORM_ENDS, PAGE_BYTES, 2 * widen(pages))
+        & zeros_behind(h, FORMS, FORM_BYTES, 2 * widen(form_start(h, pages)))
 }
 
 fn is_padded(h: &[u8]) -> bool
@@ -44,19 +76,19 @@ fn is_padded(h: &[u8]) -> bool
 {
     let texts = text_count(h);
     are_rows_padded(h)
-        & zeros_behind(h, 5322, 18432, 9 * widen(term_count(h)))
-        & zeros_behind(h, 23756, 4736, 2 * widen(texts))
-        & zeros_behind(h, 28492, 35136, widen(text_start(h, texts)))
+        & zeros_behind(h, TERMS, TERM_BYTES, 9 * widen(term_count(h)))
+        & zeros_behind(h, TEXT_ENDS, TEXT_END_BYTES, 2 * widen(texts))
+        & zeros_behind(h, TEXTS, TEXT_BYTES, widen(text_start(h, texts)))
 }
 
 // Whether there are no more rows than there is room for.
 fn is_counted(h: &[u8]) -> bool
     ensures { λ r. ⌜ r ≡ isCounted (now (h .entry)) ⌝ }
 {
-    (property_count(h) <= 64)
-        & (page_count(h) <= 256)
-        & (term_count(h) <= 2048)
-        & (text_count(h) <= 2368)
+    (property_count(h) <= layout::MOST_PROPERTIES)
+        & (page_count(h) <= layout::MOST_PAGES)
+        & (term_count(h) <= layout::MOST_FORMS)
+        & (text_count(h) <= layout::MOST_TEXTS)
 }
 
 // Whether the byte of property p's kind is one of a kind.
@@ -124,7 +156,7 @@ pub fn is_laid(h: &[u8]) -> bool
         return false;
     }
     are_kinds(h)
-        & rises_to(h, 712, page_count(h), 2048)
-        & rises_to(h, 23754, text_count(h), 35136)
+        & rises_to(h, FORM_STARTS, page_count(h), layout::MOST_FORMS)
+        & rises_to(h, TEXT_STARTS, text_count(h), TEXT_BYTES)
         & is_padded(h)
 }

@@ -12,6 +12,9 @@ use layout::is_laid;
 use pages::pages_ok;
 use pages::terms_used;
 use pages::texts_used;
+use register_form::layout::FORM_ROOM;
+use register_form::layout::MOST_BYTES;
+use register_form::layout::TEXT_ROOM;
 use terms::terms_ok;
 use texts::properties_ok;
 use texts::texts_ok;
@@ -47,10 +50,10 @@ fn try_open(h: &[u8], places: &mut [u16]) -> bool
     if !is_laid(h) {
         return false;
     }
-    let mut classes = [0u16; 2368];
-    let mut used = [0u16; 2368];
-    let mut shown = [0u16; 2048];
-    let mut last = [0u16; 2048];
+    let mut classes = [0u16; TEXT_ROOM];
+    let mut used = [0u16; TEXT_ROOM];
+    let mut shown = [0u16; FORM_ROOM];
+    let mut last = [0u16; FORM_ROOM];
     let texts = texts_ok(h, &mut classes);
     let properties = properties_ok(h, &mut used);
     let terms = terms_ok(h, &classes, &mut used, &mut shown);
@@ -62,7 +65,7 @@ fn try_open(h: &[u8], places: &mut [u16]) -> bool
         & pages.ok
         & terms_used(h, &last)
         & texts_used(h, &used, places)
-        & (bytes <= 32768)
+        & (bytes <= MOST_BYTES)
 }
 
 // Whether the bytes are the form of a register; where they are, a table of 2,368 numbers gets for each text that is the identifier of
@@ -70,8 +73,8 @@ fn try_open(h: &[u8], places: &mut [u16]) -> bool
 pub fn open(h: &[u8], places: &mut [u16]) -> bool
     ensures { λ r. ⌜ Opens (now (h .entry)) (now (places .entry)) (now (places .exit)) r ⌝ }
 {
-    if places.len() != 2368 {
-        let mut table = [0u16; 2368];
+    if places.len() != TEXT_ROOM {
+        let mut table = [0u16; TEXT_ROOM];
         return try_open(h, &mut table);
     }
     clear(places);

@@ -11,6 +11,7 @@ use crate::texts::text_length;
 use register_form::code_at;
 use register_form::group_at;
 use register_form::kind_at;
+use register_form::layout::TERMS;
 use register_form::minus;
 use register_form::property_count;
 use register_form::spelled::number_length;
@@ -123,7 +124,7 @@ fn term_climbs(h: &[u8], f: u16) -> bool
         return true;
     }
     let before = f - 1;
-    let at = 5322 + 9 * widen(before);
+    let at = TERMS + 9 * widen(before);
     if at + 18 <= h.len() {
         let x = key_at(h, at);
         let y = key_at(h, at + 9);

@@ -19,6 +19,7 @@ use Rattle.buffer.specs.Writing.{written}
 use Rattle.register_bytes.specs.Writing.{firstOf, Region, putRegions}
 use Rattle.register_bytes.proofs.Filled.{dictionary-written}
 use Rattle.register_form.specs.Tables.{Tables}
+use Rattle.register_assembly.proofs.Keepings.{zeros-at}
 use Rattle.register_assembly.specs.Keeping.{PagesKept, Fresh, Within}
 use Rattle.register_assembly.specs.Counting.{textBytes, termBytesBy}
 use Rattle.register_write.specs.Writer.{fitted, Found, tabled, keptAll, countedBy, fitsCounted, writeCounted, rowRegions, listRegions, FittedWritten, KeptWritten}
@@ -48,20 +49,11 @@ pub counts-sum : (a b c x y r : ℕ) → x ≡ min (0 + a) 32769 → y ≡ min (
 counts-sum a b c x y r d e f = omega arith
 
 -- Tables of zeros are fresh.
-zero-at : (n x : ℕ) → _≡_ {A = ℕ} (getD (replicate n 0) x 0) 0
-zero-at zero x = refl
-zero-at (suc n) zero = refl
-zero-at (suc n) (suc x) = zero-at n x
-
-pub marks-size : length (replicate {A = ℕ} 4096 0) ≡ 4096
-marks-size = length-replicate {A = ℕ} 4096 0
-
-pub zeros-fresh : (n : ℕ) → n ≤ 256 → Fresh n (replicate 4096 0) (replicate 2048 0) (replicate 257 0)
+pub zeros-fresh : (n : ℕ) → n ≤ 256 → Fresh n (replicate 2048 0) (replicate 257 0)
 zeros-fresh n b =
     record {
-      unused = zero-at 4096;
       room = omega (arith, length-replicate {A = ℕ} 2048 0);
-      first = zero-at 257 0;
+      first = zeros-at 257 0;
       starts-room = omega (arith, length-replicate {A = ℕ} 257 0);
     }
 
@@ -71,11 +63,11 @@ module _ (t : Tables) (v : Found) (h : Bytes) where
   unfolding writeCounted
   over e = record { number = rw e; bytes = rw e }
 
-  module _ (used table₀ begins₀ table begins : List ℕ) (n : ℕ) (f : t .ng ≤ 256 → Fresh (t .ng) used table₀ begins₀) (s : length used ≡ 4096)
-      (p : Fresh (t .ng) used table₀ begins₀ → Within (v .termNumbers) (t .firsts) (t .ng) (length used) → PagesKept (t .groups) (v .termNumbers) (t .firsts) (t .ng) table begins n)
+  module _ (table₀ begins₀ table begins : List ℕ) (n : ℕ) (f : t .ng ≤ 256 → Fresh (t .ng) table₀ begins₀)
+      (p : Fresh (t .ng) table₀ begins₀ → Within (v .termNumbers) (t .firsts) (t .ng) 4096 → PagesKept (t .groups) (v .termNumbers) (t .firsts) (t .ng) table begins n)
     where
       pages : Within (v .termNumbers) (t .firsts) (t .ng) 4096 → t .ng ≤ 256 → PagesKept (t .groups) (v .termNumbers) (t .firsts) (t .ng) table begins n
-      pages w g = p (f g) (rw s w)
+      pages w g = p (f g) w
 
       pub kept-many : 2048 < n → KeptWritten t v h 7 h
       unfolding fitsCounted

@@ -8,9 +8,11 @@ ghost use Rattle.register_form.specs.Tables.{tablesOf};
 ghost use Rattle.register_write.specs.Writer.{foundOf, KeptWritten};
 use crate::OVER_LIMIT;
 use crate::regions::write_fitting;
+use register_assembly::counting::MOST_COUNTED;
 use register_assembly::counting::count_terms;
 use register_assembly::counting::count_texts;
 use register_assembly::keeping::keep_forms;
+use register_form::layout;
 use tables::next;
 
 // The bytes of all names and values, up to 32,769.
@@ -73,19 +75,10 @@ pub fn write_kept(
 ) -> usize
     ensures { λ r. ⌜ ((m nf : ℕ) → KeptWritten (tablesOf (now (s .entry)) (now (starts .entry)) (now (lens .entry)) m (now (kinds .entry)) (now (names .entry)) np (now (identifiers .entry)) (now (firsts .entry)) ng (now (groups .entry)) (now (codes .entry)) nf) (foundOf (now (refs .entry)) nx (now (numbers .entry)) (now (table .entry)) (now (tstarts .entry)) (now (tlens .entry)) (now (trefs .entry)) nt (now (tnumbers .entry))) (now (held .entry)) r (now (held .exit))) ⌝ }
 {
-    let mut used = [0u16; 4096];
-    let mut kept = [0u16; 2048];
-    let mut begins = [0u16; 257];
-    let n = keep_forms(
-        groups,
-        tnumbers,
-        firsts,
-        ng,
-        &mut used,
-        &mut kept,
-        &mut begins,
-    );
-    if 2048 < n {
+    let mut kept = [0u16; layout::FORM_ROOM];
+    let mut begins = [0u16; layout::PAGE_START_ROOM];
+    let n = keep_forms(groups, tnumbers, firsts, ng, &mut kept, &mut begins);
+    if layout::MOST_FORMS < n {
         return OVER_LIMIT;
     }
     let bytes = count_all(
@@ -103,7 +96,7 @@ pub fn write_kept(
         &kept,
         n,
     );
-    if 32768 < bytes {
+    if MOST_COUNTED < bytes {
         return OVER_LIMIT;
     }
     let nb = next(ng);

@@ -6,6 +6,7 @@ use crate::kept::write_kept;
 use dictionary::number;
 use register_assembly::terms::put_term_starts;
 use register_assembly::terms::put_terms;
+use register_form::layout;
 
 pub mod kept; // kept.rt: the forms that are kept, the count, and then the writing
 pub mod regions; // regions.rt: the regions, one behind the other
@@ -38,12 +39,12 @@ fn write_terms(
 ) -> usize
     ensures { λ r. ⌜ ((m : ℕ) → TermsWritten (tablesOf (now (s .entry)) (now (starts .entry)) (now (lens .entry)) m (now (kinds .entry)) (now (names .entry)) np (now (identifiers .entry)) (now (firsts .entry)) ng (now (groups .entry)) (now (codes .entry)) nf) (now (refs .entry)) nx (now (numbers .entry)) (now (held .entry)) r (now (held .exit))) ⌝ }
 {
-    let mut table = [0u8; 36864];
-    let mut tstarts = [0u32; 4096];
-    let tlens = [9u16; 4096];
-    let mut trefs = [0u16; 4096];
-    let mut tnumbers = [0u16; 4096];
-    let mut scratch = [0u16; 4096];
+    let mut table = [0u8; layout::DRAFT_TERM_BYTES];
+    let mut tstarts = [0u32; layout::DRAFT_FORMS];
+    let tlens = [9u16; layout::DRAFT_FORMS];
+    let mut trefs = [0u16; layout::DRAFT_FORMS];
+    let mut tnumbers = [0u16; layout::DRAFT_FORMS];
+    let mut scratch = [0u16; layout::DRAFT_FORMS];
     put_terms(kinds, numbers, groups, codes, nf, &mut table);
     put_term_starts(&mut tstarts, nf);
     let nt = number(
@@ -99,15 +100,15 @@ fn write_assembled(
 ) -> usize
     ensures { λ r. ⌜ AssembledWritten (tablesOf (now (s .entry)) (now (starts .entry)) (now (lens .entry)) m (now (kinds .entry)) (now (names .entry)) np (now (identifiers .entry)) (now (firsts .entry)) ng (now (groups .entry)) (now (codes .entry)) nf) (now (held .entry)) r (now (held .exit)) ⌝ }
 {
-    if 64 < np {
+    if layout::MOST_PROPERTIES < np {
         return OVER_LIMIT;
     }
-    if 256 < ng {
+    if layout::MOST_PAGES < ng {
         return OVER_LIMIT;
     }
-    let mut refs = [0u16; 4736];
-    let mut numbers = [0u16; 4736];
-    let mut scratch = [0u16; 4736];
+    let mut refs = [0u16; layout::DRAFT_TEXTS];
+    let mut numbers = [0u16; layout::DRAFT_TEXTS];
+    let mut scratch = [0u16; layout::DRAFT_TEXTS];
     let nx = number(s, starts, lens, m, &mut refs, &mut numbers, &mut scratch) as u16;
     write_terms(
         s,

@@ -15,6 +15,7 @@ use register_bytes::regions::put_properties;
 use register_bytes::regions::put_starts;
 use register_bytes::regions::put_texts;
 use register_form::REGISTER_BYTES;
+use register_form::layout;
 
 // Counts, properties, the pages' identifiers, where each page's forms begin, forms.
 fn write_rows(
@@ -35,10 +36,10 @@ fn write_rows(
     ensures { λ _. ⌜ now (h .exit) ≡ putRegions 0 (rowRegions (now (kinds .entry)) (now (numbers .entry)) (now (names .entry)) np (now (identifiers .entry)) ng nt nx (now (begins .entry)) nb (now (kept .entry)) n) (now (h .entry)) ⌝ }
 {
     put_counts(h, np, ng, nt, nx);
-    put_properties(h, 8, kinds, numbers, names, np);
-    put_picked(h, 200, numbers, identifiers, ng);
-    put_numbers(h, 712, begins, nb);
-    put_numbers(h, 1226, kept, n);
+    put_properties(h, layout::PROPERTIES, kinds, numbers, names, np);
+    put_picked(h, layout::PAGES, numbers, identifiers, ng);
+    put_numbers(h, layout::FORM_STARTS, begins, nb);
+    put_numbers(h, layout::FORMS, kept, n);
 }
 
 // Terms, where each text begins, texts.
@@ -57,9 +58,9 @@ fn write_lists(
 )
     ensures { λ _. ⌜ now (h .exit) ≡ putRegions 5322 (listRegions (listed (textAt (now (table .entry)) (now (tstarts .entry)) (now (tlens .entry))) (now (trefs .entry)) nt) (listed (textAt (now (s .entry)) (now (starts .entry)) (now (lens .entry))) (now (refs .entry)) nx)) (now (h .entry)) ⌝ }
 {
-    put_texts(h, 5322, table, tstarts, tlens, trefs, nt);
-    put_starts(h, 23754, s, starts, lens, refs, nx);
-    put_texts(h, 28492, s, starts, lens, refs, nx);
+    put_texts(h, layout::TERMS, table, tstarts, tlens, trefs, nt);
+    put_starts(h, layout::TEXT_STARTS, s, starts, lens, refs, nx);
+    put_texts(h, layout::TEXTS, s, starts, lens, refs, nx);
 }
 
 // Writes the regions over zeros, where the buffer is as long as a held register.
