@@ -11,43 +11,41 @@ CORE_COMPARATORS = {'=': operator.eq, '!=': operator.ne, '>': operator.gt, '<': 
 
 
 def has_mismatch(core, register):
-    held = {}
-    for page in register.pages:
-        for prop, values in page.values.items():
-            held.setdefault(prop, set()).update(kind for kind, _ in values)
-    for node in every_node(core):
-        if isinstance(node, Value) and held.get(node.prop, set()) - {node.constant[0]}:
-            return True
-        if isinstance(node, Subquery) and held.get(node.prop, set()) - {b'page'}:
-            return True
-    return False
+    """Whether a page holds, under a property that the query names, another kind than the query asks of."""
+    nodes = [node for node in every_node(core) if isinstance(node, (Value, Subquery))]
+    named = {(node.prop, b'page' if isinstance(node, Subquery) else node.constant[0]) for node in nodes}
+    return any(kind != wanted for page in register.pages for prop, wanted in named for kind, _ in page.values.get(prop, []))
 
 
-def selected(core, register):
-    """The pages of the register, as (namespace, name), that a core query selects."""
-    if isinstance(core, And):
-        return selected(core.left, register) & selected(core.right, register)
-    if isinstance(core, Or):
-        return selected(core.left, register) | selected(core.right, register)
-    inner = selected(core.query, register) if isinstance(core, Subquery) else set()
-    return {(page.namespace, page.name) for page in register.pages if matches(core, page, inner)}
+def selected(core, register, subqueries=None, inside=0):
+    """The pages of the register, as (namespace, name), that a core query selects.
+
+    `subqueries`, if given, gets (how many others it is inside, what it selects) for each subquery."""
+    if isinstance(core, (And, Or)):
+        left, right = (selected(side, register, subqueries, inside) for side in core)
+        return left & right if isinstance(core, And) else left | right
+    inner = selected(core.query, register, subqueries, inside + 1) if isinstance(core, Subquery) else set()
+    matches = test_of(core, inner)
+    found = {page[:2] for page in register.pages if matches(page)}
+    if subqueries is not None and isinstance(core, Subquery):
+        subqueries.append((inside, found))
+    return found
 
 
-def matches(selector, page, inner):
-    """`inner` has the pages that the query inside a subquery selects."""
+def test_of(selector, inner):
+    """What a selector asks of a page. `inner` has the pages that the query inside a subquery selects."""
     if isinstance(selector, Category):
-        return selector.name in page.categories
+        return lambda page: selector.name in page.categories
     if isinstance(selector, InNamespace):
-        return selector.name == page.namespace
-    if isinstance(selector, Article):
-        return CORE_COMPARATORS[selector.comparator](page.name, selector.name)
-    values = [value for _, value in page.values.get(selector.prop, [])]
+        return lambda page: selector.name == page.namespace
     if isinstance(selector, Existence):
-        return bool(values)
+        return lambda page: selector.prop in page.values
     if isinstance(selector, Subquery):
-        return bool(inner & set(values))
+        return lambda page: any(value in inner for _, value in page.values.get(selector.prop, []))
     stands = CORE_COMPARATORS[selector.comparator]
-    return any(stands(value, selector.constant[1]) for value in values)
+    if isinstance(selector, Article):
+        return lambda page: stands(page.name, selector.name)
+    return lambda page: any(stands(value, selector.constant[1]) for _, value in page.values.get(selector.prop, []))
 
 
 def ask(core, register):

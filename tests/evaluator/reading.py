@@ -1,5 +1,6 @@
 """Query text to tree, with the refusals 12 to 16. No register is known here."""
 import re
+from functools import lru_cache
 from typing import NamedTuple
 
 from values import is_name, is_namespace, is_property_name, is_value, read_reference, trim
@@ -152,6 +153,7 @@ class Reader:
         return Reference(piece.comparator, reference)
 
 
+@lru_cache(8)
 def read_query(text):
     """(0, the tree) or (the lowest of 12 to 16 whose condition holds, None)."""
     if len(text) > 1024:

@@ -1,5 +1,6 @@
 """The register call: a text to a Register, or a number from 1 to 7. And what a register is, whether or not a text gives it."""
 import re
+from functools import lru_cache
 from typing import NamedTuple
 
 from values import is_name, is_namespace, is_property_name, is_storable, is_value, read_value, spelling
@@ -151,6 +152,7 @@ CONDITIONS = (
 )
 
 
+@lru_cache(8)
 def register_call(text):
     """(0, the register) or (the lowest number whose condition holds, None)."""
     if len(text) > 32768:

@@ -1,8 +1,10 @@
 """Another text of the same register: other lines and forms between each other, repeats, other spellings of values."""
 from register import read_lines
-from values import read_value
+from values import read_value, spelling
 
 WORDS = {True: [b'true', b'yes', b'1'], False: [b'false', b'no', b'0']}
+COLONS = [b':', b':', b' :', b': ', b' : ', b'  :', b':  ', b'  :  ']
+MAIN = [b'', b'', b'', b':', b':', b': ', b':  ']  # before a name of the main namespace
 
 
 def mixed(rng, one, other):
@@ -25,28 +27,25 @@ def spelled_boolean(rng, truth):
 
 def spelled_link(rng, link):
     namespace, name = link
-    before, after = (rng.choice([b'', b'', b' ', b'  ']) for _ in range(2))
-    if namespace:
-        return namespace + before + b':' + after + name
-    return rng.choice([name, b':' + after + name])
+    return namespace + rng.choice(COLONS if namespace else MAIN) + name
 
 
-def spelled(rng, kind, text):
-    """Another text of the same value, where it has one of at most 64 bytes."""
-    what = read_value(kind, text)[1]
-    if kind == b'string':
-        return text
-    other = {b'number': spelled_number, b'boolean': spelled_boolean, b'page': spelled_link}[kind](rng, what)
-    return other if len(other) <= 64 else text
+SPELLED = {b'string': lambda rng, text: text, b'number': spelled_number, b'boolean': spelled_boolean, b'page': spelled_link}
 
 
-def with_repeats(rng, forms, again):
+def spelled(rng, value):
+    """A text of the value; the shortest where the one drawn is over 64 bytes."""
+    text = SPELLED[value[0]](rng, value[1])
+    return text if len(text) <= 64 else spelling(value)
+
+
+def with_repeats(rng, forms):
     """Some forms a second time, anywhere behind the first."""
     out = []
     for form in forms:
         out.append(form)
         if rng.random() < 0.2:
-            out.append(again(rng.choice(out)))
+            out.append(rng.choice(out))
     return out
 
 
@@ -55,8 +54,8 @@ def respelled(rng, text):
     lines = read_lines(text)
     kinds, pages = dict(lines.props), []
     for namespace, name, categories, values in lines.pages:
-        values = with_repeats(rng, values, lambda one: (one[0], spelled(rng, kinds[one[0]], one[1])))
-        values = [b' (val "%s" "%s")' % (prop, spelled(rng, kinds[prop], one)) for prop, one in values]
-        categories = [b' (cat "%s")' % one for one in with_repeats(rng, categories, lambda one: one)]
+        values = with_repeats(rng, [(prop, read_value(kinds[prop], one)) for prop, one in values])
+        values = [b' (val "%s" "%s")' % (prop, spelled(rng, one)) for prop, one in values]
+        categories = [b' (cat "%s")' % one for one in with_repeats(rng, categories)]
         pages.append(b'(page "%s" "%s"%s)\n' % (namespace, name, b''.join(mixed(rng, categories, values))))
     return b''.join(mixed(rng, [b'(prop "%s" %s)\n' % one for one in lines.props], pages))

@@ -43,6 +43,7 @@ def read_reference(text):
     return (namespace, name) if is_namespace(namespace) and is_name(name) else None
 
 
+@lru_cache(10000)
 def read_value(kind, text):
     """(kind, value), or None where the text is unfit for the kind. A page is (namespace, name)."""
     if kind == b'string':

@@ -10,7 +10,7 @@ import tempfile
 from collections import Counter
 from multiprocessing import Pool
 
-from records import ask_case, case, fit_case, held_register, join_case, query_case, read_text  # finds the evaluator
+from records import ask_case, case, fit_case, held_register, join_case, query_case  # finds the evaluator
 import cases
 import counting
 import generate
@@ -22,6 +22,7 @@ from handmade import handmade, stated
 from joins import made_joins
 from query import nodes, query_call
 from reading import read_query
+from register import register_call
 from trees import made_trees
 
 CHUNK = 500
@@ -39,7 +40,7 @@ def damaged_query(rng, held, end):
 
 def forged(rng, first, query, second):
     """The forms of an accepted case, then damaged ones, each with the number that its bytes deserve."""
-    register, other = read_text(first)[1], read_text(second)[1]
+    register, other = register_call(first)[1], register_call(second)[1]
     core = query_call(register, query)[1] if register else None
     if core is None:
         return
@@ -111,9 +112,9 @@ def run_drawn(job):
 
 
 def not_reached(count, results, drawn):
-    """The numbers that no call returned, and what none of the drawn cases came to."""
-    found = sum((result[2] for result in results), Counter())
-    return counting.missing(counting.NUMBERS, found) + (counting.missing(counting.DRAWN, drawn) if count >= counting.FEWEST_CASES else [])
+    """The numbers that no call returned, what none of the drawn cases came to, and what too few of them came to."""
+    found = counting.missing(counting.NUMBERS, sum((result[2] for result in results), Counter()))
+    return found + (counting.missing(counting.DRAWN, drawn) + counting.too_few(drawn) if count >= counting.FEWEST_CASES else [])
 
 
 def main(host, vectors, seed, count):
@@ -126,7 +127,7 @@ def main(host, vectors, seed, count):
         results += [one.get() for one in first]
     bad = [line for result in results for line in result[1]] + not_reached(count, results, drawn)
     print(f'{count:,} drawn cases came to')
-    print('\n'.join(counting.lines(drawn, counting.DRAWN)))
+    print('\n'.join([*counting.lines(drawn, counting.DRAWN), *counting.shares(drawn)]))
     print('The calls made on them, with buffers too short and forms damaged too, returned')
     print('\n'.join(counting.lines(calls, counting.NUMBERS)))
     for line in bad[:20]:

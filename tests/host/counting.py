@@ -1,7 +1,8 @@
-"""What drawn cases come to: how often each call answers each number, and how often a join is over each limit."""
+"""What drawn cases come to: how often each call answers each number, a join is over each limit, and a query selects pages."""
 from collections import Counter
 
-from records import read_text  # finds the evaluator
+from records import query_call, register_call  # finds the evaluator
+from ask import selected
 from join import all_of_both
 from register import limits_passed
 
@@ -9,7 +10,11 @@ READ = [0, *range(12, 17)]
 NUMBERS = {'register': [*range(9)], 'read': [*READ, 33], 'fit': [0, 11, *range(17, 21), 34], 'query': [0, *range(11, 21)], 'ask': [0, *range(21, 25)], 'join': [0, 7, 8, 22, 32]}
 LIMITS = ['properties', 'pages', 'forms', 'bytes']
 # By the evaluator: a drawn case lends buffers long enough and held forms that are forms. All other numbers are counted by the host.
-DRAWN = {'register': [*range(8)], 'read': READ, 'query': [0, *range(12, 20)], 'join': [0, 7, 32], 'over': LIMITS}
+DRAWN = {'register': [*range(8)], 'read': READ, 'query': [0, *range(12, 20)], 'join': [0, 7, 32], 'over': LIMITS,
+         'marks': ['all', 'none', 'some'], 'nested': ['none', 'some']}
+# At least so many in a hundred: of the queries accepted for a register and run on it, those that mark some of its pages and not all; of the
+# subqueries that are inside another in the core queries of these (so a chain and a link are subqueries too), those that select a page of it.
+SHARES = {('marks', 'some'): 50, ('nested', 'some'): 25}
 FEWEST_CASES = 2000  # with fewer, something rare may not be drawn
 
 
@@ -17,18 +22,27 @@ def joins_drawn(first, second, number):
     """The join of two texts, and the limit that it is over, if it is over one alone."""
     yield 'join', number
     if number == 7:
-        over = limits_passed(all_of_both(read_text(first)[1], read_text(second)[1]))
+        over = limits_passed(all_of_both(register_call(first)[1], register_call(second)[1]))
         yield 'over', over[0] if len(over) == 1 else 'several'
+
+
+def runs_drawn(first, query, marks):
+    """An accepted query, which is run on its register: what it marks, and what the subqueries inside others select."""
+    yield 'marks', 'none' if '1' not in marks else 'some' if '0' in marks else 'all'
+    register, subqueries = register_call(first)[1], []
+    selected(query_call(register, query)[1], register, subqueries)
+    yield from (('nested', 'some' if pages else 'none') for inside, pages in subqueries if inside)
 
 
 def drawn(texts, line):
     """The events of a drawn case, by the line that the evaluator gives."""
-    first, _, second = texts
+    first, query, second = texts
     words = line.split()
     found = Counter(('register', -int(word)) for word in words[:2])
     found['read', -int(words[words.index('read') + 1])] += 1
     if words[0] == '0':
         found['query', -int(words[2])] += 1
+        found.update(runs_drawn(first, query, words[4]) if words[2] == '0' else ())
     if 'join' in words:
         found.update(joins_drawn(first, second, -int(words[words.index('join') + 1])))
     return found
@@ -36,6 +50,20 @@ def drawn(texts, line):
 
 def missing(wanted, found):
     return [f'no {name}: {one}' for name, all_of in wanted.items() for one in all_of if not found[name, one]]
+
+
+def share(found, name, one):
+    """How many in a hundred of those of the name."""
+    return 100 * found[name, one] / (sum(count for (of, _), count in found.items() if of == name) or 1)
+
+
+def shares(found):
+    for (name, one), least in SHARES.items():
+        yield f'{name}: {one} in {share(found, name, one):.1f} of a hundred, at least {least}'
+
+
+def too_few(found):
+    return [f'too few: {line}' for line, (name, least) in zip(shares(found), SHARES.items()) if share(found, *name) < least]
 
 
 def lines(found, names):

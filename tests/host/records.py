@@ -17,7 +17,7 @@ from query import fit_call, query_call
 from reading import read_query
 from register import register_call
 
-read_register, read_text = lru_cache(64)(decode), lru_cache(8)(register_call)
+read_register = lru_cache(64)(decode)
 REGIONS = (0, PROPS, PAGES, STARTS, FORMS, TERMS, TEXTS, BYTES)
 TREE_REGIONS, QUERY_REGIONS = (0, tree_form.STRINGS), (0, query_form.HEAP)
 
@@ -66,7 +66,7 @@ def tree_or_none(query):
 @lru_cache(8)
 def held_register(text):
     """The form of an accepted text."""
-    return encode(read_text(text)[1])
+    return encode(register_call(text)[1])
 
 
 def answer(number, marks):
@@ -101,7 +101,7 @@ def run_on_both(core, query, register, other, both, doubts):
 
 def case(first, query, second, forgeries=0):
     """The calls one after the other: the query made by both ways and asked of both registers, then made for their join and asked of that."""
-    (one, register), (two, other) = read_text(first), read_text(second)
+    (one, register), (two, other) = register_call(first), register_call(second)
     words, doubts = [str(-one), str(-two)], []
     number, core = query_call(register, query) if register else (None, None)
     if register:
@@ -140,7 +140,7 @@ def query_case(held_register, text, length):
 
 
 def register_case(text, length):
-    number = read_text(text)[0] or (8 if length < SIZE else 0)
+    number = register_call(text)[0] or (8 if length < SIZE else 0)
     return record(b'R', text, length), str(-number), []
 
 

@@ -1,19 +1,20 @@
 -- The second and the third demand, from the calls' contracts, and that reading then fitting is the query call. Registers and queries
 -- are held in any buffers, however they were made.
-use Prim.Native.Nat.{ℕ, zero, suc, _≤_, _<_}
-use mathlib.Core.Path.{_≡_, refl, sym, ap, _∙_, subst}
-use mathlib.Core.Bool.{Bool, true, false, cond}
-use mathlib.Core.List.{List, [], _∷_, _++_, map}
+use Prim.Native.Nat.{ℕ, _≤_, _<_}
+use mathlib.Core.Path.{_≡_, refl, ap, _∙_}
+use mathlib.Core.Bool.{Bool, true, false, cond, false≢true}
+use mathlib.Core.List.{List, [], _++_, map}
+use mathlib.Core.Logic.{_↔_}
 use mathlib.Core.Option.{Option, some, none}
 use native.Mathlib.Omega.{arith}
 use borrow.Author.Tests.{le-ltb}
 use lib.Dec.{ltb}
-use lib.IntN.{ℤ, pos, pos-ne-negsuc}
-use lib.ListN.{length, getD, take, drop, length-map, length-append, length-drop, List·getD-append}
+use lib.IntN.{ℤ, pos}
+use lib.ListN.{length, getD, drop, length-map, length-append, length-drop, List·getD-append}
 use lib.Seq.{drop-at}
 use Rattle.text.specs.Bytes.{Bytes}
 use Rattle.text.specs.Table.{bit}
-use Rattle.language.specs.Answer.{Answer, refused, accepted, acceptedOf, orRefuse, Check, andThen}
+use Rattle.language.specs.Answer.{Answer, refused, accepted, acceptedOf, orRefuse, andThen}
 use Rattle.language.specs.Register.{Page, Register, kindsOf}
 use Rattle.language.specs.RegisterText.{emptyPage}
 use Rattle.language.specs.Joining.{join}
@@ -21,14 +22,17 @@ use Rattle.language.specs.Surface.{Query}
 use Rattle.language.specs.QueryText.{readText}
 use Rattle.language.specs.Core.{Core}
 use Rattle.language.specs.Elaboration.{elaborate, fit}
-use Rattle.language.specs.Semantics.{mismatch, selects, run}
+use Rattle.language.specs.Semantics.{selects, run}
 use Rattle.language.specs.Direct.{meaning, directMarks}
 use Rattle.language.specs.Agreement.{answerAgrees, textAgrees}
 use Rattle.language.specs.Calls.{coreOf}
 use Rattle.language.proofs.Demand.{fitted-is, own-kinds, text-agreement}
 use Rattle.language.proofs.Mixing.{mixed-free}
+use Rattle.language.proofs.Members.{getD-mapped}
+use Rattle.language.proofs.Sets.{page-set, page-set-known}
 use Rattle.language.proofs.Rules.{register-rules}
 use Rattle.register_form.specs.Form.{heldRegister}
+use Rattle.register_form.proofs.Lists.{mem-at, mem-place}
 use Rattle.register_form.proofs.Forms.{held-is}
 use Rattle.query_spelling.proofs.Some.{accepted-has-text}
 use Rattle.query_tree.specs.Form.{treeSize, treeOf, heldTree}
@@ -36,9 +40,9 @@ use Rattle.query_tree.proofs.Held.{form-held as tree-held}
 use Rattle.nodes.specs.Held.{querySize, heldQuery}
 use Rattle.nodes.specs.Form.{queryOf}
 use Rattle.calls.specs.Calls.{writtenIn, queryCall, readCall, fitCall, askCall, marked, marksIn, returned, JoinCall, QueryCall, AskCall}
-use Rattle.calls.specs.Demands.{askTable, LeftQuery, LeftJoin, SecondDemand, ThirdDemand, ReadThenFit}
-use Rattle.calls.proofs.Tables.{ask-refuses, ask-rises, lowest-between, refusalOf}
-use Rattle.calls.proofs.First.{run-is, Ran, ran, query-stores, join-stores, taken, by-table, marks-bytes}
+use Rattle.calls.specs.Demands.{askTable, IsMark, pageAt, SecondDemand, ThirdDemand, ReadThenFit}
+use Rattle.calls.proofs.Tables.{ask-refuses, ask-rises}
+use Rattle.calls.proofs.First.{run-is, ran, query-stores, join-stores, taken, by-table, marks-bytes}
 
 -- an ask of a held query on a held register
 pub asked-is : (q h b : Bytes) (c : Core) (W : Register) → heldQuery q ≡ some c → heldRegister h ≡ some W
@@ -58,6 +62,23 @@ core-is s R c e = go (readText s) e
 one-held : {A : Type 0} (o : Option A) (a b : A) → o ≡ some a → o ≡ some b → a ≡ b
 one-held o a b e p = cc
 
+module _ (g : Page → Bool) (l : List Page) where
+  many : length (map bit (map g l)) ≡ length l
+  many = length-map (map g l) bit ∙ length-map l g
+
+  -- a mark in front of other bytes
+  mark-at : (after rest : Bytes) → after ≡ map bit (map g l) ++ rest → (i : ℕ) → i < length l → getD after i 0 ≡ bit (g (getD l i (emptyPage [] [])))
+  mark-at after rest e i h =
+      ap (λ a. getD a i 0) e
+      ∙ List·getD-append (map bit (map g l)) rest 0 i (rw many h)
+      ∙ getD-mapped bit (map g l) i false 0 (rw (length-map l g) h)
+      ∙ ap bit (getD-mapped g l i (emptyPage [] []) false h)
+
+mark-is : (b : Bool) (fact : Type 0) → (b ≡ true) ↔ fact → IsMark (bit b) fact
+mark-is true fact e = record { one = (λ h. e .0 refl, λ x. refl); zero = (λ h. absurd (omega (arith, h)), λ n. absurd (n (e .0 refl))) }
+mark-is false fact e =
+    record { one = (λ h. absurd (omega (arith, h)), λ x. absurd (false≢true (e .1 x))); zero = (λ h x. false≢true (e .1 x), λ n. refl) }
+
 -- The second demand: a query that was stored for the register R, held in q as well, and asked of the register W.
 pub second : (h k s b stored q m after : Bytes) (n : ℕ) (R W : Register)
     → heldRegister h ≡ some R → heldRegister k ≡ some W → QueryCall h s b stored (pos 0) → heldQuery q ≡ heldQuery stored → AskCall q k m after (pos n)
@@ -72,40 +93,36 @@ second h k s b stored q m after n R W e p fits same asks =
     let one : r .core ≡ c .core = one-held (heldQuery q) (r .core) (c .core) (r .asks) (same ∙ c .left .held) in
     let two : r .register ≡ W = one-held (heldRegister k) (r .register) W (r .holds) p in
     let runs : run (c .core) W ≡ accepted (x .0) = rw (← one, ← two) (r .runs) in
-    let is : x .0 ≡ map (selects (c .core) W) (W .pages) = run-is (c .core) W (x .0) runs .1 in
+    let is = run-is (c .core) W (x .0) runs in
+    let bytes = marks-bytes (c .core) W (x .0) m after (is .1) (asks .buffer ∙ ap (marksIn m) (x .1)) in
     record {
       surface = f .0;
       core = c .core;
       reads = f .1;
       elaborates = f .2;
-      bytes = marks-bytes (c .core) W (x .0) m after is (asks .buffer ∙ ap (marksIn m) (x .1));
-      count = asks .number ∙ ap (returned marked) (x .1) ∙ ap (λ l. pos (marked l)) is;
+      bytes = bytes;
+      count = asks .number ∙ ap (returned marked) (x .1) ∙ ap (λ l. pos (marked l)) (is .1);
+      page = λ i h.
+          rw (mark-at (selects (c .core) W) (W .pages) after _ bytes i h)
+          (mark-is (selects (c .core) W (pageAt W i)) _ (page-set (c .core) W (held-is k W p .0) (pageAt W i) (mem-at (W .pages) i (emptyPage [] []) h)));
+      placed = λ j h.
+          let q = page-set-known (c .core) W (held-is k W p .0) j h in
+          let i = mem-place (emptyPage [] []) (q .1) in
+          (i .0, i .1, ap (λ p. p .identifier) (i .2) ∙ q .2);
+      unmixed = is .0;
+      free = mixed-free (c .core) W (is .0);
     }
-
-marks-at : (g : Page → Bool) (l : List Page) (d : Page) (i : ℕ) → i < length l → getD (map bit (map g l)) i 0 ≡ bit (g (getD l i d))
-marks-at g [] d i h = absurd (omega (arith, h))
-marks-at g (p ∷ l) d zero h = refl
-marks-at g (p ∷ l) d (suc i) h = marks-at g l d i (omega (arith, h))
 
 -- marks in a buffer that has a byte for every page
 module _ (g : Page → Bool) (l : List Page) (b after : Bytes) (long : length l ≤ length b) (e : after ≡ map bit (map g l) ++ drop (length (map g l)) b) where
-  many : length (map bit (map g l)) ≡ length l
-  many = length-map (map g l) bit ∙ length-map l g
-
-  mark-at : (i : ℕ) → i < length l → getD after i 0 ≡ bit (g (getD l i (emptyPage [] [])))
-  mark-at i h =
-      ap (λ a. getD a i 0) e
-      ∙ List·getD-append (map bit (map g l)) (drop (length (map g l)) b) 0 i (rw many h)
-      ∙ marks-at g l (emptyPage [] []) i h
-
   marks-later : drop (length l) after ≡ drop (length l) b
-  marks-later = ap (drop (length l)) e ∙ drop-at (map bit (map g l)) (drop (length (map g l)) b) (length l) many ∙ ap (λ k. drop k b) (length-map l g)
+  marks-later = ap (drop (length l)) e ∙ drop-at (map bit (map g l)) (drop (length (map g l)) b) (length l) (many g l) ∙ ap (λ k. drop k b) (length-map l g)
 
   marks-size : length after ≡ length b
   marks-size =
       ap length e
       ∙ length-append (map bit (map g l)) (drop (length (map g l)) b)
-      ∙ (let d = length-drop (length (map g l)) b in omega (arith, d, many, long, length-map l g))
+      ∙ (let d = length-drop (length (map g l)) b in omega (arith, d, many g l, long, length-map l g))
 
 -- The third demand. s is a query text accepted against the register R, which is held in h; q holds the query so stored; k holds the
 -- register of the run, W. "each property it names has the same kind in both, or isn't declared in the second, and the answer
@@ -127,7 +144,7 @@ third s h k stored store q b after r R W e p fits same agrees long asks =
     let unmixed = run-is (c .core) W (directMarks s W) runs .0 in
     record {
       count = asks .number ∙ ap (returned marked) is;
-      page = mark-at (meaning s W) (W .pages) b after long left;
+      page = mark-at (meaning s W) (W .pages) after _ left;
       later = marks-later (meaning s W) (W .pages) b after long left;
       size = marks-size (meaning s W) (W .pages) b after long left;
       core = c .core;

@@ -3,12 +3,14 @@ use Prim.Native.Nat.{ℕ, _<_}
 use mathlib.Core.Path.{_≡_}
 use mathlib.Core.Bool.{Bool, true, false, cond, not, _&&_}
 use mathlib.Core.List.{List, [], _∷_, _++_, map}
+use mathlib.Core.Logic.{_↔_}
 use mathlib.Core.Option.{Option, some, none}
 use lib.Dec.{ltb}
 use lib.IntN.{ℤ, pos, negℤ}
 use lib.ListN.{length, getD, drop}
 use Rattle.text.specs.Bytes.{Bytes, any}
 use Rattle.text.specs.Table.{bit}
+use Rattle.values.specs.Names.{Identifier}
 use Rattle.language.specs.Answer.{Answer, accepted, acceptedOf, orRefuse, andThen, Check, _if_, _>>=_, found}
 use Rattle.language.specs.Register.{Page, Register, Typing, kindsOf}
 use Rattle.language.specs.RegisterText.{entries, emptyPage, readRegister}
@@ -22,6 +24,7 @@ use Rattle.language.specs.QueryText as QueryText
 use Rattle.language.specs.Core.{Core, nodes}
 use Rattle.language.specs.Elaboration.{elaborate, isUndeclared, fit}
 use Rattle.language.specs.Semantics.{Mixed, Q, mismatch, selects}
+use Rattle.language.specs.Sets.{_∈_, pageSet, databaseOf}
 use Rattle.language.specs.Direct.{meaning, directMarks}
 use Rattle.language.specs.Calls.{coreOf}
 use Rattle.register_form.specs.Form.{registerSize, formOf, heldRegister}
@@ -174,6 +177,15 @@ pub record LeftMarks (q h b : Bytes) (k : ℕ) (after : Bytes) : Type 0 where
   pub count : k ≡ marked (map (selects core register) (register .pages))
   pub bytes : after ≡ map bit (map (selects core register) (register .pages)) ++ drop (length (register .pages)) b
 
+-- The byte is 1 exactly where the fact holds, and 0 otherwise.
+pub record IsMark (b : ℕ) (fact : Type 0) : Type 0 where
+  pub one : (b ≡ 1) ↔ fact
+  pub zero : (b ≡ 0) ↔ (¬ fact)
+
+-- The page in place i.
+abbrev pub pageAt : Register → ℕ → Page
+pageAt W i = getD (W .pages) i (emptyPage [] [])
+
 -- The second demand: "The pages marked are those that the query language's published semantics gives: text to surface query, surface
 -- query to core query, core query to page set". s is the query text, R the register that it was fitted to, W that of the run.
 pub record SecondDemand (s : Bytes) (R W : Register) (b after : Bytes) (r : ℤ) : Type 0 where
@@ -183,18 +195,23 @@ pub record SecondDemand (s : Bytes) (R W : Register) (b after : Bytes) (r : ℤ)
   pub elaborates : elaborate surface (kindsOf R) ≡ some core
   pub bytes : after ≡ map bit (map (selects core W) (W .pages)) ++ drop (length (W .pages)) b
   pub count : r ≡ pos (marked (map (selects core W) (W .pages)))
+  -- the pages marked are those in the thesis' page set of the core query (4.5.3), and all in that set are pages of W
+  pub page : (i : ℕ) → i < length (W .pages) → IsMark (getD after i 0) (pageAt W i .identifier ∈ pageSet core (databaseOf W))
+  pub placed : (j : Identifier) → j ∈ pageSet core (databaseOf W) → (i : ℕ) × (i < length (W .pages)) × (pageAt W i .identifier ≡ j)
+  -- there is no mismatch, and so no choice for what the thesis leaves undefined (4.5.2) changes what the core query selects
+  pub unmixed : mismatch core W ≡ false
+  pub free : (u w : Mixed) → map (Q core u W) (W .pages) ≡ map (Q core w W) (W .pages)
 
 -- The third demand. q is the held query, s its text, W the register of the run, b and after the answer buffer.
 pub record ThirdDemand (q s : Bytes) (W : Register) (b after : Bytes) (r : ℤ) : Type 0 where
   -- "the run is accepted", "the number returned is that of the pages it selects"
   pub count : r ≡ pos (marked (directMarks s W))
   -- "A page's byte is 1 exactly when the direct meaning of the text selects that page, and 0 otherwise"
-  pub page : (i : ℕ) → i < length (W .pages) → getD after i 0 ≡ bit (meaning s W (getD (W .pages) i (emptyPage [] [])))
+  pub page : (i : ℕ) → i < length (W .pages) → getD after i 0 ≡ bit (meaning s W (pageAt W i))
   -- "every later byte is as before"
   pub later : drop (length (W .pages)) after ≡ drop (length (W .pages)) b
   pub size : length after ≡ length b
-  -- "never compares values of two kinds": there is no mismatch, and so no choice for what the thesis leaves undefined (4.5.2)
-  -- changes what the core query selects
+  -- "never compares values of two kinds", as in the second demand
   pub core : Core
   pub holds : heldQuery q ≡ some core
   pub unmixed : mismatch core W ≡ false

@@ -14,6 +14,7 @@ pub mod Joined
 pub mod Typed
 pub mod Holding
 pub mod Mixing
+pub mod Sets
 pub mod Agreement
 pub mod Cases
 pub mod Demand

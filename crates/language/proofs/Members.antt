@@ -1,7 +1,7 @@
 -- Tests over the members of a list, and the truth values that they come to.
 use Prim.Native.Nat.{ℕ, zero, suc, _<_}
 use mathlib.Core.Path.{_≡_, refl, sym, ap, ap₂, _∙_, subst}
-use mathlib.Core.Bool.{Bool, true, false, not, _&&_, _||_, true≢false, false≢true}
+use mathlib.Core.Bool.{Bool, true, false, not, _&&_, _||_, or-true, true≢false, false≢true}
 use mathlib.Core.List.{List, [], _∷_, map, List·Memᴰ, List·Memᴰ·head, List·Memᴰ·tail}
 use native.Mathlib.Omega.{arith}
 use lib.ListN.{length, getD}
@@ -32,6 +32,21 @@ module _ {A : Type 0} where
   unfolding any
   any-at p h (List·Memᴰ·head {x = x} {xs = xs} e) = ap p e ∙ or-false (p x) (any p xs) h .0
   any-at p h (List·Memᴰ·tail {x = x} {xs = xs} m) = any-at p (or-false (p x) (any p xs) h .1) m
+
+  -- some member passes
+  pub any-found : (p : A → Bool) (l : List A) → any p l ≡ true → (a : A) × List·Memᴰ a l × (p a ≡ true)
+  unfolding any
+  any-found p [] h = absurd (false≢true h)
+  any-found p (x ∷ l) h = go (p x) refl h (any-found p l)
+    where
+      go : (b : Bool) → p x ≡ b → (b || any p l) ≡ true → (any p l ≡ true → (a : A) × List·Memᴰ a l × (p a ≡ true)) → (a : A) × List·Memᴰ a (x ∷ l) × (p a ≡ true)
+      go true e k ih = (x, List·Memᴰ·head refl, e)
+      go false e k ih = let r = ih k in (r .0, List·Memᴰ·tail (r .1), r .2)
+
+  pub any-mem : (p : A → Bool) {a : A} {l : List A} → List·Memᴰ a l → p a ≡ true → any p l ≡ true
+  unfolding any
+  any-mem p (List·Memᴰ·head {xs = l} e) h = rw (← e, h)
+  any-mem p (List·Memᴰ·tail {x = x} m) h = rw (any-mem p m h) (or-true (p x))
 
   pub all-at : (p : A → Bool) {a : A} {l : List A} → all p l ≡ true → List·Memᴰ a l → p a ≡ true
   unfolding all

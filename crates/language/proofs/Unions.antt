@@ -11,7 +11,7 @@ use Rattle.language.specs.Answer.{found}
 use Rattle.language.specs.Register.{distinct}
 use Rattle.language.specs.Joining.{onlyIn, union, likeIn}
 use Rattle.language.proofs.Options.{OnSome}
-use Rattle.language.proofs.Members.{and-true, both-true, both-false, by-test, any-at, all-at, all-of, any-same, any-none}
+use Rattle.language.proofs.Members.{and-true, both-true, both-false, by-test, any-at, any-found, any-mem, all-at, all-of, any-same, any-none}
 
 -- The test tells whether two things are equal.
 pub record Decides {K : Type 0} (same : K → K → Bool) : Type 0 where
@@ -128,9 +128,7 @@ module _ {A : Type 0} (alike : A → A → Bool) where
 module _ {A : Type 0} (alike : A → A → Bool) (test : A → Bool) (respects : (a b : A) → alike a b ≡ true → test a ≡ test b) where
   -- Where something in l is like b, a test that b passes is passed in l.
   like-passes : (b : A) (l : List A) → any (alike b) l ≡ true → test b ≡ true → any test l ≡ true
-  like-passes b l h e =
-      by-test (any test l) (λ f. f)
-      (λ f. absurd (true≢false (sym h ∙ any-none (alike b) l (λ a i. by-test (alike b a) (λ g. absurd (true≢false (sym e ∙ respects b a g ∙ any-at test f i))) (λ g. g)))))
+  like-passes b l h e = let a = any-found (alike b) l h in any-mem test (a .1) (sym (respects b (a .0) (a .2)) ∙ e)
 
   pub any-union : (l m : List A) → any test (union alike l m) ≡ any test l || any test m
   unfolding any onlyIn
@@ -163,7 +161,7 @@ module _ {A : Type 0} {alike : A → A → Bool} (s : Likeness alike) where
       (λ a i. any-none (alike a) (onlyIn alike l m) (λ b j. s .turned a b ∙ any-at (alike b) (only-member alike l m j .1) i))
 
   like-itself : (a : A) (l : List A) → List·Memᴰ a l → any (alike a) l ≡ true
-  like-itself a l i = by-test (any (alike a) l) (λ e. e) (λ e. absurd (true≢false (sym (s .itself a) ∙ any-at (alike a) e i)))
+  like-itself a l i = any-mem (alike a) i (s .itself a)
 
   -- A list with itself is that list.
   pub only-self : (l : List A) → onlyIn alike l l ≡ []

@@ -9,6 +9,7 @@ pub mod QueryText
 pub mod Core
 pub mod Elaboration
 pub mod Semantics
+pub mod Sets
 pub mod Direct
 pub mod Agreement
 pub mod Calls

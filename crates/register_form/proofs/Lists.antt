@@ -1,7 +1,7 @@
 -- Members of lists, and of sorted lists of byte strings by their numbers.
 use Prim.Native.Nat.{ℕ, zero, suc, _<_}
 use mathlib.Core.Path.{_≡_, refl, sym, ap, _∙_, subst}
-use mathlib.Core.Bool.{Bool, true, false, _||_, false≢true, or-true}
+use mathlib.Core.Bool.{true, _||_, false≢true, or-true}
 use mathlib.Core.List.{List, [], _∷_, flatMap, List·Memᴰ, List·Memᴰ·head, List·Memᴰ·tail, List·Memᴰ·not-nil, List·Memᴰ·append-cases, Memᴰ·append-left, Memᴰ·append-right, Memᴰ·cast}
 use mathlib.Core.Logic.{_⊎_, inl, inr}
 use native.Mathlib.Omega.{arith}
@@ -16,24 +16,10 @@ use Rattle.sorting.proofs.Canonical.{sorted-ascends, member-sorted, canonical-e
 use Rattle.sorting.proofs.Ranks.{getD-rank, rank-at}
 use Rattle.sorting.proofs.Orders.{bytes-total}
 use Rattle.register_form.specs.Tests.{everyUsed}
+use Rattle.language.proofs.Members.{any-found, any-mem}
 use Rattle.buffer.proofs.Regions.{all-to, to-all}
 
 module _ {A : Type 0} where
-  -- Tests of some member.
-  pub any-found : (p : A → Bool) (l : List A) → any p l ≡ true → (a : A) × List·Memᴰ a l × (p a ≡ true)
-  unfolding any
-  any-found p [] h = absurd (false≢true h)
-  any-found p (x ∷ l) h = go (p x) refl h (any-found p l)
-    where
-      go : (b : Bool) → p x ≡ b → (b || any p l) ≡ true → (any p l ≡ true → (a : A) × List·Memᴰ a l × (p a ≡ true)) → (a : A) × List·Memᴰ a (x ∷ l) × (p a ≡ true)
-      go true e k ih = (x, List·Memᴰ·head refl, e)
-      go false e k ih = let r = ih k in (r .0, List·Memᴰ·tail (r .1), r .2)
-
-  pub any-mem : (p : A → Bool) {a : A} {l : List A} → List·Memᴰ a l → p a ≡ true → any p l ≡ true
-  unfolding any
-  any-mem p (List·Memᴰ·head {xs = l} e) h = rw (← e, h)
-  any-mem p (List·Memᴰ·tail {x = x} m) h = rw (any-mem p m h) (or-true (p x))
-
   -- Members by their places.
   pub mem-at : (l : List A) (i : ℕ) (d : A) → i < length l → List·Memᴰ (getD l i d) l
   mem-at [] i d h = absurd (omega arith)

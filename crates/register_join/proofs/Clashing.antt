@@ -16,14 +16,14 @@ use Rattle.text.proofs.Tables.{length-tabulate, getD-tabulate}
 use Rattle.values.specs.declared.Kind.{Kind}
 use Rattle.language.specs.Register.{Property, kindAmong, sameKind, distinct}
 use Rattle.language.specs.Joining.{isOtherKind, kindsClash}
-use Rattle.language.proofs.Members.{any-same, both-false, all-at}
+use Rattle.language.proofs.Members.{any-mem, any-same, both-false, all-at}
 use Rattle.language.proofs.Agreement.{sameKind-eq}
 use Rattle.register_form.specs.Dictionary.{PropertyRow, Dictionary, nameOf, textIn, propertyIn, noProperty, decodeProperty, decode}
 use Rattle.register_form.specs.Opened.{next}
 use Rattle.register_form.specs.Form.{kindByte, propertyCount, kindCode, kindFrom, propertyAt, dictionaryIn, registerIn}
 use Rattle.register_form.specs.Tests.{isPlainNumber}
 use Rattle.register_form.specs.Draft.{onceBehind}
-use Rattle.register_form.proofs.Lists.{any-mem, mem-at, mem-place}
+use Rattle.register_form.proofs.Lists.{mem-at, mem-place}
 use Rattle.buffer.proofs.Parts.{map-tabulate}
 use Rattle.register_form.proofs.Laying.{Laid, laid-facts}
 use Rattle.register_form.proofs.Rewritten.{kind-again}

@@ -15,12 +15,12 @@ use Rattle.text.proofs.Tables.{length-tabulate, getD-tabulate}
 use Rattle.language.specs.Register.{Register}
 use Rattle.language.specs.Joining.{onlyIn, join, kindsClash}
 use Rattle.language.specs.Rules.{isRegister}
-use Rattle.language.proofs.Members.{by-test, all-of}
+use Rattle.language.proofs.Members.{by-test, any-found, all-of}
 use Rattle.language.proofs.Unions.{only-member}
 use Rattle.register_form.specs.Dictionary.{PropertyRow, PageRow, Dictionary, termOf, groupOf, codeOf, textIn, termIn, decode}
 use Rattle.register_form.specs.Tests.{isPlainNumber, isTerm, termTexts, textUses, termUses, everyUsed}
 use Rattle.register_form.specs.Draft.{Draft, drafted}
-use Rattle.register_form.proofs.Lists.{any-found, mem-at, mem-place, mem-flat, of-flat, used-mem, mem-used}
+use Rattle.register_form.proofs.Lists.{mem-at, mem-place, mem-flat, of-flat, used-mem, mem-used}
 use Rattle.register_form.proofs.Described.{Canon, form-below, term-on, Use, use-of}
 use Rattle.register_merge.specs.Merged.{Names, Merged}
 use Rattle.register_join.specs.Sheets.{Sheet, termsOn, draftOf}

@@ -15,13 +15,12 @@ use Rattle.text.proofs.Laws.{same-refl, same-eq}
 use Rattle.values.specs.declared.Kind.{Kind}
 use Rattle.language.specs.Register.{Property, Register, kindAmong, sameKind, distinct, sameProperty}
 use Rattle.language.specs.Joining.{onlyIn, union, join, isOtherKind, kindsClash}
-use Rattle.language.proofs.Members.{and-true, all-at, any-at, any-same, map-same, by-test}
+use Rattle.language.proofs.Members.{and-true, all-at, any-at, any-found, any-same, map-same, by-test}
 use Rattle.language.proofs.Agreement.{sameKind-eq}
 use Rattle.language.proofs.Unions.{Likeness, by-key, only-member, union-distinct}
 use Rattle.language.proofs.Sameness.{sameProperty-likeness}
 use Rattle.register_form.specs.Dictionary.{PropertyRow, Dictionary, nameOf, textIn, decodeProperty, decode}
 use Rattle.register_form.specs.Tests.{isPlainNumber}
-use Rattle.register_form.proofs.Lists.{any-found}
 use Rattle.register_form.proofs.Described.{Canon, Shaped, plain-below}
 use Rattle.register_merge.specs.Merged.{Itemed, Merged}
 use Rattle.register_join.specs.Sheets.{draftOf}

@@ -15,14 +15,14 @@ use Rattle.values.specs.declared.Kind.{Kind}
 use Rattle.values.specs.Values.{kindOf}
 use Rattle.language.specs.Register.{Property, Held, Page, Register, holds, sameKind}
 use Rattle.language.specs.Semantics.{someOther}
-use Rattle.language.proofs.Members.{and-true, both-true}
+use Rattle.language.proofs.Members.{and-true, both-true, any-found, any-mem}
 use Rattle.sorting.specs.Ascending.{isLess, rank}
 use Rattle.sorting.proofs.Canonical.{same-truth}
 use Rattle.sorting.proofs.Orders.{bytes-total}
 use Rattle.sorting.proofs.Ranks.{rank-most, rank-above, rank-below}
 use Rattle.register_form.specs.Dictionary.{nameOf, groupOf, codeOf, termOf}
 use Rattle.register_form.specs.Encoding.{plainText, textsOf, placeAmong, categoryTerm, valueTerm, pageTerms, termsOf}
-use Rattle.register_form.proofs.Lists.{any-found, any-mem, mem-at, of-flat, of-sorted, number-at, number-back, number-small}
+use Rattle.register_form.proofs.Lists.{mem-at, of-flat, of-sorted, number-at, number-back, number-small}
 use Rattle.register_form.proofs.Numbers.{code-back}
 use Rattle.register_form.proofs.Codes.{name-back}
 use Rattle.register_form.proofs.Rules.{Limits, value-kind, place-known, texts-few}
