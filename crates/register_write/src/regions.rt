@@ -17,6 +17,21 @@ use register_bytes::regions::put_texts;
 use register_form::REGISTER_BYTES;
 use register_form::layout;
 
+// Where the regions begin, in 16 bits.
+const FORMS: u16 = layout::FORMS as u16;
+
+const FORM_STARTS: u16 = layout::FORM_STARTS as u16;
+
+const PAGES: u16 = layout::PAGES as u16;
+
+const PROPERTIES: u16 = layout::PROPERTIES as u16;
+
+const TERMS: u16 = layout::TERMS as u16;
+
+const TEXTS: u16 = layout::TEXTS as u16;
+
+const TEXT_STARTS: u16 = layout::TEXT_STARTS as u16;
+
 // Counts, properties, the pages' identifiers, where each page's forms begin, forms.
 fn write_rows(
     h: &mut [u8],
@@ -36,10 +51,10 @@ fn write_rows(
     ensures { λ _. ⌜ now (h .exit) ≡ putRegions 0 (rowRegions (now (kinds .entry)) (now (numbers .entry)) (now (names .entry)) np (now (identifiers .entry)) ng nt nx (now (begins .entry)) nb (now (kept .entry)) n) (now (h .entry)) ⌝ }
 {
     put_counts(h, np, ng, nt, nx);
-    put_properties(h, layout::PROPERTIES, kinds, numbers, names, np);
-    put_picked(h, layout::PAGES, numbers, identifiers, ng);
-    put_numbers(h, layout::FORM_STARTS, begins, nb);
-    put_numbers(h, layout::FORMS, kept, n);
+    put_properties(h, PROPERTIES, kinds, numbers, names, np);
+    put_picked(h, PAGES, numbers, identifiers, ng);
+    put_numbers(h, FORM_STARTS, begins, nb);
+    put_numbers(h, FORMS, kept, n);
 }
 
 // Terms, where each text begins, texts.
@@ -58,9 +73,9 @@ fn write_lists(
 )
     ensures { λ _. ⌜ now (h .exit) ≡ putRegions 5322 (listRegions (listed (textAt (now (table .entry)) (now (tstarts .entry)) (now (tlens .entry))) (now (trefs .entry)) nt) (listed (textAt (now (s .entry)) (now (starts .entry)) (now (lens .entry))) (now (refs .entry)) nx)) (now (h .entry)) ⌝ }
 {
-    put_texts(h, layout::TERMS, table, tstarts, tlens, trefs, nt);
-    put_starts(h, layout::TEXT_STARTS, s, starts, lens, refs, nx);
-    put_texts(h, layout::TEXTS, s, starts, lens, refs, nx);
+    put_texts(h, TERMS, table, tstarts, tlens, trefs, nt);
+    put_starts(h, TEXT_STARTS, s, starts, lens, refs, nx);
+    put_texts(h, TEXTS, s, starts, lens, refs, nx);
 }
 
 // Writes the regions over zeros, where the buffer is as long as a held register.
