@@ -1,6 +1,7 @@
 // The evaluation of core queries: page sets from the nodes of a held query.
 ghost use mathlib.Core.Path.{_≡_};
 ghost use Prim.Native.Nat.{suc};
+ghost use Rattle.text.specs.Parts.{partOf};
 ghost use Rattle.nodes.specs.Held.{heapIn};
 ghost use Rattle.nodes.specs.Stack.{stackAt};
 ghost use Rattle.ask_evaluation.specs.Meaning.{Capped, nameSpan, isSubquery, isSelection, Selects, Joined, Evaluates, stackWith};
@@ -14,10 +15,11 @@ use nodes::Selector;
 use nodes::node_at;
 use pageset::PageSet;
 use register_view::NameTest;
-use register_view::Test;
-use register_view::pages_holding;
 use register_view::pages_in_category;
 use register_view::pages_named;
+use register_view::pages_with_link;
+use register_view::pages_with_property;
+use register_view::pages_with_value;
 use text::Span;
 use text::part;
 use values::Kind;
@@ -85,20 +87,26 @@ fn is_selection(connective: Connective) -> bool
     }
 }
 
-// The pages that match a selector; inner are the marks of what its subquery selects.
-fn select(q: &[u8], selector: Selector, inner: &[bool], h: &[u8], places: &[u16]) -> PageSet
-    ensures { λ r. ⌜ Selects (now (h .entry)) (now (places .entry)) (heapIn (now (q .entry))) selector (now (inner .entry)) (r .marks) ⌝ }
+// The string of a held query that lies in a place.
+fn string_at(q: &[u8], p: Span) -> &[u8]
+    ensures { λ r. ⌜ now r ≡ partOf (heapIn (now (q .entry))) p ⌝ }
+{
+    part(query_heap(q), p.start, p.len)
+}
+
+// The pages that match a selector; those of a subquery are found where its query is evaluated.
+fn select(q: &[u8], selector: Selector, h: &[u8]) -> PageSet
+    ensures { λ r. ⌜ Selects (now (h .entry)) (heapIn (now (q .entry))) selector (r .marks) ⌝ }
 {
     let heap = query_heap(q);
-    let p = name_of(selector);
-    let x = part(heap, p.start, p.len);
+    let x = string_at(q, name_of(selector));
     match selector {
         Selector::Category(_) => pages_in_category(h, x),
         Selector::Namespace(_) => pages_named(h, NameTest::Namespace, x),
-        Selector::Existence(_) => pages_holding(h, places, x, Test::Any, heap, inner),
-        Selector::Subquery(_) => pages_holding(h, places, x, Test::Leads, heap, inner),
+        Selector::Existence(_) => pages_with_property(h, x),
+        Selector::Subquery(_) => PageSet::none(),
         Selector::Article(o, _) => pages_named(h, NameTest::Article(o), x),
-        Selector::Value(_, o, v) => pages_holding(h, places, x, Test::Stands(o, v), heap, inner),
+        Selector::Value(_, o, v) => pages_with_value(h, x, o, v, heap),
     }
 }
 
@@ -162,13 +170,12 @@ fn eval_selector(q: &[u8], at: usize, selector: Selector, h: &[u8], places: &[u1
         let set = inner.set;
         let marks = set.marks;
         return Evaluated {
-            set: select(q, selector, &marks, h, places),
+            set: pages_with_link(h, places, string_at(q, name_of(selector)), &marks),
             next: inner.next,
         };
     }
-    let none = [false; 1];
     Evaluated {
-        set: select(q, selector, &none, h, places),
+        set: select(q, selector, h),
         next: at,
     }
 }

@@ -34,10 +34,9 @@ use Rattle.register_form.proofs.Lists.{number-back, number-small}
 use Rattle.register_form.proofs.Codes.{space-back, name-back, number-of-code}
 use Rattle.register_form.proofs.Rules.{value-kept, texts-few}
 use Rattle.register_form.proofs.Decoded.{page-text, value-text, texts-up, terms-up, value-code}
-use Rattle.register_view.specs.Ranges.{TestRank, nameOrder, termNumber}
+use Rattle.register_view.specs.Ranges.{ConstantRank, nameOrder, termNumber}
 use Rattle.register_view.specs.View.{textNumber, valueAt, standsAt, marked, leadsInto, Agrees}
 use Rattle.register_view.specs.declared.Rank.{Rank}
-use Rattle.register_view.specs.declared.Test.{Test}
 use Rattle.register_view.proofs.Opening.{Known, known, term-row, text-row, texts-are}
 use Rattle.register_view.proofs.Ordering.{name-order}
 use Rattle.register_view.proofs.Covering.{value-in}
@@ -94,11 +93,11 @@ module _ {h : Bytes} {R : Register} (d : Known h R) {p : Page} {v : Held} (m : L
           ∙ ap link (ident-back i)
 
   -- it stands to a constant as the value does
-  pub stands-there : (q : Bytes) (r : Rank) (c : Comparator) (w : Constant) → TestRank h q (Test.Stands c w) r → standsAt h q r c w (kindOf (v .value)) form ≡ Cv noMixed c (constantBy q w) (v .value)
-  unfolding Cv TestRank valueCode valueTexts
+  pub stands-there : (q : Bytes) (r : Rank) (c : Comparator) (w : Constant) → ConstantRank h q w r → standsAt h q r c w (kindOf (v .value)) form ≡ Cv noMixed c (constantBy q w) (v .value)
+  unfolding Cv ConstantRank valueCode valueTexts
   stands-there q r c w f = go (v .value) refl value-there (value-text R m n) w f
     where
-      go : (u : Value) → v .value ≡ u → valueAt h (kindOf u) form ≡ u → ((t : Bytes) → List·Memᴰ t (valueTexts u) → List·Memᴰ t (textsOf R)) → (w : Constant) → TestRank h q (Test.Stands c w) r → standsAt h q r c w (kindOf u) form ≡ Cv noMixed c (constantBy q w) u
+      go : (u : Value) → v .value ≡ u → valueAt h (kindOf u) form ≡ u → ((t : Bytes) → List·Memᴰ t (valueTexts u) → List·Memᴰ t (textsOf R)) → (w : Constant) → ConstantRank h q w r → standsAt h q r c w (kindOf u) form ≡ Cv noMixed c (constantBy q w) u
       go u e at texts (Constant.Number b) f = ap (Cv noMixed c (constantBy q (Constant.Number b))) at
       go u e at texts (Constant.Boolean b) f = ap (Cv noMixed c (constantBy q (Constant.Boolean b))) at
       go (plain (number z)) e at texts (Constant.String p) f = refl

@@ -1,13 +1,13 @@
 -- The terms of a page: what is asked of one, and of one after the other.
-use Prim.Native.Nat.{ℕ, zero, suc, _+_, _*_, _-_, _≤_, _<_}
-use mathlib.Core.Path.{_≡_, refl, sym, ap, _∙_}
+use Prim.Native.Nat.{ℕ, zero, suc, _+_, _*_, _-_, _/_, _≤_, _<_}
+use mathlib.Core.Path.{_≡_, refl, sym, ap, ap₂, _∙_}
 use mathlib.Core.Bool.{Bool, true, false, cond, _&&_, _||_, or-false}
 use mathlib.Core.List.{List, [], _∷_}
 use native.Mathlib.Omega.{arith}
-use borrow.Author.Tests.{ltb-true, ltb-false, lt-ltb, le-ltb, le-leb, lt-leb}
-use lib.Dec.{leb, ltb, eqb}
+use borrow.Author.Tests.{ltb-true, ltb-false}
+use lib.Dec.{ltb, eqb}
 use lib.IntN.{pos, negsuc, subℕ}
-use lib.ListN.{getD}
+use lib.ListN.{length, getD}
 use Rattle.text.specs.Bytes.{Bytes, part, numbers, orderOf, any}
 use Rattle.text.specs.Parts.{partOf}
 use Rattle.text.specs.Table.{tabulate}
@@ -22,12 +22,10 @@ use Rattle.language.specs.declared.Comparator.{Comparator}
 use Rattle.nodes.specs.declared.Constant.{Constant}
 use Rattle.buffer.specs.Numbers.{twoAt}
 use Rattle.register_form.specs.Dictionary.{nameOf, codeOf, numberFrom}
-use Rattle.register_form.specs.Form.{formStart, formAt, pageAt, termAt, textAt}
+use Rattle.register_form.specs.Form.{termAt, textAt}
 use Rattle.register_view.specs.Ranges.{nameOrder}
-use Rattle.register_view.specs.View.{textNumber, standsAt, marked, leadsInto, passesAt, sought}
+use Rattle.register_view.specs.View.{textNumber, standsAt, marked, leadsInto, formBytes, numbersIn}
 use Rattle.register_view.specs.declared.Rank.{Rank}
-use Rattle.register_view.specs.declared.Test.{Test}
-use Rattle.register_view.specs.declared.TermRange.{TermRange}
 use Rattle.register_view.proofs.Ordering.{order-ranked, order-compared}
 
 -- text_number
@@ -120,71 +118,55 @@ module _ (h : Bytes) (places : List ℕ) (marks : List Bool) (k : Kind) (f : ℕ
   pub leads-page : (n w g : ℕ) (r : Bool) → k ≡ Kind.Page → n ≡ textNumber h f → w ≡ n → g ≡ getD places w 0 → r ≡ marked marks g → r ≡ leadsInto h places marks k f
   leads-page n w g r e is v at u = rw e (u ∙ ap (marked marks) (at ∙ ap (λ (j : ℕ). getD places j 0) (v ∙ is)))
 
-  -- term_passes
-  module _ (q : Bytes) (rank : Rank) (test : Test) where
-    pub passes-any : test ≡ Test.Any → true ≡ passesAt h places q rank marks k test f
-    passes-any e = rw e
+pub ruleset passing = (marked-none, marked-one, leads-page)
 
-    pub passes-stands : (c : Comparator) (w : Constant) (r : Bool) → test ≡ Test.Stands c w → r ≡ standsAt h q rank c w k f → r ≡ passesAt h places q rank marks k test f
-    passes-stands c w r e g = rw e g
+-- term_stands, term_leads: of the range, and passing
+module _ (b w : Bool) (is : b ≡ w) where
+  pub term-inside : (r t : Bool) → b ≡ true → r ≡ t → r ≡ (w && t)
+  term-inside r t e f = rw (← is, e) f
 
-    pub passes-leads : (r : Bool) → test ≡ Test.Leads → r ≡ leadsInto h places marks k f → r ≡ passesAt h places q rank marks k test f
-    passes-leads r e g = rw e g
+  pub term-outside : (t : Bool) → b ≡ false → false ≡ (w && t)
+  term-outside t e = rw (← is, e)
 
--- terms_passing
-module _ (h : Bytes) (places : List ℕ) (q : Bytes) (rank : Rank) (marks : List Bool) (range : TermRange) (test : Test) (j : ℕ) where
-  pub sought-below : j < range .low → sought h places q rank marks range test j ≡ false
-  unfolding sought
-  sought-below l = rw (lt-leb (range .low) j l)
+pub ruleset being-of = (term-inside, term-outside)
 
-  pub sought-above : range .high ≤ j → sought h places q rank marks range test j ≡ false
-  unfolding sought
-  sought-above l = rw (le-ltb j (range .high) l) (go (leb (range .low) j))
-    where
-      go : (b : Bool) → ((b && false) && passesAt h places q rank marks (range .kind) test j) ≡ false
-      go true = refl
-      go false = refl
+any-one : (p : ℕ → Bool) (n : ℕ) → any p (n ∷ []) ≡ p n
+unfolding any
+any-one p n = or-false (p n)
 
-  pub sought-at : (b : Bool) → range .low ≤ j → j < range .high → b ≡ passesAt h places q rank marks (range .kind) test j → b ≡ sought h places q rank marks range test j
-  unfolding sought
-  sought-at b l k e = rw (le-leb (range .low) j l, lt-ltb j (range .high) k) e
+-- The loops over the bytes of a page's forms: whether one of the numbers before a place passes.
+module _ (b : Bytes) (p : ℕ → Bool) where
+  pub record Looked (at : ℕ) (some : Bool) : Type 0 where
+    pub even : at ≡ 2 * (at / 2)
+    pub most : at ≤ length b
+    pub is : some ≡ any p (tabulate (at / 2) (λ k. twoAt b (2 * k)))
 
-pub ruleset passing = (marked-none, marked-one, leads-page, passes-any, passes-stands, passes-leads)
-
--- has_term: whether one of the forms of page i before j passes.
-module _ (h : Bytes) (i : ℕ) (p : ℕ → Bool) where
-  abbrev pub formFrom : ℕ → ℕ
-  formFrom k = formAt h (formStart h i + k)
-
-  pub record Looked (j : ℕ) (some : Bool) : Type 0 where
-    pub from : formStart h i ≤ j
-    pub most : j - formStart h i ≤ formStart h (suc i) - formStart h i
-    pub is : any p (tabulate (j - formStart h i) formFrom) ≡ some
-
-  pub looked-start : (j : ℕ) → j ≡ formStart h i → Looked j false
+  pub looked-start : Looked 0 false
   unfolding tabulate any
-  looked-start j e =
-      let z : j - formStart h i ≡ 0 = omega arith in
-      record { from = omega arith; most = omega arith; is = rw z }
+  looked-start = record { even = omega arith; most = omega arith; is = refl }
 
-  module _ (j end : ℕ) (some : Bool) (a : Looked j some) (e : end ≡ formStart h (suc i)) where
-    pub looked-end : end ≤ j → some ≡ any p (pageAt h i .forms)
-    unfolding pageAt
-    looked-end l =
-        let z : formStart h (suc i) - formStart h i ≡ j - formStart h i = omega (arith, a .from, a .most) in
-        sym (rw z (a .is))
-
-    pub looked-more : (f : ℕ) (b : Bool) → j < end → f ≡ formAt h j → b ≡ p f → Looked (j + 1) (some || b)
-    unfolding tabulate any
-    looked-more f b l at is =
-        let y : formStart h i + (j - formStart h i) ≡ j = omega (arith, a .from) in
-        let z : (j + 1) - formStart h i ≡ suc (j - formStart h i) = omega (arith, a .from) in
-        let here : p (formFrom (j - formStart h i)) ≡ b = sym (is ∙ ap p (at ∙ ap (formAt h) (sym y))) in
+  module _ (at : ℕ) (some : Bool) (a : Looked at some) where
+    pub looked-more : (f : ℕ) (r : Bool) → at + 2 ≤ length b → f ≡ twoAt b at → r ≡ p f → Looked (at + 2) (some || r)
+    unfolding tabulate
+    looked-more f r l there is =
+        let half : (at + 2) / 2 ≡ suc (at / 2) = omega arith in
+        let here : r ≡ p (twoAt b (2 * (at / 2))) = is ∙ ap p there ∙ ap (λ (k : ℕ). p (twoAt b k)) (a .even) in
         record {
-          from = omega (arith, a .from);
-          most = omega (arith, a .from);
+          even = omega (arith, a .even);
+          most = omega arith;
           is =
-              rw z
-              (any-append p (tabulate (j - formStart h i) formFrom) (formFrom (j - formStart h i) ∷ [])
-              ∙ rw (a .is, here, or-false b));
+              rw half
+              (ap₂ _||_ (a .is) (here ∙ sym (any-one p (twoAt b (2 * (at / 2)))))
+              ∙ sym (any-append p (tabulate (at / 2) (λ k. twoAt b (2 * k))) (twoAt b (2 * (at / 2)) ∷ [])));
         }
+
+    pub looked-end : length b < at + 2 → some ≡ any p (numbersIn b)
+    unfolding numbersIn
+    looked-end l =
+        let half : length b / 2 ≡ at / 2 = omega (arith, a .even, a .most) in
+        rw half (a .is)
+
+-- forms_between
+pub forms-cut : (h b : Bytes) (start end s d c : ℕ) → s ≡ start → d ≡ end - start → c ≡ d → b ≡ part h (1226 + 2 * s) (2 * c) → b ≡ formBytes h start end
+unfolding formBytes
+forms-cut h b start end s d c e f g is = is ∙ rw (e, g, f)

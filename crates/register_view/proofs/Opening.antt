@@ -1,7 +1,7 @@
 -- The bytes of an opened register hold its dictionary.
 use Rattle.register_form.proofs.Totals.{length-flat, total-most, total-same}
 use Rattle.language.proofs.Rules.{Ruled, register-rules}
-use Prim.Native.Nat.{ℕ, _+_, _-_, _≤_, _<_}
+use Prim.Native.Nat.{ℕ, suc, _+_, _*_, _-_, _/_, _≤_, _<_}
 use mathlib.Core.Path.{_≡_, refl, sym, ap, _∙_, subst}
 use mathlib.Core.Bool.{Bool, true, false}
 use mathlib.Core.List.{List, [], _∷_, _++_, map, flatMap, append-nil, List·Memᴰ, Memᴰ·of-map}
@@ -9,11 +9,11 @@ use native.Mathlib.Omega.{arith}
 use lib.Dec.{eqb}
 use lib.ListN.{length, getD, length-append, length-map}
 use borrow.Author.Tests.{eqb-true}
-use Rattle.text.specs.Bytes.{Bytes, orderOf, same}
+use Rattle.text.specs.Bytes.{Bytes, part, orderOf, same}
 use Rattle.text.specs.declared.Order.{Order}
 use Rattle.text.specs.declared.Order.the-variants.{Less, Equal, Greater}
 use Rattle.text.proofs.Laws.{same-eq}
-use Rattle.text.proofs.Tables.{length-tabulate, getD-tabulate}
+use Rattle.text.proofs.Tables.{length-tabulate, getD-tabulate, tabulate-ext}
 use Rattle.values.specs.Values.{number, boolean, string, Value, plain, link}
 use Rattle.values.specs.Spelling.{spelling, spellIdentifier}
 use Rattle.language.specs.Register.{Property, Page, Register}
@@ -25,13 +25,18 @@ use Rattle.sorting.proofs.Orders.{bytes-total}
 use Rattle.sorting.proofs.Ranks.{rank-most}
 use Rattle.register_form.specs.Dictionary.{PropertyRow, PageRow, Dictionary, labelled}
 use Rattle.register_form.specs.Encoding.{plainText, identifierText, valueTexts, pageTexts, textsIn, textsOf, categoryTerm, valueTerm, pageTerms, termsOf, encodeProperty, encodePage, encode}
-use Rattle.register_form.specs.Form.{pageCount, propertyCount, termCount, textCount, formsOf, joined, bytesOf, formOf, propertyAt, pageAt, termAt, textAt, dictionaryIn, registerIn, isForm}
+use Rattle.register_form.specs.Form.{registerSize, pageCount, propertyCount, termCount, textCount, formsOf, joined, bytesOf, formOf, propertyAt, formStart, formAt, pageAt, termAt, textAt, dictionaryIn, registerIn, isForm}
 use Rattle.register_form.specs.Opened.{pageIn, Opened}
 use Rattle.register_form.specs.Tests.{Small, Bounded, termUses}
 use Rattle.register_form.proofs.Lists.{mem-at, of-flat, of-sorted}
 use Rattle.register_form.proofs.Rules.{Limits, within, texts-few, terms-few, page-terms}
 use Rattle.register_form.proofs.Canonical.{TermFrom, term-from}
-use Rattle.register_form.proofs.ReadBack.{read-back}
+use Rattle.register_form.proofs.Starts.{table-step, table-most}
+use Rattle.register_form.proofs.Holding.{Holds, holds-bytes, length-bytes}
+use Rattle.register_form.proofs.ReadBack.{form-start, read-back}
+use Rattle.buffer.specs.Numbers.{twoAt, startsFrom}
+use Rattle.buffer.proofs.Parts.{length-part, getD-part, flat-map}
+use Rattle.register_view.specs.View.{formBytes, numbersIn}
 
 -- Sums over joined, mapped and sorted lists.
 module _ {A B : Type 0} (f : B → ℕ) (g : A → B) where
@@ -194,6 +199,7 @@ module _ (R : Register) (w : Limits R) where
 
 -- What is known of opened bytes.
 pub record Known (h : Bytes) (R : Register) : Type 0 where
+  pub bytes : h ≡ bytesOf (encode R)
   pub is : dictionaryIn h ≡ encode R
   pub keeps : Ruled R
   pub limits : Limits R
@@ -205,7 +211,7 @@ known {h} {places} {R} o =
     let k = register-rules R (subst (λ (S : Register). isRegister S ≡ true) (o .register) (t .0)) in
     let w = within R (k .limits) in
     let e : h ≡ bytesOf (encode R) = same-eq h (formOf (registerIn h)) (t .1) ∙ ap formOf (o .register) in
-    record { is = ap dictionaryIn (e ∙ sym (append-nil (bytesOf (encode R)))) ∙ read-back (encode R) [] (bounded R w); keeps = k; limits = w }
+    record { bytes = e; is = ap dictionaryIn (e ∙ sym (append-nil (bytesOf (encode R)))) ∙ read-back (encode R) [] (bounded R w); keeps = k; limits = w }
 
 -- The rows of opened bytes.
 module _ {h : Bytes} {R : Register} (k : Known h R) where
@@ -250,3 +256,29 @@ module _ {h : Bytes} {R : Register} (k : Known h R) where
   text-row x b =
       sym (getD-tabulate (textCount h) (textAt h) [] x (omega (arith, ap length texts-are, length-tabulate (textCount h) (textAt h))))
       ∙ ap (λ (l : List Bytes). getD l x []) texts-are
+
+  -- where the forms of a page lie
+  starts-there : (i : ℕ) → i < suc (length (map formsOf (encode R .pages))) → formStart h i ≡ getD (startsFrom 0 (map formsOf (encode R .pages))) i 0
+  starts-there =
+      form-start h (encode R)
+      (subst (λ (b : Bytes). Holds b (encode R)) (append-nil (bytesOf (encode R)) ∙ sym (k .bytes)) (holds-bytes (encode R) [] (bounded R (k .limits))))
+      (bounded R (k .limits))
+
+  -- the numbers in their bytes are its forms
+  pub forms-there : (i : ℕ) → i < length (R .pages) → numbersIn (formBytes h (formStart h i) (formStart h (suc i))) ≡ pageAt h i .forms
+  unfolding numbersIn formBytes pageAt formAt twoAt encode
+  forms-there i b =
+      let l = map formsOf (encode R .pages) in
+      let s = formStart h i in
+      let c = formStart h (suc i) - formStart h i in
+      let inside : i < length l = rw (length-map, length-map) b in
+      let step = table-step (formStart h) l starts-there i inside in
+      let most = table-most (formStart h) l starts-there i inside in
+      let few : length (joined l) ≤ 2048 = rw (flat-map formsOf (encode R .pages)) (bounded R (k .limits) .forms) in
+      let size : length h ≡ registerSize = ap length (k .bytes) ∙ length-bytes (encode R) (bounded R (k .limits)) in
+      let half : length (part h (1226 + 2 * s) (2 * c)) / 2 ≡ c = omega (arith, length-part h (1226 + 2 * s) (2 * c) (omega (arith, size))) in
+      rw half
+      (tabulate-ext c _ _ (λ j m.
+      let a : 1226 + 2 * s + 2 * j ≡ 1226 + 2 * (s + j) = omega arith in
+      let d : 1226 + 2 * s + (2 * j + 1) ≡ 1226 + 2 * (s + j) + 1 = omega arith in
+      rw (getD-part h (1226 + 2 * s) (2 * c) (2 * j) (omega arith), getD-part h (1226 + 2 * s) (2 * c) (2 * j + 1) (omega arith), a, d)))

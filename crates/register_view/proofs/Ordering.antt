@@ -13,7 +13,6 @@ use Rattle.text.specs.declared.Order.the-variants.{Less, Equal, Greater}
 use Rattle.text.specs.declared.Span.{Span}
 use Rattle.text.proofs.Laws.{order-eq, numbers-less, numbers-greater, numbers-equal}
 use Rattle.language.specs.Register.{Register}
-use Rattle.language.specs.declared.Comparator.{Comparator}
 use Rattle.language.proofs.Members.{by-test}
 use Rattle.nodes.specs.declared.Constant.{Constant}
 use Rattle.sorting.specs.Ascending.{isLess, isEqual, ascends, rank}
@@ -26,10 +25,9 @@ use Rattle.register_form.specs.Form.{textAt, dictionaryIn}
 use Rattle.register_form.proofs.Codes.{name-back}
 use Rattle.register_form.proofs.Decoded.{texts-up}
 use Rattle.register_form.proofs.Lists.{number-back, number-small}
-use Rattle.register_view.specs.Ranges.{entriesIn, entryAt, Ranked, Keyed, RankOf, TestRank, nameOrder}
+use Rattle.register_view.specs.Ranges.{entriesIn, entryAt, Ranked, Keyed, RankOf, ConstantRank, nameOrder}
 use Rattle.register_view.specs.declared.Index.{Index}
 use Rattle.register_view.specs.declared.Rank.{Rank}
-use Rattle.register_view.specs.declared.Test.{Test}
 use Rattle.register_view.proofs.Opening.{Known, text-row, texts-are}
 use Rattle.register_view.proofs.Searching.{entry-in}
 
@@ -130,27 +128,18 @@ module _ (h x : Bytes) where
       g p n b ∙ ap (λ (t : Bytes). orderOf t (plainText x)) (e ∙ bare) ∙ plain-order y x
 
 -- rank_for
-module _ (h q : Bytes) (test : Test) (r : Rank) where
-  pub rank-any : test ≡ Test.Any → TestRank h q test r
-  unfolding TestRank
-  rank-any e = rw e tt
+module _ (h q : Bytes) (w : Constant) (r : Rank) where
+  pub rank-number : (n : ℕ) → w ≡ Constant.Number n → ConstantRank h q w r
+  unfolding ConstantRank
+  rank-number n e = rw e tt
 
-  pub rank-leads : test ≡ Test.Leads → TestRank h q test r
-  unfolding TestRank
-  rank-leads e = rw e tt
+  pub rank-boolean : (b : Bool) → w ≡ Constant.Boolean b → ConstantRank h q w r
+  unfolding ConstantRank
+  rank-boolean b e = rw e tt
 
-  module _ (c : Comparator) (w : Constant) (e : test ≡ Test.Stands c w) where
-    pub rank-number : (n : ℕ) → w ≡ Constant.Number n → TestRank h q test r
-    unfolding TestRank
-    rank-number n g = rw (e, g) tt
-
-    pub rank-boolean : (b : Bool) → w ≡ Constant.Boolean b → TestRank h q test r
-    unfolding TestRank
-    rank-boolean b g = rw (e, g) tt
-
-    pub rank-string : (p : Span) (x : Bytes) → w ≡ Constant.String p → x ≡ part q (p .start) (p .len) → RankOf h x r → TestRank h q test r
-    unfolding TestRank
-    rank-string p x g lies f = rw (e, g, ← lies) f
+  pub rank-string : (p : Span) (x : Bytes) → w ≡ Constant.String p → x ≡ part q (p .start) (p .len) → RankOf h x r → ConstantRank h q w r
+  unfolding ConstantRank
+  rank-string p x e lies f = rw (e, ← lies) f
 
 -- By the rank, where it tells, and by the bytes
 module _ (h x : Bytes) (r : Rank) (n : ℕ) (o : Order) where
@@ -162,7 +151,7 @@ module _ (h x : Bytes) (r : Rank) (n : ℕ) (o : Order) where
   unfolding nameOrder
   order-compared l g = rw (le-ltb n (r .plain) l) g
 
-pub ruleset ordering = (key-past, key-at, key-none, rank-few, rank-many, rank-any, rank-leads, rank-number, rank-boolean, rank-string)
+pub ruleset ordering = (key-past, key-at, key-none, rank-few, rank-many, rank-number, rank-boolean, rank-string)
 
 -- Of an opened register, by rank or not, the name of a text stands to x as it does.
 pub name-order : {h : Bytes} {R : Register} (d : Known h R) (x : Bytes) (r : Rank) → RankOf h x r → (t : Bytes) → List·Memᴰ t (textsOf R) → (s y : Bytes) → t ≡ labelled s y → nameOrder h x r (rank orderOf t (textsOf R)) ≡ orderOf y x

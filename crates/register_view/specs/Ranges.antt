@@ -18,7 +18,6 @@ use Rattle.register_form.specs.Form.{termAt, textAt, dictionaryIn}
 use Rattle.register_view.specs.declared.Index.{Index}
 use Rattle.register_view.specs.declared.Found.{Found}
 use Rattle.register_view.specs.declared.Rank.{Rank}
-use Rattle.register_view.specs.declared.Test.{Test}
 use Rattle.register_view.specs.declared.TermRange.{TermRange}
 
 -- The entries of a list, the one in a place, and the one that a key stands for: a text by its name or its bytes, a term by its
@@ -57,13 +56,11 @@ RankOf h x r =
     ascends orderOf (dictionaryIn h .texts) ≡ true → (n : ℕ) → n < length (dictionaryIn h .texts) → n < r .plain
     → (s y : Bytes) → getD (dictionaryIn h .texts) n [] ≡ labelled s y → numbers (1 + 2 * n) (r .key) ≡ orderOf y x
 
--- The rank is that of the test's string, if it has one.
-unfoldable pub TestRank : Bytes → Bytes → Test → Rank → Type 0
-TestRank h q Test.Any r = Unit {0}
-TestRank h q (Test.Stands c (Constant.Number n)) r = Unit {0}
-TestRank h q (Test.Stands c (Constant.Boolean b)) r = Unit {0}
-TestRank h q (Test.Stands c (Constant.String p)) r = RankOf h (partOf q p) r
-TestRank h q Test.Leads r = Unit {0}
+-- The rank is that of the constant's string, if it is one.
+unfoldable pub ConstantRank : Bytes → Bytes → Constant → Rank → Type 0
+ConstantRank h q (Constant.Number n) r = Unit {0}
+ConstantRank h q (Constant.Boolean b) r = Unit {0}
+ConstantRank h q (Constant.String p) r = RankOf h (partOf q p) r
 
 -- How the name of text n stands to x: by x's rank, where it tells.
 unfoldable pub nameOrder : Bytes → Bytes → Rank → ℕ → Order

@@ -1,31 +1,29 @@
 -- Working definitions: what the functions over the terms of a page answer.
-use Prim.Native.Nat.{ℕ, zero, suc, _<_}
+use Prim.Native.Nat.{ℕ, zero, suc, _+_, _*_, _-_, _/_, _<_}
 use mathlib.Core.Path.{_≡_}
-use mathlib.Core.Bool.{Bool, true, false, _&&_}
+use mathlib.Core.Bool.{Bool, false, _&&_}
 use mathlib.Core.List.{List}
 use mathlib.Core.Option.{Option, some, none}
 use lib.Dec.{ltb, eqb}
 use lib.ListN.{length, getD}
-use Rattle.text.specs.Bytes.{Bytes, same, any}
+use Rattle.text.specs.Bytes.{Bytes, part, same, any}
 use Rattle.text.specs.Parts.{partOf}
 use Rattle.text.specs.Table.{tabulate}
 use Rattle.values.specs.declared.Kind.{Kind}
 use Rattle.values.specs.declared.KindRead.{KindRead}
 use Rattle.values.specs.Values.{number, boolean, string, Value, plain, link}
 use Rattle.language.specs.Register.{Page, Register}
-use Rattle.language.specs.Semantics.{stands, Ca, Cv, follows, noMixed}
+use Rattle.language.specs.Semantics.{stands, Ca, Cv, noMixed}
 use Rattle.language.specs.declared.Comparator.{Comparator}
 use Rattle.nodes.specs.Reading.{constantBy}
 use Rattle.nodes.specs.declared.Constant.{Constant}
 use Rattle.buffer.specs.Numbers.{twoAt}
 use Rattle.register_form.specs.Dictionary.{nameOf, identifierOf, codeOf, numberFrom}
-use Rattle.register_form.specs.Form.{registerIn, pageAt, termAt, textAt}
+use Rattle.register_form.specs.Form.{pageCount, formStart, registerIn, pageAt, termAt, textAt}
 use Rattle.register_form.specs.Opened.{pageIn}
-use Rattle.register_view.specs.Ranges.{nameOrder, within}
+use Rattle.register_view.specs.Ranges.{nameOrder}
 use Rattle.register_view.specs.declared.NameTest.{NameTest}
 use Rattle.register_view.specs.declared.Rank.{Rank}
-use Rattle.register_view.specs.declared.Test.{Test}
-use Rattle.register_view.specs.declared.TermRange.{TermRange}
 
 abbrev pub kindOf : KindRead → Option Kind
 kindOf (KindRead.Kind k) = some k
@@ -64,19 +62,20 @@ leadsInto h places marks Kind.Number f = false
 leadsInto h places marks Kind.Boolean f = false
 leadsInto h places marks Kind.String f = false
 
--- The value of term f passes the test.
-abbrev pub passesAt : Bytes → List ℕ → Bytes → Rank → List Bool → Kind → Test → ℕ → Bool
-passesAt h places q r marks k Test.Any f = true
-passesAt h places q r marks k (Test.Stands c w) f = standsAt h q r c w k f
-passesAt h places q r marks k Test.Leads f = leadsInto h places marks k f
+-- The bytes of the forms from one place among all forms up to another; the numbers in bytes.
+unfoldable pub formBytes : Bytes → ℕ → ℕ → Bytes
+formBytes h start end = part h (1226 + 2 * start) (2 * (end - start))
 
--- Term f is of the range, and passes the test.
-unfoldable pub sought : Bytes → List ℕ → Bytes → Rank → List Bool → TermRange → Test → ℕ → Bool
-sought h places q r marks range test f = within range f && passesAt h places q r marks (range .kind) test f
+unfoldable pub numbersIn : Bytes → List ℕ
+numbersIn b = tabulate (length b / 2) (λ k. twoAt b (2 * k))
 
--- Page i has a marked term.
-abbrev pub hasTerm : Bytes → List Bool → ℕ → Bool
-hasTerm h wanted i = any (λ f. getD wanted f false) (pageAt h i .forms)
+-- One of page i's forms passes a test.
+abbrev pub formPasses : Bytes → (ℕ → Bool) → ℕ → Bool
+formPasses h p i = any p (numbersIn (formBytes h (formStart h i) (formStart h (suc i))))
+
+-- The marks of the pages one of whose forms does.
+abbrev pub marksBy : Bytes → (ℕ → Bool) → List Bool
+marksBy h p = tabulate 256 (λ j. ltb j (pageCount h) && formPasses h p j)
 
 -- What a test asks of a page's identifier.
 abbrev pub namePasses : Bytes → NameTest → Page → Bool
@@ -87,12 +86,6 @@ namePasses x (NameTest.Article c) p = Ca c (p .identifier .article) x
 abbrev pub namePassesAt : Bytes → Bytes → Rank → NameTest → ℕ → Bool
 namePassesAt h x r NameTest.Namespace i = same (pageIn (registerIn h) i .identifier .namespace) x
 namePassesAt h x r (NameTest.Article c) i = stands c (nameOrder h x r (pageAt h i .identifier))
-
--- What a test asks of a value: its string lies in q, and its set is that of the pages that inner asks for.
-abbrev pub passes : Bytes → Register → (Page → Bool) → Test → Value → Bool
-passes q R inner Test.Any v = true
-passes q R inner (Test.Stands c w) v = Cv noMixed c (constantBy q w) v
-passes q R inner Test.Leads v = follows noMixed R inner v
 
 -- The marks of the pages that pass a test.
 abbrev pub marksIn : Register → (Page → Bool) → List Bool

@@ -1,11 +1,11 @@
-// The terms that pass a test, and the pages that have one of them.
+// What is asked of a term, and of the terms of a page.
 ghost use mathlib.Core.Path.{_≡_};
-ghost use Rattle.text.specs.Table.{tabulate};
-ghost use Rattle.register_view.specs.View.{textNumber, standsAt, marked, leadsInto, passesAt, sought, hasTerm};
+ghost use mathlib.Core.Bool.{_&&_};
+ghost use Rattle.text.specs.Bytes.{any};
+ghost use Rattle.register_view.specs.Ranges.{within};
+ghost use Rattle.register_view.specs.View.{textNumber, standsAt, marked, leadsInto, formBytes, numbersIn};
 use crate::Rank;
 use crate::TermRange;
-use crate::TermSet;
-use crate::Test;
 use crate::compare_booleans;
 use crate::ranks::compare_name;
 use crate::ranks::order_by;
@@ -15,9 +15,7 @@ use language::Comparator;
 use nodes::Constant;
 use pageset::mark_at;
 use register_form::code_at;
-use register_form::form_at;
-use register_form::form_end;
-use register_form::form_start;
+use register_form::minus;
 use register_form::term_at;
 use tables::num_at;
 use tables::widen;
@@ -85,60 +83,100 @@ fn leads_into(h: &[u8], places: &[u16], f: u16, k: Kind, marks: &[bool]) -> bool
     }
 }
 
-// Whether the value of term f, of a kind, passes a test.
-fn term_passes(
+// The bytes of the forms from one place among all forms up to another.
+pub fn forms_between(h: &[u8], start: u16, end: u16) -> &[u8]
+    ensures { λ r. ⌜ now r ≡ formBytes (now (h .entry)) start end ⌝ }
+{
+    part(h, 1226 + 2 * widen(start), 2 * widen(minus(end, start)))
+}
+
+// Whether term f is of a range.
+fn is_within(range: TermRange, f: u16) -> bool
+    ensures { λ r. ⌜ r ≡ within range f ⌝ }
+{
+    (range.low <= f) & (f < range.high)
+}
+
+// Whether term f is of a range and stands to a constant.
+fn term_stands(
     h: &[u8],
-    places: &[u16],
+    range: TermRange,
     f: u16,
-    k: Kind,
-    test: Test,
+    c: Comparator,
+    w: Constant,
     q: &[u8],
     rank: Rank,
+) -> bool
+    ensures { λ r. ⌜ r ≡ (within range f && standsAt (now (h .entry)) (now (q .entry)) rank c w (range .kind) f) ⌝ }
+{
+    if is_within(range, f) {
+        let k = range.kind;
+        return value_stands(h, f, k, c, w, q, rank);
+    }
+    false
+}
+
+// Whether term f is of a range and leads to a page of a set.
+fn term_leads(h: &[u8], range: TermRange, f: u16, places: &[u16], marks: &[bool]) -> bool
+    ensures { λ r. ⌜ r ≡ (within range f && leadsInto (now (h .entry)) (now (places .entry)) (now (marks .entry)) (range .kind) f) ⌝ }
+{
+    if is_within(range, f) {
+        let k = range.kind;
+        return leads_into(h, places, f, k, marks);
+    }
+    false
+}
+
+// Whether one of the terms whose numbers stand in the bytes is of a range. All are looked at: leaving at the first gains
+// nothing.
+pub fn some_within(forms: &[u8], range: TermRange) -> bool
+    ensures { λ r. ⌜ r ≡ any (within range) (numbersIn (now (forms .entry))) ⌝ }
+{
+    let mut some = false;
+    let mut at: usize = 0;
+    while at + 2 <= forms.len() {
+        some = some | is_within(range, two_at(forms, at));
+        at += 2;
+    }
+    some
+}
+
+// Whether one of them is of a range and stands to a constant.
+pub fn some_standing(
+    h: &[u8],
+    forms: &[u8],
+    range: TermRange,
+    c: Comparator,
+    w: Constant,
+    q: &[u8],
+    rank: Rank,
+) -> bool
+    ensures { λ r. ⌜ r ≡ any (λ f. within range f && standsAt (now (h .entry)) (now (q .entry)) rank c w (range .kind) f) (numbersIn (now (forms .entry))) ⌝ }
+{
+    let mut some = false;
+    let mut at: usize = 0;
+    while at + 2 <= forms.len() {
+        some = some | term_stands(h, range, two_at(forms, at), c, w, q, rank);
+        at += 2;
+    }
+    some
+}
+
+// Whether one of them is of a range and leads to a page of a set.
+pub fn some_leading(
+    h: &[u8],
+    forms: &[u8],
+    range: TermRange,
+    places: &[u16],
     marks: &[bool],
 ) -> bool
-    ensures { λ r. ⌜ r ≡ passesAt (now (h .entry)) (now (places .entry)) (now (q .entry)) rank (now (marks .entry)) k test f ⌝ }
+    ensures { λ r. ⌜ r ≡ any (λ f. within range f && leadsInto (now (h .entry)) (now (places .entry)) (now (marks .entry)) (range .kind) f) (numbersIn (now (forms .entry))) ⌝ }
 {
-    match test {
-        Test::Any => true,
-        Test::Stands(c, w) => value_stands(h, f, k, c, w, q, rank),
-        Test::Leads => leads_into(h, places, f, k, marks),
-    }
-}
-
-// Which terms are of a range and pass a test: each is tested once.
-pub fn terms_passing(
-    h: &[u8],
-    places: &[u16],
-    range: TermRange,
-    test: Test,
-    q: &[u8],
-    rank: Rank,
-    marks: &[bool],
-) -> TermSet
-    ensures { λ r. ⌜ r .marks ≡ tabulate 2048 (sought (now (h .entry)) (now (places .entry)) (now (q .entry)) rank (now (marks .entry)) range test) ⌝ }
-{
-    let k = range.kind;
-    let high = range.high;
-    let mut wanted = [false; 2048];
-    let mut f = range.low;
-    while (f < high) & (f < 2048) {
-        let at = widen(f);
-        wanted[at] = term_passes(h, places, f, k, test, q, rank, marks);
-        f += 1;
-    }
-    TermSet { marks: wanted }
-}
-
-// Whether the page in place i has a marked term. All are looked at: leaving at the first gains nothing.
-pub fn has_term(h: &[u8], i: u16, wanted: &[bool]) -> bool
-    ensures { λ r. ⌜ r ≡ hasTerm (now (h .entry)) (now (wanted .entry)) i ⌝ }
-{
-    let end = form_end(h, i);
     let mut some = false;
-    let mut j = form_start(h, i);
-    while j < end {
-        some = some | mark_at(wanted, widen(form_at(h, j)));
-        j += 1;
+    let mut at: usize = 0;
+    while at + 2 <= forms.len() {
+        some = some | term_leads(h, range, two_at(forms, at), places, marks);
+        at += 2;
     }
     some
 }

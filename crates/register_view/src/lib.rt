@@ -9,16 +9,17 @@ ghost use Rattle.register_form.specs.Form.{dictionaryIn, registerIn};
 ghost use Rattle.register_form.specs.Opened.{pageIn};
 ghost use Rattle.register_view.specs.View.{kindOf};
 
-pub mod forms; // forms.rt: the terms that pass a test
-pub mod pages; // pages.rt: the pages that pass a test
+pub mod forms; // forms.rt: what is asked of terms
+pub mod pages; // pages.rt: the pages that a selector asks for
 pub mod ranges; // ranges.rt: the terms of a category and of a property
 pub mod ranks; // ranks.rt: names compared by the numbers of their texts
 
 use language::Comparator;
-use nodes::Constant;
-pub use pages::pages_holding;
 pub use pages::pages_in_category;
 pub use pages::pages_named;
+pub use pages::pages_with_link;
+pub use pages::pages_with_property;
+pub use pages::pages_with_value;
 pub use ranges::category_range;
 pub use ranges::find;
 pub use ranges::look_up;
@@ -66,23 +67,10 @@ pub struct Rank {
     pub key: u64,
 }
 
-// A set of terms: the mark at a term's number says whether it is in.
-pub struct TermSet {
-    pub marks: [bool; 2048],
-}
-
 // What is asked of a page's identifier: that it has a namespace, or an article name that stands to another as a comparator says.
 pub enum NameTest {
     Namespace,
     Article(Comparator),
-}
-
-// What is asked of a value: that it is there, that it stands to a constant as a comparator says, or that it leads to a page of
-// a set.
-pub enum Test {
-    Any,
-    Stands(Comparator, Constant),
-    Leads,
 }
 
 // Whether an order is what a comparator asks for.

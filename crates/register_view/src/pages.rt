@@ -1,94 +1,112 @@
 // The pages of a register that pass a test.
 ghost use mathlib.Core.Path.{_≡_};
-ghost use mathlib.Core.Bool.{Bool, _&&_};
+ghost use mathlib.Core.Bool.{Bool, true};
 ghost use mathlib.Core.List.{List};
 ghost use Prim.Native.Nat.{ℕ};
-ghost use lib.Dec.{ltb};
 ghost use Rattle.text.specs.Bytes.{same, any};
-ghost use Rattle.text.specs.Table.{tabulate};
 ghost use Rattle.language.specs.Register.{Page, Register, holds};
-ghost use Rattle.register_form.specs.Form.{pageCount};
+ghost use Rattle.language.specs.Semantics.{Cv, follows, noMixed};
+ghost use Rattle.nodes.specs.Reading.{constantBy};
 ghost use Rattle.register_form.specs.Opened.{Opened};
-ghost use Rattle.register_view.specs.View.{sought, hasTerm, namePasses, namePassesAt, passes, Agrees, marksIn};
+ghost use Rattle.register_view.specs.Ranges.{within};
+ghost use Rattle.register_view.specs.View.{namePasses, namePassesAt, Agrees, marksBy, marksIn};
 use crate::NameTest;
 use crate::Rank;
 use crate::TermRange;
-use crate::Test;
-use crate::forms::has_term;
-use crate::forms::terms_passing;
+use crate::forms::forms_between;
+use crate::forms::some_leading;
+use crate::forms::some_standing;
+use crate::forms::some_within;
 use crate::namespace_at;
 use crate::ranges::category_range;
 use crate::ranges::property_range;
 use crate::ranks::compare_name;
-use crate::ranks::no_rank;
 use crate::ranks::order_by;
 use crate::ranks::rank_for;
 use crate::ranks::rank_of;
 use crate::stands_as;
+use language::Comparator;
+use nodes::Constant;
 use pageset::PageSet;
+use register_form::form_end;
+use register_form::form_start;
 use register_form::identifier_number;
-use register_form::minus;
 use register_form::page_count;
 use tables::widen;
 use text::same_bytes;
 
-// The pages that have a marked term.
-fn pages_with(h: &[u8], wanted: &[bool]) -> PageSet
-    ensures { λ r. ⌜ r .marks ≡ tabulate 256 (λ j. ltb j (pageCount (now (h .entry))) && hasTerm (now (h .entry)) (now (wanted .entry)) j) ⌝ }
+// The pages that have a term of a range.
+fn pages_within(h: &[u8], range: TermRange) -> PageSet
+    ensures { λ r. ⌜ r .marks ≡ marksBy (now (h .entry)) (within range) ⌝ }
 {
     let n = page_count(h);
-    let mut marks = [false; 256];
+    let mut set = PageSet::none();
+    let mut start = form_start(h, 0);
     let mut i: u16 = 0;
-    while (i < n) & (i < 256) {
-        let at = widen(i);
-        marks[at] = has_term(h, i, wanted);
+    while i < n {
+        let end = form_end(h, i);
+        if some_within(forms_between(h, start, end), range) {
+            set = set.with(widen(i));
+        }
+        start = end;
         i += 1;
     }
-    PageSet { marks: marks }
-}
-
-// The pages with a term that is of a range and passes a test.
-fn pages_passing(
-    h: &[u8],
-    places: &[u16],
-    range: TermRange,
-    test: Test,
-    q: &[u8],
-    rank: Rank,
-    marks: &[bool],
-) -> PageSet
-    ensures { λ r. ⌜ r .marks ≡ tabulate 256 (λ j. ltb j (pageCount (now (h .entry))) && hasTerm (now (h .entry)) (tabulate 2048 (sought (now (h .entry)) (now (places .entry)) (now (q .entry)) rank (now (marks .entry)) range test)) j) ⌝ }
-{
-    let terms = terms_passing(h, places, range, test, q, rank, marks);
-    let wanted = terms.marks;
-    pages_with(h, &wanted)
+    set
 }
 
 // The pages in the category x.
 pub fn pages_in_category(h: &[u8], x: &[u8]) -> PageSet
     ensures { λ r. ⌜ ((places : List ℕ) (R : Register) → Opened (now (h .entry)) places R → r .marks ≡ marksIn R (λ p. any (same (now (x .entry))) (p .categories))) ⌝ }
 {
-    let places = [0u16; 1];
-    let marks = [false; 1];
-    let range = category_range(h, x);
-    pages_passing(h, &places, range, Test::Any, h, no_rank(), &marks)
+    pages_within(h, category_range(h, x))
 }
 
-// The pages that hold, under the property x, a value that passes a test. The test's string lies in q; its set is that of the
-// marks.
-pub fn pages_holding(
-    h: &[u8],
-    places: &[u16],
-    x: &[u8],
-    test: Test,
-    q: &[u8],
-    marks: &[bool],
-) -> PageSet
-    ensures { λ r. ⌜ ((R : Register) → Opened (now (h .entry)) (now (places .entry)) R → (inner : Page → Bool) → Agrees R (now (marks .entry)) inner → r .marks ≡ marksIn R (holds (now (x .entry)) (passes (now (q .entry)) R inner test))) ⌝ }
+// The pages that hold a value under the property x.
+pub fn pages_with_property(h: &[u8], x: &[u8]) -> PageSet
+    ensures { λ r. ⌜ ((places : List ℕ) (R : Register) → Opened (now (h .entry)) places R → r .marks ≡ marksIn R (holds (now (x .entry)) (λ v. true))) ⌝ }
+{
+    pages_within(h, property_range(h, x))
+}
+
+// The pages that hold, under the property x, a value that stands to a constant, whose string lies in q.
+pub fn pages_with_value(h: &[u8], x: &[u8], c: Comparator, w: Constant, q: &[u8]) -> PageSet
+    ensures { λ r. ⌜ ((places : List ℕ) (R : Register) → Opened (now (h .entry)) places R → r .marks ≡ marksIn R (holds (now (x .entry)) (Cv noMixed c (constantBy (now (q .entry)) w)))) ⌝ }
 {
     let range = property_range(h, x);
-    let rank = rank_for(h, test, q, minus(range.high, range.low));
-    pages_passing(h, places, range, test, q, rank, marks)
+    let n = page_count(h);
+    let rank = rank_for(h, w, q, n);
+    let mut set = PageSet::none();
+    let mut start = form_start(h, 0);
+    let mut i: u16 = 0;
+    while i < n {
+        let end = form_end(h, i);
+        if some_standing(h, forms_between(h, start, end), range, c, w, q, rank) {
+            set = set.with(widen(i));
+        }
+        start = end;
+        i += 1;
+    }
+    set
+}
+
+// The pages that hold, under the property x, a link to a page of a set.
+pub fn pages_with_link(h: &[u8], places: &[u16], x: &[u8], marks: &[bool]) -> PageSet
+    ensures { λ r. ⌜ ((R : Register) → Opened (now (h .entry)) (now (places .entry)) R → (inner : Page → Bool) → Agrees R (now (marks .entry)) inner → r .marks ≡ marksIn R (holds (now (x .entry)) (follows noMixed R inner))) ⌝ }
+{
+    let range = property_range(h, x);
+    let n = page_count(h);
+    let mut set = PageSet::none();
+    let mut start = form_start(h, 0);
+    let mut i: u16 = 0;
+    while i < n {
+        let end = form_end(h, i);
+        if some_leading(h, forms_between(h, start, end), range, places, marks) {
+            set = set.with(widen(i));
+        }
+        start = end;
+        i += 1;
+    }
+    set
 }
 
 // Whether the page in place i has a namespace or an article name that stands to x, which has a rank, as a test asks.
@@ -114,12 +132,13 @@ pub fn pages_named(h: &[u8], test: NameTest, x: &[u8]) -> PageSet
 {
     let n = page_count(h);
     let rank = rank_of(h, x, n);
-    let mut marks = [false; 256];
+    let mut set = PageSet::none();
     let mut i: u16 = 0;
-    while (i < n) & (i < 256) {
-        let at = widen(i);
-        marks[at] = name_passes(h, i, test, x, rank);
+    while i < n {
+        if name_passes(h, i, test, x, rank) {
+            set = set.with(widen(i));
+        }
         i += 1;
     }
-    PageSet { marks: marks }
+    set
 }

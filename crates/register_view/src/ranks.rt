@@ -6,10 +6,9 @@ ghost use Rattle.text.specs.Bytes.{numbers, orderOf};
 ghost use Rattle.register_form.specs.Dictionary.{nameOf};
 ghost use Rattle.register_form.specs.Form.{textAt};
 ghost use Rattle.register_view.specs.declared.Index.the-variants.{Texts as TextIndex};
-ghost use Rattle.register_view.specs.Ranges.{Ranked, Keyed, RankOf, TestRank};
+ghost use Rattle.register_view.specs.Ranges.{Ranked, Keyed, RankOf, ConstantRank};
 use crate::Index;
 use crate::Rank;
-use crate::Test;
 use crate::ranges::compare_entry;
 use crate::ranges::entry_count;
 use crate::ranges::find;
@@ -66,18 +65,14 @@ pub fn rank_of(h: &[u8], x: &[u8], uses: u16) -> Rank
     }
 }
 
-// The rank of a test's string, which lies in q.
-pub fn rank_for(h: &[u8], test: Test, q: &[u8], uses: u16) -> Rank
-    ensures { λ r. ⌜ TestRank (now (h .entry)) (now (q .entry)) test r ⌝ }
+// The rank of a constant's string, which lies in q.
+pub fn rank_for(h: &[u8], w: Constant, q: &[u8], uses: u16) -> Rank
+    ensures { λ r. ⌜ ConstantRank (now (h .entry)) (now (q .entry)) w r ⌝ }
 {
-    match test {
-        Test::Any => no_rank(),
-        Test::Stands(_, w) => match w {
-            Constant::Number(_) => no_rank(),
-            Constant::Boolean(_) => no_rank(),
-            Constant::String(p) => rank_of(h, part(q, p.start, p.len), uses),
-        },
-        Test::Leads => no_rank(),
+    match w {
+        Constant::Number(_) => no_rank(),
+        Constant::Boolean(_) => no_rank(),
+        Constant::String(p) => rank_of(h, part(q, p.start, p.len), uses),
     }
 }
 

@@ -9,8 +9,8 @@ query-heap-requires c κs = search needs
 name-of-requires : tie.Need-name-of-requires
 name-of-requires c κs = search needs
 
-part-requires : tie.Need-part-requires
-part-requires c κs = search needs
+string-at-requires : tie.Need-string-at-requires
+string-at-requires c κs = search needs
 
 enum-told : tie.Need-enum-told
 enum-told c = search needs
@@ -27,14 +27,14 @@ pages-named-requires c κs = search needs
 enum-told-3 : tie.Need-enum-told-3
 enum-told-3 c = search needs
 
-pages-holding-requires : tie.Need-pages-holding-requires
-pages-holding-requires c κs = search needs
+pages-with-property-requires : tie.Need-pages-with-property-requires
+pages-with-property-requires c κs = search needs
 
 enum-told-4 : tie.Need-enum-told-4
 enum-told-4 c = search needs
 
-pages-holding-requires-2 : tie.Need-pages-holding-requires-2
-pages-holding-requires-2 c κs = search needs
+none-requires : tie.Need-none-requires
+none-requires c κs = search needs
 
 enum-known-selector : tie.Need-enum-known-selector
 enum-known-selector c = search needs
@@ -45,8 +45,8 @@ pages-named-requires-2 c κs = search needs
 enum-known-selector-2 : tie.Need-enum-known-selector-2
 enum-known-selector-2 c = search needs
 
-pages-holding-requires-3 : tie.Need-pages-holding-requires-3
-pages-holding-requires-3 c κs = search needs
+pages-with-value-requires : tie.Need-pages-with-value-requires
+pages-with-value-requires c κs = search needs
 
 returns : tie.Need-returns
 returns c = search (selecting, needs)
@@ -72,19 +72,19 @@ select-spec =
     (tie.spec
     query-heap-requires
     name-of-requires
-    part-requires
+    string-at-requires
     enum-told
     pages-in-category-requires
     enum-told-2
     pages-named-requires
     enum-told-3
-    pages-holding-requires
+    pages-with-property-requires
     enum-told-4
-    pages-holding-requires-2
+    none-requires
     enum-known-selector
     pages-named-requires-2
     enum-known-selector-2
-    pages-holding-requires-3
+    pages-with-value-requires
     returns
     returns-2
     returns-3
