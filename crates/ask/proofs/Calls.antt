@@ -27,14 +27,14 @@ use Rattle.register_form.proofs.Rules.{within}
 use Rattle.register_test.specs.Opening.{Opens}
 use Rattle.register_test.proofs.Held.{held-none, held-some, held-form}
 use Rattle.nodes.specs.Held.{countIn, heldQuery}
-use Rattle.nodes.specs.Stack.{isSome, stackAt, Holds}
+use Rattle.nodes.specs.Stack.{isSome, stackAt, HoldsCore}
 use Rattle.nodes.proofs.Stacks.{held-holds}
 use Rattle.ask_evaluation.specs.Meaning.{marksOf, Means, Evaluates}
 use Rattle.ask_evaluation.specs.Mixing.{Mismatches}
 use Rattle.ask_evaluation.specs.declared.Evaluated.{Evaluated}
 use Rattle.calls.specs.Calls.{askCall, marksIn}
 use Rattle.ask.specs.Call.{asked, Asks}
-use Rattle.ask.specs.Running.{Written, runInto, Answers, Selected, Runs}
+use Rattle.ask.specs.Running.{MarksWritten, runInto, Answers, Selected, Runs}
 use Rattle.ask.specs.declared.Asked.{Asked}
 use Rattle.ask.proofs.Writing.{marks-bytes, marks-count}
 
@@ -71,7 +71,7 @@ module _ (h : Bytes) (places : List ℕ) (q b : Bytes) (m : Bool) (mixed : Misma
   run-mixed e R v c k = answers _ (refused 23) b b _ (rw (sym (mixed places R v c k) ∙ e)) refl refl
 
   module _ (e : m ≡ false) where
-    run-is : (R : Register) → Opened h places R → (c : Core) → Holds q c
+    run-is : (R : Register) → Opened h places R → (c : Core) → HoldsCore q c
         → runInto b c R ≡ cond (ltb (length b) (length (R .pages))) (refused 24) (accepted (map (selects c R) (R .pages)))
     unfolding Mismatches runInto run
     run-is R v c k = rw (sym (mixed places R v c k) ∙ e)
@@ -82,9 +82,9 @@ module _ (h : Bytes) (places : List ℕ) (q b : Bytes) (m : Bool) (mixed : Misma
         answers _ (refused 24) b b _ (run-is R v c k ∙ rw (lt-ltb (length b) (length (R .pages)) (omega (arith, pages-are v)))) refl refl
 
     pub run-done : (n w : ℕ) (set : PageSet) (count : ℕ) (after : Bytes) → n ≡ pageCount h → w ≡ n → w ≤ length b → Selected h places q (set .marks)
-        → Written (set .marks) n b after → count ≡ countTo 256 (λ i. getD (set .marks) i false)
+        → MarksWritten (set .marks) n b after → count ≡ countTo 256 (λ i. getD (set .marks) i false)
         → Runs h places q b after (Asked.Marked count)
-    unfolding Runs Selected Written
+    unfolding Runs Selected MarksWritten
     run-done n w set count after f g l i x z R v c k =
         let size : n ≡ length (R .pages) = f ∙ pages-are v in
         let few : n ≤ 256 = omega (arith, pages-few v) in

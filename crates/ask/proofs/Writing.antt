@@ -21,7 +21,7 @@ use Rattle.language.specs.Semantics.{selects}
 use Rattle.register_form.specs.Opened.{pageIn}
 use Rattle.ask_evaluation.specs.Meaning.{Capped, marksOf}
 use Rattle.calls.specs.Calls.{marked}
-use Rattle.ask.specs.Running.{Written}
+use Rattle.ask.specs.Running.{MarksWritten}
 
 -- After i bytes: out is the buffer, and b what it was.
 pub record Writing (marks : List Bool) (end : ℕ) (b out : Bytes) (i : ℕ) : Type 0 where
@@ -44,14 +44,14 @@ module _ (marks : List Bool) (end : ℕ) (b out : Bytes) (i : ℕ) (w : Writing 
             rw (w .bytes, e, drop-cons b i 0 (omega arith), set-at (tabulate i (λ k. bit (getD marks k false))) (getD b i 0) (drop (suc i) b) (bit (getD marks i false)) i (length-tabulate i _), add-one i, append-assoc);
       }
 
-  pub writing-all : (n c : ℕ) → Capped n c → end ≡ c → end ≤ i → Written marks n b out
-  unfolding Written
+  pub writing-all : (n c : ℕ) → Capped n c → end ≡ c → end ≤ i → MarksWritten marks n b out
+  unfolding MarksWritten
   writing-all n c few k l small room =
       let e : i ≡ n = omega (arith, w .below, few .is small) in
       rw e at (w .bytes)
 
-pub no-room : (marks : List Bool) (n end c : ℕ) (b : Bytes) → Capped n c → end ≡ c → length b < end → Written marks n b b
-unfolding Written
+pub no-room : (marks : List Bool) (n end c : ℕ) (b : Bytes) → Capped n c → end ≡ c → length b < end → MarksWritten marks n b b
+unfolding MarksWritten
 no-room marks n end c b few k l small room = absurd (omega (arith, few .below))
 
 -- how many are marked

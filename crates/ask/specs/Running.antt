@@ -11,7 +11,7 @@ use Rattle.language.specs.Answer.{Answer, refused, accepted, andThen}
 use Rattle.language.specs.Core.{Core}
 use Rattle.language.specs.Register.{Register}
 use Rattle.language.specs.Semantics.{run}
-use Rattle.nodes.specs.Stack.{Holds}
+use Rattle.nodes.specs.Stack.{HoldsCore}
 use Rattle.register_form.specs.Opened.{Opened}
 use Rattle.ask_evaluation.specs.Meaning.{marksOf}
 use Rattle.calls.specs.Calls.{marksIn}
@@ -19,8 +19,8 @@ use Rattle.ask.specs.Call.{asked}
 use Rattle.ask.specs.declared.Asked.{Asked}
 
 -- The first n marks as bytes at the front of the buffer b, where there is room.
-unfoldable pub Written : List Bool → ℕ → Bytes → Bytes → Type 0
-Written marks n b after = n ≤ 256 → n ≤ length b → after ≡ tabulate n (λ i. bit (getD marks i false)) ++ drop n b
+unfoldable pub MarksWritten : List Bool → ℕ → Bytes → Bytes → Type 0
+MarksWritten marks n b after = n ≤ 256 → n ≤ length b → after ≡ tabulate n (λ i. bit (getD marks i false)) ++ drop n b
 
 -- The run of a core query on a register, with a buffer b: the marks, or 23 or 24.
 unfoldable pub runInto : Bytes → Core → Register → Answer (List Bool)
@@ -33,7 +33,7 @@ pub record Answers (a : Answer (List Bool)) (b after : Bytes) (r : Asked) : Type
 
 -- The marks are those of the pages that a held query selects.
 unfoldable pub Selected : Bytes → List ℕ → Bytes → List Bool → Type 0
-Selected h places q marks = (R : Register) → Opened h places R → (c : Core) → Holds q c → marks ≡ marksOf R (length (R .pages)) c
+Selected h places q marks = (R : Register) → Opened h places R → (c : Core) → HoldsCore q c → marks ≡ marksOf R (length (R .pages)) c
 
 unfoldable pub Runs : Bytes → List ℕ → Bytes → Bytes → Bytes → Asked → Type 0
-Runs h places q b after r = (R : Register) → Opened h places R → (c : Core) → Holds q c → Answers (runInto b c R) b after r
+Runs h places q b after r = (R : Register) → Opened h places R → (c : Core) → HoldsCore q c → Answers (runInto b c R) b after r

@@ -4,7 +4,7 @@ ghost use mathlib.Core.Bool.{Bool};
 ghost use Prim.Native.Nat.{ℕ};
 ghost use Rattle.text.specs.Table.{bit};
 ghost use Rattle.ask.specs.Call.{Asks};
-ghost use Rattle.ask.specs.Running.{Written, Selected, Runs};
+ghost use Rattle.ask.specs.Running.{MarksWritten, Selected, Runs};
 use ask_evaluation::capped;
 use ask_evaluation::eval;
 use ask_evaluation::mismatch::has_mismatch;
@@ -31,7 +31,7 @@ fn byte_of(b: bool) -> u8
 
 // Writes the first n marks, a byte each, where there is room.
 fn write_marks(set: PageSet, n: u16, out: &mut [u8])
-    ensures { λ _. ⌜ Written (set .marks) n (now (out .entry)) (now (out .exit)) ⌝ }
+    ensures { λ _. ⌜ MarksWritten (set .marks) n (now (out .entry)) (now (out .exit)) ⌝ }
 {
     let end = widen(capped(n));
     if out.len() < end {

@@ -22,7 +22,7 @@ use Rattle.language.specs.Register.{Page, Register, holds}
 use Rattle.language.specs.Semantics.{S, Q, follows, noMixed}
 use Rattle.nodes.specs.Held.{heapIn, nodeIn}
 use Rattle.nodes.specs.Postfix.{Node, stepped}
-use Rattle.nodes.specs.Reading.{constantBy, joinedBy, nodeBy, readBy, Reads}
+use Rattle.nodes.specs.Reading.{constantBy, joinedBy, nodeBy, readBy, ReadsNode}
 use Rattle.nodes.specs.Stack.{stackAt}
 use Rattle.nodes.specs.declared.Selector.{Selector}
 use Rattle.nodes.specs.declared.Connective.{Connective}
@@ -154,7 +154,7 @@ module _ (h : Bytes) (places : List ℕ) (q : Bytes) where
   unfolding Evaluates Means
   eval-zero at r e R o = rw (e, stack-zero q) tt
 
-  module _ (at : ℕ) (some-node : at ≡ 0 → ⊥) (read : NodeRead) (u : Reads (heapIn q) (nodeIn q (at - 1)) read) where
+  module _ (at : ℕ) (some-node : at ≡ 0 → ⊥) (read : NodeRead) (u : ReadsNode (heapIn q) (nodeIn q (at - 1)) read) where
     back : suc (at - 1) ≡ at
     back = omega arith
 

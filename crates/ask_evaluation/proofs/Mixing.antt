@@ -1,4 +1,4 @@
--- Mismatches: what a node wants, and that the nodes of a query mix kinds where the query does.
+-- Mismatches: what a node expects, and that the nodes of a query mix kinds where the query does.
 use Prim.Native.Nat.{ℕ, zero, suc, _+_, _≤_}
 use mathlib.Core.Path.{_≡_, refl, sym, ap₂, _∙_}
 use mathlib.Core.Bool.{Bool, true, false, not, _||_, or-true, or-false, or-comm, true≢false}
@@ -20,7 +20,7 @@ use Rattle.language.specs.Semantics.{someOther, mismatch, mismatchIn}
 use Rattle.language.specs.declared.Comparator.{Comparator}
 use Rattle.nodes.specs.Held.{countIn, heapIn, nodeIn}
 use Rattle.nodes.specs.Postfix.{Node, stepped}
-use Rattle.nodes.specs.Reading.{joinedBy, Reads, wantsKind, Tells}
+use Rattle.nodes.specs.Reading.{joinedBy, ReadsNode, expectsKind, TestsNode}
 use Rattle.nodes.specs.Stack.{stackAt}
 use Rattle.nodes.specs.declared.Constant.{Constant}
 use Rattle.nodes.specs.declared.Selector.{Selector}
@@ -29,42 +29,42 @@ use Rattle.nodes.specs.declared.Node.{Node as DeclaredNode}
 use Rattle.nodes.specs.declared.NodeRead.{NodeRead}
 use Rattle.nodes.proofs.Stacks.{stack-zero, stack-suc}
 use Rattle.register_form.specs.Opened.{Opened}
-use Rattle.ask_evaluation.specs.Mixing.{anyTo, wantedIn, mixes, mixesIn, Mixes, SomeMixes, Mismatches}
-use Rattle.ask_evaluation.specs.declared.Wanted.{Wanted}
+use Rattle.ask_evaluation.specs.Mixing.{anyTo, expectedIn, mixes, mixesIn, Mixes, SomeMixes, Mismatches}
+use Rattle.ask_evaluation.specs.declared.Expected.{Expected}
 
--- wanted_by
+-- expected_by
 module _ (k : Connective) (e : k ≡ Connective.Select) (y : Selector) (p : Span) where
-  pub wants-page : y ≡ Selector.Subquery p → Wanted.Kind p Kind.Page ≡ wantedIn k y
-  wants-page f = rw (e, f)
+  pub expects-page : y ≡ Selector.Subquery p → Expected.Kind p Kind.Page ≡ expectedIn k y
+  expects-page f = rw (e, f)
 
   module _ (c : Comparator) (v : Constant) (f : y ≡ Selector.Value p c v) where
-    pub wants-number : (n : ℕ) → v ≡ Constant.Number n → Wanted.Kind p Kind.Number ≡ wantedIn k y
-    wants-number n g = rw (e, f, g)
+    pub expects-number : (n : ℕ) → v ≡ Constant.Number n → Expected.Kind p Kind.Number ≡ expectedIn k y
+    expects-number n g = rw (e, f, g)
 
-    pub wants-boolean : (b : Bool) → v ≡ Constant.Boolean b → Wanted.Kind p Kind.Boolean ≡ wantedIn k y
-    wants-boolean b g = rw (e, f, g)
+    pub expects-boolean : (b : Bool) → v ≡ Constant.Boolean b → Expected.Kind p Kind.Boolean ≡ expectedIn k y
+    expects-boolean b g = rw (e, f, g)
 
-    pub wants-string : (s : Span) → v ≡ Constant.String s → Wanted.Kind p Kind.String ≡ wantedIn k y
-    wants-string s g = rw (e, f, g)
+    pub expects-string : (s : Span) → v ≡ Constant.String s → Expected.Kind p Kind.String ≡ expectedIn k y
+    expects-string s g = rw (e, f, g)
 
-pub ruleset wanting = (wants-page, wants-number, wants-boolean, wants-string)
+pub ruleset expecting = (expects-page, expects-number, expects-boolean, expects-string)
 
--- the kind that is wanted of a property is not that of some page's value
-abbrev otherThan : Register → Bytes → Wanted → Bool
-otherThan R q (Wanted.Kind p k) = someOther R (partOf q p) k
-otherThan R q Wanted.Nothing = false
+-- the kind that is expected of a property is not that of some page's value
+abbrev otherThan : Register → Bytes → Expected → Bool
+otherThan R q (Expected.Kind p k) = someOther R (partOf q p) k
+otherThan R q Expected.Nothing = false
 
-mixes-wanted : (R : Register) (q : Bytes) (k : Connective) (y : Selector) → mixes R (joinedBy q k y) ≡ otherThan R q (wantedIn k y)
-mixes-wanted R q Connective.And y = refl
-mixes-wanted R q Connective.Or y = refl
-mixes-wanted R q Connective.Select (Selector.Category p) = refl
-mixes-wanted R q Connective.Select (Selector.Namespace p) = refl
-mixes-wanted R q Connective.Select (Selector.Existence p) = refl
-mixes-wanted R q Connective.Select (Selector.Subquery p) = refl
-mixes-wanted R q Connective.Select (Selector.Article c p) = refl
-mixes-wanted R q Connective.Select (Selector.Value p c (Constant.Number n)) = refl
-mixes-wanted R q Connective.Select (Selector.Value p c (Constant.Boolean b)) = refl
-mixes-wanted R q Connective.Select (Selector.Value p c (Constant.String s)) = refl
+mixes-expected : (R : Register) (q : Bytes) (k : Connective) (y : Selector) → mixes R (joinedBy q k y) ≡ otherThan R q (expectedIn k y)
+mixes-expected R q Connective.And y = refl
+mixes-expected R q Connective.Or y = refl
+mixes-expected R q Connective.Select (Selector.Category p) = refl
+mixes-expected R q Connective.Select (Selector.Namespace p) = refl
+mixes-expected R q Connective.Select (Selector.Existence p) = refl
+mixes-expected R q Connective.Select (Selector.Subquery p) = refl
+mixes-expected R q Connective.Select (Selector.Article c p) = refl
+mixes-expected R q Connective.Select (Selector.Value p c (Constant.Number n)) = refl
+mixes-expected R q Connective.Select (Selector.Value p c (Constant.Boolean b)) = refl
+mixes-expected R q Connective.Select (Selector.Value p c (Constant.String s)) = refl
 
 -- some node so far mixes kinds where some query on the stack has a mismatch
 module _ (R : Register) where
@@ -125,8 +125,8 @@ module _ (R : Register) where
       go (some k) none f g = cc
       go (some k) (some m) f g = rw (f k refl) (sym (step-mixes m k st g))
 
--- a node that wants no kind mixes none
-mixes-quiet : (R : Register) (m : Node) → wantsKind m ≡ false → mixes R m ≡ false
+-- a node that expects no kind mixes none
+mixes-quiet : (R : Register) (m : Node) → expectsKind m ≡ false → mixes R m ≡ false
 mixes-quiet R Node.conjunction e = refl
 mixes-quiet R Node.disjunction e = refl
 mixes-quiet R (Node.category x) e = refl
@@ -138,29 +138,29 @@ mixes-quiet R (Node.value x c v) e = absurd (true≢false e)
 
 module _ (h q : Bytes) where
   -- mixes_at
-  pub mixes-plain : (i : ℕ) (b : Bool) → Tells wantsKind (nodeIn q i) b → not b ≡ true → Mixes h q i false
-  unfolding Mixes mixesIn Tells
+  pub mixes-plain : (i : ℕ) (b : Bool) → TestsNode expectsKind (nodeIn q i) b → not b ≡ true → Mixes h q i false
+  unfolding Mixes mixesIn TestsNode
   mixes-plain i b f e places R o = go (nodeIn q i) f
     where
-      go : (o : Option Node) → ((m : Node) → o ≡ some m → b ≡ wantsKind m) → false ≡ found o (mixes R) false
+      go : (o : Option Node) → ((m : Node) → o ≡ some m → b ≡ expectsKind m) → false ≡ found o (mixes R) false
       go none f = refl
       go (some m) f = sym (mixes-quiet R m (sym (f m refl) ∙ not-true b e))
 
-  module _ (i : ℕ) (read : NodeRead) (u : Reads (heapIn q) (nodeIn q i) read) where
+  module _ (i : ℕ) (read : NodeRead) (u : ReadsNode (heapIn q) (nodeIn q i) read) where
     pub mixes-unread : read ≡ NodeRead.Nothing → Mixes h q i false
     unfolding Mixes mixesIn
     mixes-unread e places R o = rw (u .is, e)
 
-    module _ (node : DeclaredNode) (e : read ≡ NodeRead.Is node) (w : Wanted) (f : w ≡ wantedIn (node .connective) (node .selector)) where
+    module _ (node : DeclaredNode) (e : read ≡ NodeRead.Is node) (w : Expected) (f : w ≡ expectedIn (node .connective) (node .selector)) where
       mixes-is : (R : Register) → otherThan R (heapIn q) w ≡ mixesIn R q i
       unfolding mixesIn
-      mixes-is R = rw (u .is, e, f) (sym (mixes-wanted R (heapIn q) (node .connective) (node .selector)))
+      mixes-is R = rw (u .is, e, f) (sym (mixes-expected R (heapIn q) (node .connective) (node .selector)))
 
-      pub mixes-none : w ≡ Wanted.Nothing → Mixes h q i false
+      pub mixes-none : w ≡ Expected.Nothing → Mixes h q i false
       unfolding Mixes
       mixes-none g places R o = rw (← mixes-is R, g)
 
-      pub mixes-kind : (p : Span) (kind : Kind) (t x : Bytes) (r : Bool) → w ≡ Wanted.Kind p kind → t ≡ heapIn q → x ≡ partOf t p
+      pub mixes-kind : (p : Span) (kind : Kind) (t x : Bytes) (r : Bool) → w ≡ Expected.Kind p kind → t ≡ heapIn q → x ≡ partOf t p
           → ((places : List ℕ) (R : Register) → Opened h places R → r ≡ someOther R x kind) → Mixes h q i r
       unfolding Mixes
       mixes-kind p kind t x r g k l f places R o =

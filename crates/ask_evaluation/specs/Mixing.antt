@@ -12,35 +12,35 @@ use Rattle.language.specs.Register.{Register}
 use Rattle.language.specs.Semantics.{someOther, mismatch}
 use Rattle.nodes.specs.Held.{nodeIn}
 use Rattle.nodes.specs.Postfix.{Node}
-use Rattle.nodes.specs.Stack.{Holds}
+use Rattle.nodes.specs.Stack.{HoldsCore}
 use Rattle.nodes.specs.declared.Constant.{Constant}
 use Rattle.nodes.specs.declared.Selector.{Selector}
 use Rattle.nodes.specs.declared.Connective.{Connective}
 use Rattle.register_form.specs.Opened.{Opened}
-use Rattle.ask_evaluation.specs.declared.Wanted.{Wanted}
+use Rattle.ask_evaluation.specs.declared.Expected.{Expected}
 
 -- The test holds of some number below n.
 unfoldable pub anyTo : ℕ → (ℕ → Bool) → Bool
 anyTo zero g = false
 anyTo (suc n) g = anyTo n g || g n
 
--- The kind that a node wants of the values under a property.
-abbrev pub wantedBy : Selector → Wanted
-wantedBy (Selector.Category p) = Wanted.Nothing
-wantedBy (Selector.Namespace p) = Wanted.Nothing
-wantedBy (Selector.Existence p) = Wanted.Nothing
-wantedBy (Selector.Subquery p) = Wanted.Kind p Kind.Page
-wantedBy (Selector.Article c p) = Wanted.Nothing
-wantedBy (Selector.Value p c (Constant.Number n)) = Wanted.Kind p Kind.Number
-wantedBy (Selector.Value p c (Constant.Boolean b)) = Wanted.Kind p Kind.Boolean
-wantedBy (Selector.Value p c (Constant.String t)) = Wanted.Kind p Kind.String
+-- The kind that a node expects of the values under a property.
+abbrev pub wantedBy : Selector → Expected
+wantedBy (Selector.Category p) = Expected.Nothing
+wantedBy (Selector.Namespace p) = Expected.Nothing
+wantedBy (Selector.Existence p) = Expected.Nothing
+wantedBy (Selector.Subquery p) = Expected.Kind p Kind.Page
+wantedBy (Selector.Article c p) = Expected.Nothing
+wantedBy (Selector.Value p c (Constant.Number n)) = Expected.Kind p Kind.Number
+wantedBy (Selector.Value p c (Constant.Boolean b)) = Expected.Kind p Kind.Boolean
+wantedBy (Selector.Value p c (Constant.String t)) = Expected.Kind p Kind.String
 
-abbrev pub wantedIn : Connective → Selector → Wanted
-wantedIn Connective.And y = Wanted.Nothing
-wantedIn Connective.Or y = Wanted.Nothing
-wantedIn Connective.Select y = wantedBy y
+abbrev pub expectedIn : Connective → Selector → Expected
+expectedIn Connective.And y = Expected.Nothing
+expectedIn Connective.Or y = Expected.Nothing
+expectedIn Connective.Select y = wantedBy y
 
--- Some page holds a value of another kind than the node wants.
+-- Some page holds a value of another kind than the node expects.
 abbrev pub mixes : Register → Node → Bool
 mixes R Node.conjunction = false
 mixes R Node.disjunction = false
@@ -62,4 +62,4 @@ unfoldable pub SomeMixes : Bytes → Bytes → ℕ → Bool → Type 0
 SomeMixes h q i r = (places : List ℕ) (R : Register) → Opened h places R → r ≡ anyTo i (mixesIn R q)
 
 unfoldable pub Mismatches : Bytes → Bytes → Bool → Type 0
-Mismatches h q r = (places : List ℕ) (R : Register) → Opened h places R → (c : Core) → Holds q c → r ≡ mismatch c R
+Mismatches h q r = (places : List ℕ) (R : Register) → Opened h places R → (c : Core) → HoldsCore q c → r ≡ mismatch c R

@@ -30,8 +30,8 @@ pub struct Evaluated {
     pub next: usize,
 }
 
-// The kind that is wanted of the values under a property, or none.
-pub enum Wanted {
+// The kind that is expected of the values under a property, or none.
+pub enum Expected {
     Kind(Span, Kind),
     Nothing,
 }

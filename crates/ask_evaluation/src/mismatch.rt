@@ -2,8 +2,8 @@
 ghost use mathlib.Core.Path.{_≡_};
 ghost use mathlib.Core.Bool.{Bool};
 ghost use Rattle.language.specs.Semantics.{mismatch};
-ghost use Rattle.ask_evaluation.specs.Mixing.{wantedIn, Mixes, Mismatches};
-use crate::Wanted;
+ghost use Rattle.ask_evaluation.specs.Mixing.{expectedIn, Mixes, Mismatches};
+use crate::Expected;
 use crate::query_heap;
 use buffer::two_at;
 use nodes::Connective;
@@ -11,50 +11,50 @@ use nodes::Constant;
 use nodes::Node;
 use nodes::NodeRead;
 use nodes::Selector;
+use nodes::expects_kind_at;
 use nodes::node_at;
-use nodes::wants_at;
 use register_view::other_kind;
 use tables::widen;
 use text::part;
 use values::Kind;
 
-// The kind that a node wants of the values under a property.
-fn wanted_by(node: Node) -> Wanted
-    ensures { λ r. ⌜ r ≡ wantedIn (node .connective) (node .selector) ⌝ }
+// The kind that a node expects of the values under a property.
+fn expected_by(node: Node) -> Expected
+    ensures { λ r. ⌜ r ≡ expectedIn (node .connective) (node .selector) ⌝ }
 {
     let connective = node.connective;
     let selector = node.selector;
     match connective {
-        Connective::And => Wanted::Nothing,
-        Connective::Or => Wanted::Nothing,
+        Connective::And => Expected::Nothing,
+        Connective::Or => Expected::Nothing,
         Connective::Select => match selector {
-            Selector::Category(_) => Wanted::Nothing,
-            Selector::Namespace(_) => Wanted::Nothing,
-            Selector::Existence(_) => Wanted::Nothing,
-            Selector::Subquery(p) => Wanted::Kind(p, Kind::Page),
-            Selector::Article(_, _) => Wanted::Nothing,
+            Selector::Category(_) => Expected::Nothing,
+            Selector::Namespace(_) => Expected::Nothing,
+            Selector::Existence(_) => Expected::Nothing,
+            Selector::Subquery(p) => Expected::Kind(p, Kind::Page),
+            Selector::Article(_, _) => Expected::Nothing,
             Selector::Value(p, _, v) => match v {
-                Constant::Number(_) => Wanted::Kind(p, Kind::Number),
-                Constant::Boolean(_) => Wanted::Kind(p, Kind::Boolean),
-                Constant::String(_) => Wanted::Kind(p, Kind::String),
+                Constant::Number(_) => Expected::Kind(p, Kind::Number),
+                Constant::Boolean(_) => Expected::Kind(p, Kind::Boolean),
+                Constant::String(_) => Expected::Kind(p, Kind::String),
             },
         },
     }
 }
 
-// Whether some page holds a value of another kind than the node in a place wants.
+// Whether some page holds a value of another kind than the node in a place expects.
 fn mixes_at(q: &[u8], i: usize, h: &[u8]) -> bool
     ensures { λ r. ⌜ Mixes (now (h .entry)) (now (q .entry)) i r ⌝ }
 {
-    if !wants_at(q, i) {
+    if !expects_kind_at(q, i) {
         return false;
     }
     let read = node_at(q, i);
     let NodeRead::Is(node) = read else {
         return false;
     };
-    let wanted = wanted_by(node);
-    let Wanted::Kind(p, kind) = wanted else {
+    let expected = expected_by(node);
+    let Expected::Kind(p, kind) = expected else {
         return false;
     };
     other_kind(h, part(query_heap(q), p.start, p.len), kind)

@@ -17,7 +17,7 @@ use Rattle.language.specs.Core.{Core}
 use Rattle.language.proofs.Members.{and-true}
 use Rattle.nodes.specs.Held.{querySize, heapIn, countIn, slot, slotIn, slotFrom, nodeIn, nodesTo, hasSizes, heldQuery}
 use Rattle.nodes.specs.Postfix.{readBack}
-use Rattle.nodes.specs.Stack.{Holds}
+use Rattle.nodes.specs.Stack.{HoldsCore}
 use Rattle.nodes.proofs.Stacks.{held-holds}
 
 module _ (h z : Bytes) (long : querySize ≤ length h) where
@@ -58,7 +58,7 @@ pub query-255 : (n : ℕ) (q : Core) → heldQuery (replicate n 255) ≡ some q 
 unfolding twoAt
 query-255 n q e = omega (arith, held .few, count)
   where
-    held : Holds (replicate n 255) q
+    held : HoldsCore (replicate n 255) q
     held = held-holds (replicate n 255) q e
 
     long : querySize ≤ n

@@ -17,7 +17,7 @@ use Rattle.language.specs.RegisterText.{Entry}
 use Rattle.entries.specs.declared.Tag.{Tag}
 use Rattle.entries.specs.declared.Item.{Item}
 use Rattle.entries.specs.Items.{entryBy, entryIn}
-use Rattle.entries.specs.Table.{codeOf, tagFrom, kindFrom, entryFrom, entryAt, entriesIn, row, withRow}
+use Rattle.entries.specs.Table.{entryCode, tagFrom, kindFrom, entryFrom, entryAt, entriesIn, row, withRow}
 
 -- Codes.
 module _ (c : ℕ) where
@@ -59,7 +59,7 @@ module _ (c : ℕ) where
 
 pub ruleset codes = (tag-prop, tag-page, tag-cat, tag-val, tag-close, kind-number, kind-boolean, kind-string, kind-page)
 
-pub code-back : (t : Tag) (k : Kind) (a b : Bytes) → entryFrom (codeOf t k % 65536) a b ≡ entryBy t k a b
+pub code-back : (t : Tag) (k : Kind) (a b : Bytes) → entryFrom (entryCode t k % 65536) a b ≡ entryBy t k a b
 unfolding entryFrom tagFrom kindFrom
 code-back Tag.Prop Kind.Page a b = refl
 code-back Tag.Prop Kind.Number a b = refl

@@ -18,8 +18,8 @@ use Rattle.language.proofs.Options.{OnSome}
 use Rattle.language.proofs.Entries.{owed, Six, six-next, entries-end, entries-line, entries-inner, withRest}
 use Rattle.entries.specs.declared.Item.{Item}
 use Rattle.entries.specs.declared.Rows.{Rows}
-use Rattle.entries.specs.Items.{placeOf, isBroken, entryIn, Reads}
-use Rattle.entries.specs.Table.{entriesIn, withRow, rowsOf, Holds, Filled}
+use Rattle.entries.specs.Items.{placeOf, isBroken, entryIn, ReadsEntry}
+use Rattle.entries.specs.Table.{entriesIn, withRow, rowsOf, HoldsEntries, Filled}
 use Rattle.entries.proofs.Ways.{is-read, is-none}
 use Rattle.entries.proofs.Cells.{row-size, rows-more}
 use Rattle.entries.proofs.Counting.{Few, few}
@@ -47,7 +47,7 @@ going-start s t =
     record { past = []; ahead = map-all (entries s); count = refl; held = λ h k. refl; size = refl; left = omega arith }
 
 module _ (s : Bytes) (t u : List ℕ) (at n : ℕ) (inside : Bool) (g : Going s t u at n inside) where
-  module _ (more : (inside || ltb at (length s)) ≡ true) (x : Item) (k : Reads s (nextEntry (placeOf inside) (drop at s)) x) (r : Bool) (p : r ≡ isBroken (x .tag)) where
+  module _ (more : (inside || ltb at (length s)) ≡ true) (x : Item) (k : ReadsEntry s (nextEntry (placeOf inside) (drop at s)) x) (r : Bool) (p : r ≡ isBroken (x .tag)) where
     step : entriesFrom (placeOf inside) (drop at s) ≡ (nextEntry (placeOf inside) (drop at s) >>= withRest entriesFrom)
     step = go inside more
       where
@@ -110,7 +110,7 @@ module _ (s : Bytes) (t u : List ℕ) (r : Rows) (f : Filled s t u r) where
       go (some l) h = absurd (true≢false (ap (λ x. x .ok) (sym h) ∙ e))
 
   module _ (e : r .ok ≡ true) (short : length s ≤ 32768) where
-    whole : (o : Option (List Entry)) → r ≡ rowsOf o → Holds s u o → OnSome (Few line s) o → (r .count ≤ 5500) × (27500 ≤ length t → o ≡ some (entriesIn s u (r .count)))
+    whole : (o : Option (List Entry)) → r ≡ rowsOf o → HoldsEntries s u o → OnSome (Few line s) o → (r .count ≤ 5500) × (27500 ≤ length t → o ≡ some (entriesIn s u (r .count)))
     whole none h k m = absurd (true≢false (sym e ∙ ap (λ x. x .ok) h))
     whole (some l) h k m =
         let c : r .count ≡ length l = ap (λ x. x .count) h in

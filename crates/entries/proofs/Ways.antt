@@ -24,7 +24,7 @@ use Rattle.entries.specs.declared.Quoted.{Quoted}
 use Rattle.entries.specs.declared.KindFound.{KindFound}
 use Rattle.entries.specs.declared.Tag.{Tag}
 use Rattle.entries.specs.declared.Item.{Item}
-use Rattle.entries.specs.Items.{Finds, quotedIn, Quotes, framed, kindIn, placeOf, isBroken, readBy, Reads, nowhere, brokenItem}
+use Rattle.entries.specs.Items.{Finds, quotedIn, Quotes, framed, kindIn, placeOf, isBroken, readBy, ReadsEntry, nowhere, brokenItem}
 
 -- A word.
 module _ (s w : Bytes) (at : ℕ) (b : Bool) (p : b ≡ starts w (drop at s)) where
@@ -123,7 +123,7 @@ pub ruleset kinds = (kind-absent, kind-found)
 
 -- The forms. Where a part is missing, the answer is a broken item.
 abbrev pub Stops : Bytes → Option Read → Type 0
-Stops s o = (x : Item) → x ≡ brokenItem → Reads s o x
+Stops s o = (x : Item) → x ≡ brokenItem → ReadsEntry s o x
 
 stops : (s : Bytes) (o : Option Read) → o ≡ none → Stops s o
 unfolding brokenItem
@@ -167,7 +167,7 @@ module _ (s : Bytes) (at : ℕ) (q : Quoted) where
         pub prop-3 : f ≡ Found.Nothing → Stops s (propForm (drop at s))
         prop-3 h = stops s _ (rw (prop-is, e, ← p₂, e₂, ← p₃ .is, h))
 
-        pub prop-4 : (n : ℕ) → f ≡ Found.At n → Reads s (propForm (drop at s)) (record { tag = Tag.Prop; kind = k; first = x; second = x; inner = false; next = n })
+        pub prop-4 : (n : ℕ) → f ≡ Found.At n → ReadsEntry s (propForm (drop at s)) (record { tag = Tag.Prop; kind = k; first = x; second = x; inner = false; next = n })
         prop-4 n h =
             let l : Within s x = rw e at (p .within) in
             record { is = rw (prop-is, e, ← p₂, e₂, ← p₃ .is, h); first = l; second = l }
@@ -184,7 +184,7 @@ module _ (s : Bytes) (at : ℕ) (q : Quoted) where
       pub page-2 : r ≡ Quoted.Nothing → Stops s (pageForm (drop at s))
       page-2 h = stops s _ (rw (page-is, e, ← p₂ .is, h))
 
-      pub page-3 : (y : Span) (n : ℕ) → r ≡ Quoted.Text y n → Reads s (pageForm (drop at s)) (record { tag = Tag.Page; kind = Kind.Page; first = x; second = y; inner = true; next = n })
+      pub page-3 : (y : Span) (n : ℕ) → r ≡ Quoted.Text y n → ReadsEntry s (pageForm (drop at s)) (record { tag = Tag.Page; kind = Kind.Page; first = x; second = y; inner = true; next = n })
       page-3 y n h = record { is = rw (page-is, e, ← p₂ .is, h); first = rw e at (p .within); second = rw h at (p₂ .within) }
 
   module _ (p : Quotes s (framed (bytes " (cat ") (bytes ")") (drop at s)) q) where
@@ -195,7 +195,7 @@ module _ (s : Bytes) (at : ℕ) (q : Quoted) where
     pub cat-1 : q ≡ Quoted.Nothing → Stops s (catForm (drop at s))
     cat-1 h = stops s _ (rw (cat-is, h))
 
-    pub cat-2 : (x : Span) (n : ℕ) → q ≡ Quoted.Text x n → Reads s (catForm (drop at s)) (record { tag = Tag.Cat; kind = Kind.Page; first = x; second = x; inner = true; next = n })
+    pub cat-2 : (x : Span) (n : ℕ) → q ≡ Quoted.Text x n → ReadsEntry s (catForm (drop at s)) (record { tag = Tag.Cat; kind = Kind.Page; first = x; second = x; inner = true; next = n })
     cat-2 x n h =
         let l : Within s x = rw h at (p .within) in
         record { is = rw (cat-is, h); first = l; second = l }
@@ -216,7 +216,7 @@ module _ (s : Bytes) (at : ℕ) (q : Quoted) where
         pub val-3 : f ≡ Found.Nothing → Stops s (valForm (drop at s))
         val-3 h = stops s _ (rw (val-is, e, ← p₂ .is, e₂, ← p₃ .is, h))
 
-        pub val-4 : (n : ℕ) → f ≡ Found.At n → Reads s (valForm (drop at s)) (record { tag = Tag.Val; kind = Kind.Page; first = x; second = y; inner = true; next = n })
+        pub val-4 : (n : ℕ) → f ≡ Found.At n → ReadsEntry s (valForm (drop at s)) (record { tag = Tag.Val; kind = Kind.Page; first = x; second = y; inner = true; next = n })
         val-4 n h =
             record { is = rw (val-is, e, ← p₂ .is, e₂, ← p₃ .is, h); first = rw e at (p .within); second = rw e₂ at (p₂ .within) }
 
@@ -225,7 +225,7 @@ module _ (s : Bytes) (at : ℕ) (f : Found) (p : Finds s at (bytes ")\n") f) whe
   unfolding closing
   close-1 h = stops s (closing (drop at s)) (rw (← p .is, h))
 
-  pub close-2 : (n : ℕ) → f ≡ Found.At n → Reads s (closing (drop at s)) (record { tag = Tag.Close; kind = Kind.Page; first = nowhere; second = nowhere; inner = false; next = n })
+  pub close-2 : (n : ℕ) → f ≡ Found.At n → ReadsEntry s (closing (drop at s)) (record { tag = Tag.Close; kind = Kind.Page; first = nowhere; second = nowhere; inner = false; next = n })
   unfolding closing
   close-2 n h = record { is = rw (← p .is, h); first = omega arith; second = omega arith }
 
@@ -248,33 +248,33 @@ is-none Tag.Val r e = absurd (false≢true e)
 is-none Tag.Close r e = absurd (false≢true e)
 is-none Tag.Broken r e = refl
 
-module _ (s : Bytes) (a b : Option Read) (x : Item) (k : Reads s a x) (r : Bool) (p : r ≡ isBroken (x .tag)) where
-  first-stands : not r ≡ true → Reads s (found a some b) x
+module _ (s : Bytes) (a b : Option Read) (x : Item) (k : ReadsEntry s a x) (r : Bool) (p : r ≡ isBroken (x .tag)) where
+  first-stands : not r ≡ true → ReadsEntry s (found a some b) x
   first-stands h = record { is = rw (← k .is, is-read (x .tag) _ (sym p ∙ not-true r h)); first = k .first; second = k .second }
 
-  first-broken : not r ≡ false → (y : Item) → Reads s b y → Reads s (found a some b) y
+  first-broken : not r ≡ false → (y : Item) → ReadsEntry s b y → ReadsEntry s (found a some b) y
   first-broken h y l = rw (← k .is, is-none (x .tag) _ (sym p ∙ not-false r h)) l
 
 module _ (s : Bytes) (at : ℕ) (t : Bool) where
-  module _ (e : t ≡ true) (x : Item) (k : Reads s (catForm (drop at s)) x) (r : Bool) (p : r ≡ isBroken (x .tag)) where
-    pub next-cat : not r ≡ true → Reads s (nextEntry (placeOf t) (drop at s)) x
+  module _ (e : t ≡ true) (x : Item) (k : ReadsEntry s (catForm (drop at s)) x) (r : Bool) (p : r ≡ isBroken (x .tag)) where
+    pub next-cat : not r ≡ true → ReadsEntry s (nextEntry (placeOf t) (drop at s)) x
     unfolding nextEntry
     next-cat h = rw e (first-stands s _ _ x k r p h)
 
-    module _ (l : not r ≡ false) (y : Item) (k₂ : Reads s (valForm (drop at s)) y) (q : Bool) (p₂ : q ≡ isBroken (y .tag)) where
-      pub next-val : not q ≡ true → Reads s (nextEntry (placeOf t) (drop at s)) y
+    module _ (l : not r ≡ false) (y : Item) (k₂ : ReadsEntry s (valForm (drop at s)) y) (q : Bool) (p₂ : q ≡ isBroken (y .tag)) where
+      pub next-val : not q ≡ true → ReadsEntry s (nextEntry (placeOf t) (drop at s)) y
       unfolding nextEntry
       next-val h = rw e (first-broken s _ _ x k r p l y (first-stands s _ _ y k₂ q p₂ h))
 
-      pub next-close : not q ≡ false → (z : Item) → Reads s (closing (drop at s)) z → Reads s (nextEntry (placeOf t) (drop at s)) z
+      pub next-close : not q ≡ false → (z : Item) → ReadsEntry s (closing (drop at s)) z → ReadsEntry s (nextEntry (placeOf t) (drop at s)) z
       unfolding nextEntry
       next-close h z k₃ = rw e (first-broken s _ _ x k r p l z (first-broken s _ _ y k₂ q p₂ h z k₃))
 
-  module _ (e : t ≡ false) (x : Item) (k : Reads s (propForm (drop at s)) x) (r : Bool) (p : r ≡ isBroken (x .tag)) where
-    pub next-prop : not r ≡ true → Reads s (nextEntry (placeOf t) (drop at s)) x
+  module _ (e : t ≡ false) (x : Item) (k : ReadsEntry s (propForm (drop at s)) x) (r : Bool) (p : r ≡ isBroken (x .tag)) where
+    pub next-prop : not r ≡ true → ReadsEntry s (nextEntry (placeOf t) (drop at s)) x
     unfolding nextEntry
     next-prop h = rw e (first-stands s _ _ x k r p h)
 
-    pub next-page : not r ≡ false → (y : Item) → Reads s (pageForm (drop at s)) y → Reads s (nextEntry (placeOf t) (drop at s)) y
+    pub next-page : not r ≡ false → (y : Item) → ReadsEntry s (pageForm (drop at s)) y → ReadsEntry s (nextEntry (placeOf t) (drop at s)) y
     unfolding nextEntry
     next-page h y l = rw e (first-broken s _ _ x k r p h y l)

@@ -93,7 +93,7 @@ abbrev pub readIn : Bytes → Item → Option Read
 readIn s i = readBy (i .tag) (record { entry = entryIn s i; place = placeOf (i .inner); rest = drop (i .next) s })
 
 -- What reading an entry answers, where o is what the definition reads.
-pub record Reads (s : Bytes) (o : Option Read) (r : Item) : Type 0 where
+pub record ReadsEntry (s : Bytes) (o : Option Read) (r : Item) : Type 0 where
   pub is : readIn s r ≡ o
   pub first : Within s (r .first)
   pub second : Within s (r .second)

@@ -18,16 +18,16 @@ use Rattle.entries.specs.declared.Item.{Item}
 use Rattle.entries.specs.declared.Rows.{Rows}
 
 -- The code of an entry: 0 to 3 a property of one of the kinds, 4 a page, 5 a cat form, 6 a val form, 7 the end of a page.
-abbrev pub codeOf : Tag → Kind → ℕ
-codeOf Tag.Prop Kind.Page = 0
-codeOf Tag.Prop Kind.Number = 1
-codeOf Tag.Prop Kind.Boolean = 2
-codeOf Tag.Prop Kind.String = 3
-codeOf Tag.Page k = 4
-codeOf Tag.Cat k = 5
-codeOf Tag.Val k = 6
-codeOf Tag.Close k = 7
-codeOf Tag.Broken k = 7
+abbrev pub entryCode : Tag → Kind → ℕ
+entryCode Tag.Prop Kind.Page = 0
+entryCode Tag.Prop Kind.Number = 1
+entryCode Tag.Prop Kind.Boolean = 2
+entryCode Tag.Prop Kind.String = 3
+entryCode Tag.Page k = 4
+entryCode Tag.Cat k = 5
+entryCode Tag.Val k = 6
+entryCode Tag.Close k = 7
+entryCode Tag.Broken k = 7
 
 unfoldable pub tagFrom : ℕ → Tag
 tagFrom c =
@@ -52,7 +52,7 @@ entriesIn s t n = tabulate n (entryAt s t)
 -- The five numbers of an item, each in two bytes.
 abbrev pub row : Item → List ℕ
 row i =
-    map (λ v. v % 65536) (codeOf (i .tag) (i .kind) ∷ i .first .start ∷ i .first .len ∷ i .second .start ∷ i .second .len ∷ [])
+    map (λ v. v % 65536) (entryCode (i .tag) (i .kind) ∷ i .first .start ∷ i .first .len ∷ i .second .start ∷ i .second .len ∷ [])
 
 -- The table with an item in row n, as far as there is room.
 unfoldable pub withRow : List ℕ → ℕ → Item → List ℕ
@@ -64,12 +64,12 @@ rowsOf none = record { ok = false; count = 0 }
 rowsOf (some l) = record { ok = true; count = length l }
 
 -- The table holds the entries, where the text is short and there is room for them.
-abbrev pub Holds : Bytes → List ℕ → Option (List Entry) → Type 0
-Holds s t none = Unit {0}
-Holds s t (some l) = length s ≤ 65535 → 5 * length l ≤ length t → entriesIn s t (length l) ≡ l
+abbrev pub HoldsEntries : Bytes → List ℕ → Option (List Entry) → Type 0
+HoldsEntries s t none = Unit {0}
+HoldsEntries s t (some l) = length s ≤ 65535 → 5 * length l ≤ length t → entriesIn s t (length l) ≡ l
 
 -- What reading a whole text does: t is the table as it was, u as it is then.
 pub record Filled (s : Bytes) (t u : List ℕ) (r : Rows) : Type 0 where
   pub is : r ≡ rowsOf (entries s)
-  pub rows : Holds s u (entries s)
+  pub rows : HoldsEntries s u (entries s)
   pub size : length u ≡ length t

@@ -3,7 +3,7 @@ ghost use mathlib.Core.Path.{_≡_};
 ghost use lib.ListN.{length, drop};
 ghost use Rattle.values.specs.Values.{kindWord};
 ghost use Rattle.language.specs.RegisterText.{quoted, kindWordAt, propForm, pageForm, catForm, valForm, closing, nextEntry};
-ghost use Rattle.entries.specs.Items.{Finds, Quotes, framed, kindIn, placeOf, brokenItem, Reads};
+ghost use Rattle.entries.specs.Items.{Finds, Quotes, framed, kindIn, placeOf, brokenItem, ReadsEntry};
 use super::Found;
 use super::Item;
 use super::KindFound;
@@ -107,7 +107,7 @@ pub fn broken() -> Item
 
 // A property line at a place.
 pub fn prop_form(s: &[u8], at: usize) -> Item
-    ensures { λ r. ⌜ Reads (now (s .entry)) (propForm (drop at (now (s .entry)))) r ⌝ }
+    ensures { λ r. ⌜ ReadsEntry (now (s .entry)) (propForm (drop at (now (s .entry)))) r ⌝ }
 {
     let Quoted::Text(first, a) = framed_at(s, at, b"(prop ", b" ") else {
         return broken();
@@ -130,7 +130,7 @@ pub fn prop_form(s: &[u8], at: usize) -> Item
 
 // The head of a page form at a place.
 pub fn page_form(s: &[u8], at: usize) -> Item
-    ensures { λ r. ⌜ Reads (now (s .entry)) (pageForm (drop at (now (s .entry)))) r ⌝ }
+    ensures { λ r. ⌜ ReadsEntry (now (s .entry)) (pageForm (drop at (now (s .entry)))) r ⌝ }
 {
     let Quoted::Text(first, a) = framed_at(s, at, b"(page ", b" ") else {
         return broken();
@@ -150,7 +150,7 @@ pub fn page_form(s: &[u8], at: usize) -> Item
 
 // A cat form at a place.
 pub fn cat_form(s: &[u8], at: usize) -> Item
-    ensures { λ r. ⌜ Reads (now (s .entry)) (catForm (drop at (now (s .entry)))) r ⌝ }
+    ensures { λ r. ⌜ ReadsEntry (now (s .entry)) (catForm (drop at (now (s .entry)))) r ⌝ }
 {
     let Quoted::Text(first, next) = framed_at(s, at, b" (cat ", b")") else {
         return broken();
@@ -167,7 +167,7 @@ pub fn cat_form(s: &[u8], at: usize) -> Item
 
 // A val form at a place.
 pub fn val_form(s: &[u8], at: usize) -> Item
-    ensures { λ r. ⌜ Reads (now (s .entry)) (valForm (drop at (now (s .entry)))) r ⌝ }
+    ensures { λ r. ⌜ ReadsEntry (now (s .entry)) (valForm (drop at (now (s .entry)))) r ⌝ }
 {
     let Quoted::Text(first, a) = framed_at(s, at, b" (val ", b" ") else {
         return broken();
@@ -190,7 +190,7 @@ pub fn val_form(s: &[u8], at: usize) -> Item
 
 // The end of a page form at a place.
 pub fn closing_form(s: &[u8], at: usize) -> Item
-    ensures { λ r. ⌜ Reads (now (s .entry)) (closing (drop at (now (s .entry)))) r ⌝ }
+    ensures { λ r. ⌜ ReadsEntry (now (s .entry)) (closing (drop at (now (s .entry)))) r ⌝ }
 {
     let Found::At(next) = after_word(s, at, b")\n") else {
         return broken();
@@ -208,7 +208,7 @@ pub fn closing_form(s: &[u8], at: usize) -> Item
 
 // The entry at a place, at the start of a line or inside a page form.
 pub fn next_entry(s: &[u8], at: usize, inner: bool) -> Item
-    ensures { λ r. ⌜ Reads (now (s .entry)) (nextEntry (placeOf inner) (drop at (now (s .entry)))) r ⌝ }
+    ensures { λ r. ⌜ ReadsEntry (now (s .entry)) (nextEntry (placeOf inner) (drop at (now (s .entry)))) r ⌝ }
 {
     if inner {
         let cat = cat_form(s, at);

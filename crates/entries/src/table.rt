@@ -5,7 +5,7 @@ ghost use lib.ListN.{getD, set};
 ghost use Rattle.text.specs.Bytes.{Bytes};
 ghost use Rattle.text.specs.Parts.{partOf};
 ghost use Rattle.entries.specs.Items.{entryIn};
-ghost use Rattle.entries.specs.Table.{codeOf, tagFrom, kindFrom, entryFrom, entryAt, withRow};
+ghost use Rattle.entries.specs.Table.{entryCode, tagFrom, kindFrom, entryFrom, entryAt, withRow};
 use super::Item;
 use super::Tag;
 use tables::narrow;
@@ -22,7 +22,7 @@ pub fn put(t: &mut [u16], at: usize, v: usize)
 
 // The code of an entry.
 pub fn code_of(tag: Tag, kind: Kind) -> usize
-    ensures { λ r. ⌜ r ≡ codeOf tag kind ⌝ }
+    ensures { λ r. ⌜ r ≡ entryCode tag kind ⌝ }
 {
     match tag {
         Tag::Prop => match kind {

@@ -19,7 +19,7 @@ use Rattle.language.specs.Elaboration.{compared, elaborateReference, ela
 use Rattle.language.specs.Semantics.{Ca, Cv, follows, Q, someOther, mismatch, run}
 use Rattle.language.specs.Direct.{namespaceMeant, meansReference, meansIdentifiers, meansCategories, standsTo, meansValue, meansChain, means, meaning}
 use Rattle.language.specs.Calls.{coreOf, runText}
-use Rattle.language.specs.Sample.{sampleText, Case, cases, marksAt, coreAnswer, directAnswer, Holds}
+use Rattle.language.specs.Sample.{sampleText, Case, cases, marksAt, coreAnswer, directAnswer, CaseHolds}
 use Rattle.language.proofs.Members.{and-true, all-at}
 
 -- two lists of marks, and an answer beside marks, compared by a test that computes
@@ -60,7 +60,7 @@ unfolding holdsTest answers sameMarks coreAnswer directAnswer marksAt cases samp
 claim = refl
 
 -- The law that turns the claim into each entry.
-pub each : (c : Case) → List·Memᴰ c cases → Holds c
+pub each : (c : Case) → List·Memᴰ c cases → CaseHolds c
 unfolding holdsTest
 each c m =
     let t = and-true (answers (coreAnswer (c .query)) (marksAt 6 (c .places))) (answers (directAnswer (c .query)) (marksAt 6 (c .places))) (all-at holdsTest claim m) in

@@ -67,6 +67,6 @@ unfoldable pub directAnswer : Bytes → Answer (List Bool)
 directAnswer s = andThen (readRegister sampleText) (λ R. accepted (directMarks s R))
 
 -- A case holds: both answers are its places, of 6 pages.
-pub record Holds (c : Case) : Type 0 where
+pub record CaseHolds (c : Case) : Type 0 where
   pub core : coreAnswer (c .query) ≡ accepted (marksAt 6 (c .places))
   pub direct : directAnswer (c .query) ≡ accepted (marksAt 6 (c .places))

@@ -28,7 +28,7 @@ use Rattle.language.proofs.Members.{and-true}
 use Rattle.nodes.specs.declared.Slot.{Slot}
 use Rattle.nodes.specs.Postfix.{Node, post}
 use Rattle.nodes.specs.Held.{querySize, countIn, slot, heapIn, slotFrom, comparatorFrom, numberFrom, constantFrom, constantOf, nodeFrom, nodeOf, slotIn, nodeIn, nodesTo, heldQuery}
-use Rattle.nodes.specs.Form.{constantString, stringOf, strings, codeOf, spanAt, valueSlot, slotAt, slotBytes, slotsFrom, queryBytes, queryOf, isBounded, isConstant, isNode, isCore}
+use Rattle.nodes.specs.Form.{constantString, stringOf, strings, comparatorCode, spanAt, valueSlot, slotAt, slotBytes, slotsFrom, queryBytes, queryOf, isBounded, isConstant, isNode, isCore}
 use Rattle.nodes.specs.Writing.{Fits}
 use Rattle.nodes.proofs.Postfix.{length-post}
 use Rattle.nodes.proofs.Slots.{Short, slot-back}
@@ -83,7 +83,7 @@ module _ (at : ℕ) (low : at ≤ 16448) where
   slot-fits (Node.value x c v) h = let k = and-true (isPropertyName x) (isConstant v) h in value-fits x c v (property-short x (k .0)) (k .1)
 
 -- A node comes back from its slot and its string.
-code-back : (c : Comparator) → comparatorFrom (codeOf c) ≡ some c
+code-back : (c : Comparator) → comparatorFrom (comparatorCode c) ≡ some c
 unfolding comparatorFrom
 code-back Comparator.Equal = refl
 code-back Comparator.Unequal = refl

@@ -27,7 +27,7 @@ use Rattle.nodes.specs.declared.Strings.{Strings}
 use Rattle.nodes.specs.declared.Place.{Place}
 use Rattle.nodes.specs.Postfix.{Node}
 use Rattle.nodes.specs.Held.{querySize}
-use Rattle.nodes.specs.Form.{stringOf, strings, codeOf, spanAt, numberSlot, slotAt, slotBytes, slotsFrom, queryBytes}
+use Rattle.nodes.specs.Form.{stringOf, strings, comparatorCode, spanAt, numberSlot, slotAt, slotBytes, slotsFrom, queryBytes}
 use Rattle.nodes.specs.Reading.{joinedBy, nodeBy}
 use Rattle.nodes.specs.Writing.{joinedStrings, nodeStrings, joinedSlot, slotOf, hasRoom, Fits, Laid, Puts, Finishes, countOf, endOf}
 
@@ -105,7 +105,7 @@ module _ (s : Bytes) where
   slot-joined at Connective.Select (Selector.Existence p) = refl
   slot-joined at Connective.Select (Selector.Subquery p) = refl
   slot-joined at Connective.Select (Selector.Article c p) = rw add-zero
-  slot-joined at Connective.Select (Selector.Value p c (Constant.Number n)) = ap (numberSlot (spanAt at (length (partOf s p))) (codeOf c)) (biased-back n)
+  slot-joined at Connective.Select (Selector.Value p c (Constant.Number n)) = ap (numberSlot (spanAt at (length (partOf s p))) (comparatorCode c)) (biased-back n)
   slot-joined at Connective.Select (Selector.Value p c (Constant.Boolean b)) = refl
   slot-joined at Connective.Select (Selector.Value p c (Constant.String q)) = refl
 

@@ -20,8 +20,8 @@ use Rattle.nodes.specs.declared.Node.{Node as DeclaredNode}
 use Rattle.nodes.specs.declared.NodeRead.{NodeRead}
 use Rattle.nodes.specs.Postfix.{Node, post, stepped, runs, only, readBack}
 use Rattle.nodes.specs.Held.{querySize, countIn, heapIn, nodeIn, nodesTo, hasSizes, heldQuery}
-use Rattle.nodes.specs.Reading.{joinedBy, nodeBy, Reads}
-use Rattle.nodes.specs.Stack.{isSome, stackAt, heightAt, Holds, arity, risen, joinedArity, arityBy}
+use Rattle.nodes.specs.Reading.{joinedBy, nodeBy, ReadsNode}
+use Rattle.nodes.specs.Stack.{isSome, stackAt, heightAt, HoldsCore, arity, risen, joinedArity, arityBy}
 use Rattle.nodes.proofs.Postfix.{runs-append, runs-post}
 
 -- One node more on the stack.
@@ -141,11 +141,11 @@ reads-stack h n = go (nodesTo h n)
     go none = refl
     go (some l) = refl
 
-pub held-holds : (h : Bytes) (q : Core) → heldQuery h ≡ some q → Holds h q
+pub held-holds : (h : Bytes) (q : Core) → heldQuery h ≡ some q → HoldsCore h q
 unfolding heldQuery
 held-holds h q e = go (hasSizes h) refl e
   where
-    go : (b : Bool) → hasSizes h ≡ b → onlyIf b (nodesTo h (countIn h) >>= readBack) ≡ some q → Holds h q
+    go : (b : Bool) → hasSizes h ≡ b → onlyIf b (nodesTo h (countIn h) >>= readBack) ≡ some q → HoldsCore h q
     go false f g = let z : _≡_ {A = ℕ} 0 1 = cc in absurd (omega arith)
     go true f g =
         let a = and-eq-true-iff (leb querySize (length h) && leb 1 (countIn h)) (leb (countIn h) 256) .0 f in
@@ -157,7 +157,7 @@ held-holds h q e = go (hasSizes h) refl e
           stack = only-some (stackAt h (countIn h)) q (sym (reads-stack h (countIn h)) ∙ g);
         }
 
-pub holds-held : (h : Bytes) (q : Core) → Holds h q → heldQuery h ≡ some q
+pub holds-held : (h : Bytes) (q : Core) → HoldsCore h q → heldQuery h ≡ some q
 unfolding heldQuery
 holds-held h q k =
     rw (le-leb querySize (length h) (k .long), le-leb 1 (countIn h) (k .some-node), le-leb (countIn h) 256 (k .few), reads-stack h (countIn h), k .stack)
@@ -168,7 +168,7 @@ unfolding stackAt
 stack-post h n q e = rw e (runs-post q [])
 
 -- The ways of the loop: no node, a node that lacks what it takes, a node more.
-module _ (h : Bytes) (i k : ℕ) (e : heightAt h i ≡ some k) (r : NodeRead) (u : Reads (heapIn h) (nodeIn h i) r) where
+module _ (h : Bytes) (i k : ℕ) (e : heightAt h i ≡ some k) (r : NodeRead) (u : ReadsNode (heapIn h) (nodeIn h i) r) where
   pub height-unread : r ≡ NodeRead.Nothing → heightAt h (suc i) ≡ none
   height-unread f = height-suc h i ∙ rw (e, u .is, f)
 

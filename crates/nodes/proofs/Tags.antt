@@ -9,7 +9,7 @@ use Rattle.values.specs.Values.{Constant}
 use Rattle.language.proofs.Options.{OnSome}
 use Rattle.nodes.specs.Postfix.{Node}
 use Rattle.nodes.specs.Held.{nodeFrom, nodeOf, nodeIn, slotIn}
-use Rattle.nodes.specs.Reading.{followsLinks, wantsKind, Tells}
+use Rattle.nodes.specs.Reading.{followsLinks, expectsKind, TestsNode}
 use Rattle.nodes.proofs.Nodewise.{on-any, on-node}
 
 abbrev tagOf : Node → ℕ
@@ -31,11 +31,11 @@ tagged tag c v x y =
     on-node (λ m. tag ≡ tagOf m) Any tag c v x y (on-any Any v (λ w. tt)) (λ e. e) (λ e. e) (λ e h. e) (λ e h. e) (λ e h. e) (λ e h. e) (λ e h d. e) (λ e h d w u. e)
 
 -- what is tested of the tag is told of the node
-tag-tells : (f : Node → Bool) (test : ℕ → Bool) → ((m : Node) → test (tagOf m) ≡ f m) → (h : Bytes) (i : ℕ) (r : Bool) → r ≡ test (slotIn h i .tag) → Tells f (nodeIn h i) r
-unfolding Tells nodeIn nodeOf
+tag-tells : (f : Node → Bool) (test : ℕ → Bool) → ((m : Node) → test (tagOf m) ≡ f m) → (h : Bytes) (i : ℕ) (r : Bool) → r ≡ test (slotIn h i .tag) → TestsNode f (nodeIn h i) r
+unfolding TestsNode nodeIn nodeOf
 tag-tells f test same h i r e m g = e ∙ ap test (subst (OnSome (λ n. slotIn h i .tag ≡ tagOf n)) g (tagged (slotIn h i .tag) _ _ _ _)) ∙ same m
 
-pub tag-follows : (h : Bytes) (i t : ℕ) → t ≡ slotIn h i .tag → Tells followsLinks (nodeIn h i) (eqb t 5)
+pub tag-follows : (h : Bytes) (i t : ℕ) → t ≡ slotIn h i .tag → TestsNode followsLinks (nodeIn h i) (eqb t 5)
 tag-follows h i t e = tag-tells followsLinks (λ n. eqb n 5) same h i (eqb t 5) (rw e)
   where
     same : (m : Node) → eqb (tagOf m) 5 ≡ followsLinks m
@@ -48,10 +48,10 @@ tag-follows h i t e = tag-tells followsLinks (λ n. eqb n 5) same h i (eqb t 5) 
     same (Node.article c x) = refl
     same (Node.value x c v) = refl
 
-pub tag-wants : (h : Bytes) (i t : ℕ) → t ≡ slotIn h i .tag → Tells wantsKind (nodeIn h i) (eqb t 5 || eqb t 7)
-tag-wants h i t e = tag-tells wantsKind (λ n. eqb n 5 || eqb n 7) same h i (eqb t 5 || eqb t 7) (rw e)
+pub tag-expects : (h : Bytes) (i t : ℕ) → t ≡ slotIn h i .tag → TestsNode expectsKind (nodeIn h i) (eqb t 5 || eqb t 7)
+tag-expects h i t e = tag-tells expectsKind (λ n. eqb n 5 || eqb n 7) same h i (eqb t 5 || eqb t 7) (rw e)
   where
-    same : (m : Node) → (eqb (tagOf m) 5 || eqb (tagOf m) 7) ≡ wantsKind m
+    same : (m : Node) → (eqb (tagOf m) 5 || eqb (tagOf m) 7) ≡ expectsKind m
     same Node.conjunction = refl
     same Node.disjunction = refl
     same (Node.category x) = refl

@@ -27,7 +27,7 @@ use Rattle.nodes.specs.declared.ConstantRead.{ConstantRead}
 use Rattle.nodes.specs.declared.NodeRead.{NodeRead}
 use Rattle.nodes.specs.Postfix.{Node}
 use Rattle.nodes.specs.Held.{slot, heapIn, comparatorFrom, numberFrom, constantFrom, constantOf, nodeFrom, nodeOf, slotFrom, nodeIn}
-use Rattle.nodes.specs.Reading.{constantBy, selectorBy, keepsConstant, keepsSelector, comparatorRead, chosen, ConstantReads, selected, joining, Reads}
+use Rattle.nodes.specs.Reading.{constantBy, selectorBy, keepsConstant, keepsSelector, comparatorRead, chosen, ConstantReads, selected, joining, ReadsNode}
 
 -- The constant of a slot, by its kind.
 module _ (s : Bytes) (x : Slot) (r : ConstantRead) where
@@ -83,73 +83,73 @@ only-none true = refl
 only-none false = refl
 
 -- A selector whose name was tested.
-selected-reads : (s : Bytes) (r : NodeRead) (o : Option Node) (b : Bool) (y : Selector) → o ≡ onlyIf b (some (selectorBy s y)) → (b ≡ true → keepsSelector s y ≡ true) → r ≡ selected b y → Reads s o r
+selected-reads : (s : Bytes) (r : NodeRead) (o : Option Node) (b : Bool) (y : Selector) → o ≡ onlyIf b (some (selectorBy s y)) → (b ≡ true → keepsSelector s y ≡ true) → r ≡ selected b y → ReadsNode s o r
 selected-reads s r o true y e f g = record { is = rw g e; keeps = rw g (f refl) }
 selected-reads s r o false y e f g = record { is = rw g e; keeps = rw g }
 
 -- Article comparisons, by the slot's bytes.
 module _ (s b : Bytes) (k : ℕ) (q : ComparatorRead) (w : k ≡ getD b 1 0) (e : q ≡ comparatorRead (comparatorFrom k)) where
-  pub article-none : q ≡ ComparatorRead.Nothing → Reads s (nodeOf s 6 (slotFrom b)) NodeRead.Nothing
+  pub article-none : q ≡ ComparatorRead.Nothing → ReadsNode s (nodeOf s 6 (slotFrom b)) NodeRead.Nothing
   unfolding nodeOf nodeFrom slotFrom
   article-none f = record { is = rw (← w, no-comparator q (comparatorFrom k) e f) (only-none (isName (partOf s (slotFrom b .second)))); keeps = refl }
 
-  pub article-reads : (c : Comparator) (x : Span) (t : Bytes) (fit : Bool) (r : NodeRead) → q ≡ ComparatorRead.Is c → x ≡ slotFrom b .second → t ≡ partOf s x → fit ≡ isName t → r ≡ selected fit (Selector.Article c x) → Reads s (nodeOf s 6 (slotFrom b)) r
+  pub article-reads : (c : Comparator) (x : Span) (t : Bytes) (fit : Bool) (r : NodeRead) → q ≡ ComparatorRead.Is c → x ≡ slotFrom b .second → t ≡ partOf s x → fit ≡ isName t → r ≡ selected fit (Selector.Article c x) → ReadsNode s (nodeOf s 6 (slotFrom b)) r
   unfolding nodeOf nodeFrom slotFrom
   article-reads c x t fit r f l p j g =
       selected-reads s r _ fit _ (rw (← w, read-comparator q (comparatorFrom k) e c f, j, p, l)) (λ h. rw (← p, ← j) h) g
 
 -- Value comparisons.
 module _ (s : Bytes) (x : Slot) (q : ComparatorRead) (e : q ≡ comparatorRead (comparatorFrom (x .comparator))) where
-  pub value-none : q ≡ ComparatorRead.Nothing → Reads s (nodeOf s 7 x) NodeRead.Nothing
+  pub value-none : q ≡ ComparatorRead.Nothing → ReadsNode s (nodeOf s 7 x) NodeRead.Nothing
   unfolding nodeOf nodeFrom
   value-none f = record { is = rw (no-comparator q (comparatorFrom (x .comparator)) e f) (only-none (isPropertyName (partOf s (x .first)))); keeps = refl }
 
   module _ (c : Comparator) (f : q ≡ ComparatorRead.Is c) where
     module _ (v : ConstantRead) (u : ConstantReads s x v) where
-      pub constant-missing : v ≡ ConstantRead.Nothing → Reads s (nodeOf s 7 x) NodeRead.Nothing
+      pub constant-missing : v ≡ ConstantRead.Nothing → ReadsNode s (nodeOf s 7 x) NodeRead.Nothing
       unfolding nodeOf nodeFrom
       constant-missing g =
           record { is = rw (read-comparator q (comparatorFrom (x .comparator)) e c f, u .is, g) (only-none (isPropertyName (partOf s (x .first)))); keeps = refl }
 
-      pub value-reads : (k : Constant) (t : Bytes) (b : Bool) (r : NodeRead) → v ≡ ConstantRead.Is k → t ≡ partOf s (x .first) → b ≡ isPropertyName t → r ≡ selected b (Selector.Value (x .first) c k) → Reads s (nodeOf s 7 x) r
+      pub value-reads : (k : Constant) (t : Bytes) (b : Bool) (r : NodeRead) → v ≡ ConstantRead.Is k → t ≡ partOf s (x .first) → b ≡ isPropertyName t → r ≡ selected b (Selector.Value (x .first) c k) → ReadsNode s (nodeOf s 7 x) r
       unfolding nodeOf nodeFrom
       value-reads k t b r g p w l =
           selected-reads s r _ b _ (rw (read-comparator q (comparatorFrom (x .comparator)) e c f, u .is, g, w, p)) (λ h. rw (← p, ← w, h) (rw g at (u .keeps))) l
 
 -- The node of a slot's bytes, by its tag.
 module _ (s b : Bytes) (r : NodeRead) (tag : ℕ) where
-  pub and-reads : tag ≡ 0 → r ≡ joining Connective.And → Reads s (nodeOf s tag (slotFrom b)) r
+  pub and-reads : tag ≡ 0 → r ≡ joining Connective.And → ReadsNode s (nodeOf s tag (slotFrom b)) r
   unfolding nodeOf nodeFrom
   and-reads e g = record { is = rw (e, g); keeps = rw g }
 
-  pub or-reads : tag ≡ 1 → r ≡ joining Connective.Or → Reads s (nodeOf s tag (slotFrom b)) r
+  pub or-reads : tag ≡ 1 → r ≡ joining Connective.Or → ReadsNode s (nodeOf s tag (slotFrom b)) r
   unfolding nodeOf nodeFrom
   or-reads e g = record { is = rw (e, g); keeps = rw g }
 
   module _ (x : Span) (w : x ≡ slotFrom b .first) (t : Bytes) (fit : Bool) (p : t ≡ partOf s x) where
-    pub category-reads : tag ≡ 2 → fit ≡ isName t → r ≡ selected fit (Selector.Category x) → Reads s (nodeOf s tag (slotFrom b)) r
+    pub category-reads : tag ≡ 2 → fit ≡ isName t → r ≡ selected fit (Selector.Category x) → ReadsNode s (nodeOf s tag (slotFrom b)) r
     unfolding nodeOf nodeFrom
     category-reads e k g = selected-reads s r _ fit _ (rw (e, k, p, w)) (λ h. rw (← p, ← k) h) g
 
-    pub namespace-reads : tag ≡ 3 → fit ≡ isNamespace t → r ≡ selected fit (Selector.Namespace x) → Reads s (nodeOf s tag (slotFrom b)) r
+    pub namespace-reads : tag ≡ 3 → fit ≡ isNamespace t → r ≡ selected fit (Selector.Namespace x) → ReadsNode s (nodeOf s tag (slotFrom b)) r
     unfolding nodeOf nodeFrom
     namespace-reads e k g = selected-reads s r _ fit _ (rw (e, k, p, w)) (λ h. rw (← p, ← k) h) g
 
-    pub existence-reads : tag ≡ 4 → fit ≡ isPropertyName t → r ≡ selected fit (Selector.Existence x) → Reads s (nodeOf s tag (slotFrom b)) r
+    pub existence-reads : tag ≡ 4 → fit ≡ isPropertyName t → r ≡ selected fit (Selector.Existence x) → ReadsNode s (nodeOf s tag (slotFrom b)) r
     unfolding nodeOf nodeFrom
     existence-reads e k g = selected-reads s r _ fit _ (rw (e, k, p, w)) (λ h. rw (← p, ← k) h) g
 
-    pub subquery-reads : tag ≡ 5 → fit ≡ isPropertyName t → r ≡ selected fit (Selector.Subquery x) → Reads s (nodeOf s tag (slotFrom b)) r
+    pub subquery-reads : tag ≡ 5 → fit ≡ isPropertyName t → r ≡ selected fit (Selector.Subquery x) → ReadsNode s (nodeOf s tag (slotFrom b)) r
     unfolding nodeOf nodeFrom
     subquery-reads e k g = selected-reads s r _ fit _ (rw (e, k, p, w)) (λ h. rw (← p, ← k) h) g
 
-  pub article-tag : tag ≡ 6 → Reads s (nodeOf s 6 (slotFrom b)) r → Reads s (nodeOf s tag (slotFrom b)) r
+  pub article-tag : tag ≡ 6 → ReadsNode s (nodeOf s 6 (slotFrom b)) r → ReadsNode s (nodeOf s tag (slotFrom b)) r
   article-tag e h = rw e h
 
-  pub value-tag : (x : Slot) → tag ≡ 7 → x ≡ slotFrom b → Reads s (nodeOf s 7 x) r → Reads s (nodeOf s tag (slotFrom b)) r
+  pub value-tag : (x : Slot) → tag ≡ 7 → x ≡ slotFrom b → ReadsNode s (nodeOf s 7 x) r → ReadsNode s (nodeOf s tag (slotFrom b)) r
   value-tag x e w h = rw (e, ← w) h
 
-pub no-tag : (s : Bytes) (x : Slot) (tag : ℕ) → (tag ≡ 0 → ⊥) × (tag ≡ 1 → ⊥) × (tag ≡ 2 → ⊥) × (tag ≡ 3 → ⊥) × (tag ≡ 4 → ⊥) × (tag ≡ 5 → ⊥) × (tag ≡ 6 → ⊥) × (tag ≡ 7 → ⊥) → Reads s (nodeOf s tag x) NodeRead.Nothing
+pub no-tag : (s : Bytes) (x : Slot) (tag : ℕ) → (tag ≡ 0 → ⊥) × (tag ≡ 1 → ⊥) × (tag ≡ 2 → ⊥) × (tag ≡ 3 → ⊥) × (tag ≡ 4 → ⊥) × (tag ≡ 5 → ⊥) × (tag ≡ 6 → ⊥) × (tag ≡ 7 → ⊥) → ReadsNode s (nodeOf s tag x) NodeRead.Nothing
 unfolding nodeOf nodeFrom
 no-tag s x tag n =
     record {
@@ -165,6 +165,6 @@ slot-past h i l =
     let k : length h ≤ slot i = omega arith in
     rw (drop-of-length-le h k, take-nil)
 
-pub in-place : (h t b : Bytes) (i tag : ℕ) (r : NodeRead) → t ≡ heapIn h → b ≡ part h (slot i) 20 → tag ≡ getD b 0 0 → Reads t (nodeOf t tag (slotFrom b)) r → Reads (heapIn h) (nodeIn h i) r
+pub in-place : (h t b : Bytes) (i tag : ℕ) (r : NodeRead) → t ≡ heapIn h → b ≡ part h (slot i) 20 → tag ≡ getD b 0 0 → ReadsNode t (nodeOf t tag (slotFrom b)) r → ReadsNode (heapIn h) (nodeIn h i) r
 unfolding nodeIn slotFrom nodeOf constantOf
 in-place h t b i tag r f g k u = rw (← f, ← g, ← k) u

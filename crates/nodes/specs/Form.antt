@@ -39,11 +39,11 @@ strings [] = []
 strings (x ∷ l) = stringOf x ++ strings l
 
 -- The numbers of a node whose string begins at a place. What a node does not use is 0.
-abbrev pub codeOf : Comparator → ℕ
-codeOf Comparator.Equal = 0
-codeOf Comparator.Unequal = 1
-codeOf Comparator.Greater = 2
-codeOf Comparator.Less = 3
+abbrev pub comparatorCode : Comparator → ℕ
+comparatorCode Comparator.Equal = 0
+comparatorCode Comparator.Unequal = 1
+comparatorCode Comparator.Greater = 2
+comparatorCode Comparator.Less = 3
 
 abbrev pub spanAt : ℕ → ℕ → Span
 spanAt at n = record { start = at; len = n }
@@ -65,9 +65,9 @@ abbrev pub stringSlot : Span → ℕ → Span → Slot
 stringSlot p c q = record { tag = 7; comparator = c; kind = 2; truth = 0; first = p; second = q; number = 0 }
 
 abbrev pub valueSlot : ℕ → Bytes → Comparator → Constant → Slot
-valueSlot at x c (number z) = numberSlot (spanAt at (length x)) (codeOf c) (biased z)
-valueSlot at x c (boolean b) = truthSlot (spanAt at (length x)) (codeOf c) b
-valueSlot at x c (string s) = stringSlot (spanAt at (length x)) (codeOf c) (spanAt (at + length x) (length s))
+valueSlot at x c (number z) = numberSlot (spanAt at (length x)) (comparatorCode c) (biased z)
+valueSlot at x c (boolean b) = truthSlot (spanAt at (length x)) (comparatorCode c) b
+valueSlot at x c (string s) = stringSlot (spanAt at (length x)) (comparatorCode c) (spanAt (at + length x) (length s))
 
 abbrev pub slotAt : ℕ → Node → Slot
 slotAt at Node.conjunction = tagged 0 0 noSpan noSpan
@@ -76,7 +76,7 @@ slotAt at (Node.category x) = tagged 2 0 (spanAt at (length x)) noSpan
 slotAt at (Node.namespace x) = tagged 3 0 (spanAt at (length x)) noSpan
 slotAt at (Node.existence x) = tagged 4 0 (spanAt at (length x)) noSpan
 slotAt at (Node.subquery x) = tagged 5 0 (spanAt at (length x)) noSpan
-slotAt at (Node.article c x) = tagged 6 (codeOf c) noSpan (spanAt at (length x))
+slotAt at (Node.article c x) = tagged 6 (comparatorCode c) noSpan (spanAt at (length x))
 slotAt at (Node.value x c v) = valueSlot at x c v
 
 -- A slot's 20 bytes: what `slotFrom` reads.

@@ -104,11 +104,11 @@ keepsRead s NodeRead.Nothing = true
 keepsRead s (NodeRead.Is n) = keeps s n
 
 -- r is the node o, where there is one, and keeps the rules.
-pub record Reads (s : Bytes) (o : Option Postfix.Node) (r : NodeRead) : Type 0 where
+pub record ReadsNode (s : Bytes) (o : Option Postfix.Node) (r : NodeRead) : Type 0 where
   pub is : o ≡ readBy s r
   pub keeps : keepsRead s r ≡ true
 
--- A node that follows links, and one that wants values of one kind.
+-- A node that follows links, and one that expects values of one kind.
 abbrev pub followsLinks : Postfix.Node → Bool
 followsLinks (Postfix.subquery x) = true
 followsLinks Postfix.conjunction = false
@@ -119,16 +119,16 @@ followsLinks (Postfix.existence x) = false
 followsLinks (Postfix.article c x) = false
 followsLinks (Postfix.value x c v) = false
 
-abbrev pub wantsKind : Postfix.Node → Bool
-wantsKind (Postfix.subquery x) = true
-wantsKind Postfix.conjunction = false
-wantsKind Postfix.disjunction = false
-wantsKind (Postfix.category x) = false
-wantsKind (Postfix.namespace x) = false
-wantsKind (Postfix.existence x) = false
-wantsKind (Postfix.article c x) = false
-wantsKind (Postfix.value x c v) = true
+abbrev pub expectsKind : Postfix.Node → Bool
+expectsKind (Postfix.subquery x) = true
+expectsKind Postfix.conjunction = false
+expectsKind Postfix.disjunction = false
+expectsKind (Postfix.category x) = false
+expectsKind (Postfix.namespace x) = false
+expectsKind (Postfix.existence x) = false
+expectsKind (Postfix.article c x) = false
+expectsKind (Postfix.value x c v) = true
 
 -- What is told of a node, where there is one.
-unfoldable pub Tells : (Postfix.Node → Bool) → Option Postfix.Node → Bool → Type 0
-Tells f o r = (m : Postfix.Node) → o ≡ some m → r ≡ f m
+unfoldable pub TestsNode : (Postfix.Node → Bool) → Option Postfix.Node → Bool → Type 0
+TestsNode f o r = (m : Postfix.Node) → o ≡ some m → r ≡ f m

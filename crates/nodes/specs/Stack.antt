@@ -30,7 +30,7 @@ unfoldable pub heightAt : Bytes → ℕ → Option ℕ
 heightAt h i = mapOption length (stackAt h i)
 
 -- The bytes hold the query q: they are of the right size, and q alone is left on the stack.
-pub record Holds (h : Bytes) (q : Core) : Type 0 where
+pub record HoldsCore (h : Bytes) (q : Core) : Type 0 where
   pub long : querySize ≤ length h
   pub some-node : 1 ≤ countIn h
   pub few : countIn h ≤ 256

@@ -17,7 +17,7 @@ use Rattle.nodes.specs.declared.Strings.{Strings}
 use Rattle.nodes.specs.declared.Place.{Place}
 use Rattle.nodes.specs.Postfix as Postfix
 use Rattle.nodes.specs.Held.{querySize}
-use Rattle.nodes.specs.Form.{strings, codeOf, noSpan, tagged, numberSlot, truthSlot, stringSlot, slotsFrom, queryBytes}
+use Rattle.nodes.specs.Form.{strings, comparatorCode, noSpan, tagged, numberSlot, truthSlot, stringSlot, slotsFrom, queryBytes}
 use Rattle.nodes.specs.Reading.{nodeBy}
 
 -- Where the strings of a declared node lie: the first and the second of its slot.
@@ -56,8 +56,8 @@ selectorSlot (Selector.Category r) p q = tagged 2 0 p noSpan
 selectorSlot (Selector.Namespace r) p q = tagged 3 0 p noSpan
 selectorSlot (Selector.Existence r) p q = tagged 4 0 p noSpan
 selectorSlot (Selector.Subquery r) p q = tagged 5 0 p noSpan
-selectorSlot (Selector.Article c r) p q = tagged 6 (codeOf c) noSpan q
-selectorSlot (Selector.Value r c k) p q = constantSlot (codeOf c) k p q
+selectorSlot (Selector.Article c r) p q = tagged 6 (comparatorCode c) noSpan q
+selectorSlot (Selector.Value r c k) p q = constantSlot (comparatorCode c) k p q
 
 abbrev pub joinedSlot : Connective → Selector → Span → Span → Slot
 joinedSlot Connective.And x p q = tagged 0 0 noSpan noSpan

@@ -7,9 +7,9 @@ pub mod writing; // writing.rt: nodes into a held query
 use language::Comparator;
 pub use layout::QUERY_BYTES;
 pub use query::is_query;
+pub use reading::expects_kind_at;
 pub use reading::follows_at;
 pub use reading::node_at;
-pub use reading::wants_at;
 use text::Span;
 pub use writing::count_of;
 pub use writing::finish;

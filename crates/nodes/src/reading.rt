@@ -22,7 +22,7 @@ use values::is_value;
 ghost use mathlib.Core.Path.{_≡_};
 ghost use Rattle.text.specs.Bytes.{part as partFrom};
 ghost use Rattle.nodes.specs.Held.{slot, comparatorFrom, slotFrom, slotIn, heapIn, nodeOf, nodeIn};
-ghost use Rattle.nodes.specs.Reading.{comparatorRead, chosen, selected, joining, ConstantReads, Reads, followsLinks, wantsKind, Tells};
+ghost use Rattle.nodes.specs.Reading.{comparatorRead, chosen, selected, joining, ConstantReads, ReadsNode, followsLinks, expectsKind, TestsNode};
 
 // The comparator of a code.
 fn comparator_from(code: u8) -> ComparatorRead
@@ -124,7 +124,7 @@ fn slot_from(b: &[u8]) -> Slot
 
 // An article comparison, the bytes of a slot of tag 6.
 fn article_from(heap: &[u8], b: &[u8]) -> NodeRead
-    ensures { λ r. ⌜ Reads (now (heap .entry)) (nodeOf (now (heap .entry)) 6 (slotFrom (now (b .entry)))) r ⌝ }
+    ensures { λ r. ⌜ ReadsNode (now (heap .entry)) (nodeOf (now (heap .entry)) 6 (slotFrom (now (b .entry)))) r ⌝ }
 {
     let read = comparator_from(byte_at(b, 1));
     let ComparatorRead::Is(c) = read else {
@@ -137,7 +137,7 @@ fn article_from(heap: &[u8], b: &[u8]) -> NodeRead
 
 // A value comparison, a slot of tag 7.
 fn value_from(heap: &[u8], x: Slot) -> NodeRead
-    ensures { λ r. ⌜ Reads (now (heap .entry)) (nodeOf (now (heap .entry)) 7 x) r ⌝ }
+    ensures { λ r. ⌜ ReadsNode (now (heap .entry)) (nodeOf (now (heap .entry)) 7 x) r ⌝ }
 {
     let read = comparator_from(x.comparator);
     let ComparatorRead::Is(c) = read else {
@@ -165,7 +165,7 @@ fn joined(connective: Connective) -> NodeRead
 
 // The node of a slot by its tag; no more is read than the tag asks for.
 fn node_from(heap: &[u8], tag: u8, b: &[u8]) -> NodeRead
-    ensures { λ r. ⌜ Reads (now (heap .entry)) (nodeOf (now (heap .entry)) tag (slotFrom (now (b .entry)))) r ⌝ }
+    ensures { λ r. ⌜ ReadsNode (now (heap .entry)) (nodeOf (now (heap .entry)) tag (slotFrom (now (b .entry)))) r ⌝ }
 {
     match tag {
         layout::AND => joined(Connective::And),
@@ -224,14 +224,14 @@ fn tag_at(h: &[u8], i: usize) -> u8
 
 // Whether the node in a place is a subquery: by its tag alone.
 pub fn follows_at(h: &[u8], i: usize) -> bool
-    ensures { λ r. ⌜ Tells followsLinks (nodeIn (now (h .entry)) i) r ⌝ }
+    ensures { λ r. ⌜ TestsNode followsLinks (nodeIn (now (h .entry)) i) r ⌝ }
 {
     tag_at(h, i) == layout::SUBQUERY
 }
 
 // Whether the node in a place is a subquery or a value comparison: by its tag alone.
-pub fn wants_at(h: &[u8], i: usize) -> bool
-    ensures { λ r. ⌜ Tells wantsKind (nodeIn (now (h .entry)) i) r ⌝ }
+pub fn expects_kind_at(h: &[u8], i: usize) -> bool
+    ensures { λ r. ⌜ TestsNode expectsKind (nodeIn (now (h .entry)) i) r ⌝ }
 {
     let tag = tag_at(h, i);
     (tag == layout::SUBQUERY) | (tag == layout::VALUE)
@@ -239,7 +239,7 @@ pub fn wants_at(h: &[u8], i: usize) -> bool
 
 // The node in a place.
 pub fn node_at(h: &[u8], i: usize) -> NodeRead
-    ensures { λ r. ⌜ Reads (heapIn (now (h .entry))) (nodeIn (now (h .entry)) i) r ⌝ }
+    ensures { λ r. ⌜ ReadsNode (heapIn (now (h .entry))) (nodeIn (now (h .entry)) i) r ⌝ }
 {
     let heap = part(h, layout::HEAP, layout::HEAP_BYTES);
     let b = slot_bytes(h, i);

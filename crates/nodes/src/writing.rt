@@ -16,12 +16,12 @@ use text::Span;
 use text::part;
 ghost use mathlib.Core.Path.{_≡_};
 ghost use Rattle.buffer.specs.Writing.{written};
-ghost use Rattle.nodes.specs.Form.{codeOf, tagged, headBytes, spanBytes, slotBytes};
+ghost use Rattle.nodes.specs.Form.{comparatorCode, tagged, headBytes, spanBytes, slotBytes};
 ghost use Rattle.nodes.specs.Writing.{constantStrings, selectorStrings, nodeStrings, constantSlot, selectorSlot, slotOf, hasRoom, countOf, Puts, Finishes};
 
 // The code of a comparator.
 fn code_of(c: Comparator) -> u8
-    ensures { λ r. ⌜ r ≡ codeOf c ⌝ }
+    ensures { λ r. ⌜ r ≡ comparatorCode c ⌝ }
 {
     match c {
         Comparator::Equal => layout::EQUAL,

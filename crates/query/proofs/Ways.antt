@@ -35,15 +35,15 @@ use Rattle.query_read.specs.declared.Reading.{Reading}
 use Rattle.query_fit.specs.Answers.{fitNumber, FitsTree}
 use Rattle.query_fit.specs.declared.Fit.{Fit}
 use Rattle.calls.specs.Calls.{writtenIn, queryCall, readCall, fitCall}
-use Rattle.query.specs.Stages.{Opened, fittedIn, FitsInto}
+use Rattle.query.specs.Stages.{TestsRegister, fittedIn, FitsInto}
 use Rattle.query.proofs.Copies.{front-is}
 use Rattle.query.proofs.Zeros.{zero-read, zero-fit}
 
 -- Whether a register is held.
-pub opened-is : (h g : Bytes) (before after : List ℕ) (r : Bool) → g ≡ part h 0 registerSize → Opens g before after r → Opened h r
+pub opened-is : (h g : Bytes) (before after : List ℕ) (r : Bool) → g ≡ part h 0 registerSize → Opens g before after r → TestsRegister h r
 opened-is h g before after r e o = go r refl
   where
-    go : (b : Bool) → r ≡ b → Opened h b
+    go : (b : Bool) → r ≡ b → TestsRegister h b
     go true f = held-some h g e before after r o (rw f) ∙ ap (λ (x : Bytes). some (registerIn x)) e
     go false f = held-none h g e before after r o (rw f)
 
@@ -90,14 +90,14 @@ module _ (t g b s : Bytes) (f : Fit) (n : ℕ) (F : FitsTree t (kindsOf (registe
     unfolding FitsInto fittedIn
     into-short l q h w = let c = core q h w in rw (c .1) (short-answer 20 querySize (queryOf (c .0)) b l)
 
-    pub into-fine : (b′ : Bytes) → 21570 ≤ length b → b′ ≡ written b 0 s → FitsInto t g b 0 b′
+    pub into-accepted : (b′ : Bytes) → 21570 ≤ length b → b′ ≡ written b 0 s → FitsInto t g b 0 b′
     unfolding FitsInto fittedIn zeros
-    into-fine b′ l p q h w =
+    into-accepted b′ l p q h w =
         let c = core q h w in
         let is : s ≡ queryOf (c .0) = F .bytes q (c .0) (rw w (tree-back q h)) (spelled q h) refl (c .1) in
         rw (c .1) (full-answer 20 querySize (queryOf (c .0)) b b′ (length-query (c .0) (fitted-core Γ q (c .0) (spelled q h) (c .1))) l (p ∙ ap (written b 0) is))
 
-pub ruleset fitting = (into-refused, into-short, into-fine)
+pub ruleset fitting = (into-refused, into-short, into-accepted)
 
 -- Reading: s is the text, u the scratch buffer after reading.
 module _ (s u : Bytes) (r : Reading) (n : ℕ) (R : ReadsText s (replicate 5112 0) u r) (e : n ≡ numberOfReading r) where
@@ -120,14 +120,14 @@ module _ (s u : Bytes) (r : Reading) (n : ℕ) (R : ReadsText s (replicate 5112 
     unfolding readCall
     read-short z l = let q = read-some z in rw (q .1) (short-answer 33 treeSize (treeOf (q .0)) b l)
 
-    pub read-fine : (b′ : Bytes) → n ≡ 0 → 5112 ≤ length b → b′ ≡ written b 0 u → Answered (readCall s b) b 0 b′
+    pub read-accepted : (b′ : Bytes) → n ≡ 0 → 5112 ≤ length b → b′ ≡ written b 0 u → Answered (readCall s b) b 0 b′
     unfolding readCall
-    read-fine b′ z l p = let q = read-some z in rw (q .1) (full-answer 33 treeSize (treeOf (q .0)) b b′ (length-tree (q .0) (q .2)) l (p ∙ ap (written b 0) (q .3)))
+    read-accepted b′ z l p = let q = read-some z in rw (q .1) (full-answer 33 treeSize (treeOf (q .0)) b b′ (length-tree (q .0) (q .2)) l (p ∙ ap (written b 0) (q .3)))
 
   -- then fitting
-  module _ (h b : Bytes) (o : Bool) (H : Opened h o) (held : not o ≡ false) where
+  module _ (h b : Bytes) (o : Bool) (H : TestsRegister h o) (held : not o ≡ false) where
     open-is : heldRegister h ≡ some (registerIn (take registerSize h))
-    open-is = subst (Opened h) (not-false o held) H
+    open-is = subst (TestsRegister h) (not-false o held) H
 
     pub query-unread : (n ≡ 0 → ⊥) → Answered (queryCall h s b) b n b
     unfolding queryCall coreOf
@@ -137,33 +137,33 @@ module _ (s u : Bytes) (r : Reading) (n : ℕ) (R : ReadsText s (replicate 5112 
     unfolding queryCall coreOf FitsInto fittedIn
     query-fits g b′ m z e F = let q = read-some z in rw (open-is, q .1) (subst (λ (x : Bytes). Answered (fittedIn (kindsOf (registerIn x)) (q .0) b) b m b′) e (F (q .0) (q .2) (q .3)))
 
-pub query-unheld : (h s b : Bytes) (o : Bool) → Opened h o → not o ≡ true → Answered (queryCall h s b) b 11 b
+pub query-unheld : (h s b : Bytes) (o : Bool) → TestsRegister h o → not o ≡ true → Answered (queryCall h s b) b 11 b
 unfolding queryCall
-query-unheld h s b o H e = rw (subst (Opened h) (not-true o e) H) (record { number = refl; bytes = refl })
+query-unheld h s b o H e = rw (subst (TestsRegister h) (not-true o e) H) (record { number = refl; bytes = refl })
 
-pub ruleset reading = (read-refused, read-short, read-fine, query-unread, query-fits, query-unheld)
+pub ruleset reading = (read-refused, read-short, read-accepted, query-unread, query-fits, query-unheld)
 
 -- Fitting a tree that is lent.
-module _ (t h b : Bytes) (o : Bool) (H : Opened h o) where
+module _ (t h b : Bytes) (o : Bool) (H : TestsRegister h o) where
   pub fit-unheld : not o ≡ true → Answered (fitCall t h b) b 11 b
   unfolding fitCall
-  fit-unheld e = rw (subst (Opened h) (not-true o e) H) (record { number = refl; bytes = refl })
+  fit-unheld e = rw (subst (TestsRegister h) (not-true o e) H) (record { number = refl; bytes = refl })
 
   module _ (held : not o ≡ false) (y : Bool) (T : y ≡ found (heldTree t) (λ q. true) false) where
     is-open : heldRegister h ≡ some (registerIn (take registerSize h))
-    is-open = subst (Opened h) (not-false o held) H
+    is-open = subst (TestsRegister h) (not-false o held) H
 
-    pub fit-untold : not y ≡ true → Answered (fitCall t h b) b 34 b
+    pub fit-no-tree : not y ≡ true → Answered (fitCall t h b) b 34 b
     unfolding fitCall
-    fit-untold e = go (heldTree t) refl
+    fit-no-tree e = go (heldTree t) refl
       where
         go : (w : Option Query) → heldTree t ≡ w → Answered (fitCall t h b) b 34 b
         go none f = rw (is-open, f) (record { number = refl; bytes = refl })
         go (some q) f = absurd (true≢false (sym (T ∙ ap (λ (w : Option Query). found w (λ q. true) false) f) ∙ not-true y e))
 
-    pub fit-told : (u g b′ : Bytes) (m : ℕ) → not y ≡ false → u ≡ part t 0 5112 → g ≡ part h 0 registerSize → FitsInto u g b m b′ → Answered (fitCall t h b) b m b′
+    pub fit-tree : (u g b′ : Bytes) (m : ℕ) → not y ≡ false → u ≡ part t 0 5112 → g ≡ part h 0 registerSize → FitsInto u g b m b′ → Answered (fitCall t h b) b m b′
     unfolding fitCall FitsInto fittedIn
-    fit-told u g b′ m e i j F = go (heldTree t) refl
+    fit-tree u g b′ m e i j F = go (heldTree t) refl
       where
         go : (w : Option Query) → heldTree t ≡ w → Answered (fitCall t h b) b m b′
         go none f = absurd (true≢false (sym (not-false y e) ∙ T ∙ ap (λ (w : Option Query). found w (λ q. true) false) f))
@@ -171,4 +171,4 @@ module _ (t h b : Bytes) (o : Bool) (H : Opened h o) where
             let d = held-tree t q .0 f in
             rw (is-open, f) (subst (λ (x : Bytes). Answered (fittedIn (kindsOf (registerIn x)) q b) b m b′) j (F q (d .has) (i ∙ d .bytes)))
 
-pub ruleset fits = (fit-unheld, fit-untold, fit-told)
+pub ruleset fits = (fit-unheld, fit-no-tree, fit-tree)

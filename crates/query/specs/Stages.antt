@@ -17,9 +17,9 @@ use Rattle.nodes.specs.Form.{queryOf}
 use Rattle.calls.specs.Calls.{writtenIn}
 
 -- Whether bytes hold a register, and which.
-abbrev pub Opened : Bytes → Bool → Type 0
-Opened h true = heldRegister h ≡ some (registerIn (take registerSize h))
-Opened h false = heldRegister h ≡ none
+abbrev pub TestsRegister : Bytes → Bool → Type 0
+TestsRegister h true = heldRegister h ≡ some (registerIn (take registerSize h))
+TestsRegister h false = heldRegister h ≡ none
 
 -- A query fitted to kinds and stored: the lowest of 17 to 20, or the bytes that are left in the buffer b.
 unfoldable pub fittedIn : Typing → Query → Bytes → Answer Bytes

@@ -6,7 +6,7 @@ ghost use Rattle.language.specs.Answer.{Answered};
 ghost use Rattle.calls.specs.Calls.{queryCall, readCall, fitCall};
 ghost use Rattle.query_read.specs.Answers.{numberOfReading};
 ghost use Rattle.query_fit.specs.Answers.{fitNumber};
-ghost use Rattle.query.specs.Stages.{Opened, FitsInto};
+ghost use Rattle.query.specs.Stages.{TestsRegister, FitsInto};
 use nodes::QUERY_BYTES;
 use query_fit::Fit;
 use query_fit::fit_tree;
@@ -23,7 +23,7 @@ fn reading_number(reading: Reading) -> usize
     ensures { λ r. ⌜ r ≡ numberOfReading reading ⌝ }
 {
     match reading {
-        Reading::Fine => 0,
+        Reading::Accepted => 0,
         Reading::TooLong => 12,
         Reading::NoReading => 13,
         Reading::TooDeep => 14,
@@ -37,7 +37,7 @@ fn fit_number(fit: Fit) -> usize
     ensures { λ r. ⌜ r ≡ fitNumber fit ⌝ }
 {
     match fit {
-        Fit::Fine => 0,
+        Fit::Accepted => 0,
         Fit::Undeclared => 17,
         Fit::Unfit => 18,
         Fit::TooMany => 19,
@@ -65,7 +65,7 @@ fn copy(held: &mut [u8], bytes: &[u8])
 
 // Whether the first bytes are a held register.
 fn is_register(register: &[u8]) -> bool
-    ensures { λ r. ⌜ Opened (now (register .entry)) r ⌝ }
+    ensures { λ r. ⌜ TestsRegister (now (register .entry)) r ⌝ }
 {
     let h = part(register, 0, REGISTER_BYTES);
     let mut places = [0u16; layout::TEXT_ROOM];

@@ -109,24 +109,24 @@ module _ (t g : Bytes) (n w : ℕ) (u : Bool) (there : w ≡ twoAt t 0) (wide : 
           many : (q : Query) → nodesIn t ≡ tree q → h ≡ zeros querySize → fit Γ q ≡ refused 19
           many q e z = let d = laid-core q e z in rw (declared-is q e, d .says, lt-ltb 256 (nodes (d .core)) (omega (arith, i, m, d .count)))
 
-      pub fit-fine : (h₂ : Bytes) (k : ℕ) → k ≡ countOf p → k ≤ 256 → Finishes h₁ p h₂ → FitsTree t (kindsOf (registerIn g)) h Fit.Fine h₂
+      pub fit-accepted : (h₂ : Bytes) (k : ℕ) → k ≡ countOf p → k ≤ 256 → Finishes h₁ p h₂ → FitsTree t (kindsOf (registerIn g)) h Fit.Accepted h₂
       unfolding Finishes queryOf
-      fit-fine h₂ k i m done =
+      fit-accepted h₂ k i m done =
           record {
-            number = λ q e s z. rw (fine q e z);
+            number = λ q e s z. rw (accepts q e z);
             bytes =
                 λ q c e s z a.
                 let d = laid-core q e z in
-                let same : d .core ≡ c = (let y : accepted (d .core) ≡ accepted c = sym (fine q e z) ∙ a in cc) in
+                let same : d .core ≡ c = (let y : accepted (d .core) ≡ accepted c = sym (accepts q e z) ∙ a in cc) in
                 written q s d ∙ ap queryOf same;
           }
         where
-          fine : (q : Query) (e : nodesIn t ≡ tree q) (z : h ≡ zeros querySize) → fit Γ q ≡ accepted (laid-core q e z .core)
-          fine q e z = let d = laid-core q e z in rw (declared-is q e, d .says, le-ltb 256 (nodes (d .core)) (omega (arith, i, m, d .count)))
+          accepts : (q : Query) (e : nodesIn t ≡ tree q) (z : h ≡ zeros querySize) → fit Γ q ≡ accepted (laid-core q e z .core)
+          accepts q e z = let d = laid-core q e z in rw (declared-is q e, d .says, le-ltb 256 (nodes (d .core)) (omega (arith, i, m, d .count)))
 
           written : (q : Query) → isSpelled q ≡ true → (d : CoreLaid q) → h₂ ≡ queryOf (d .core)
           written q s d =
               let few : nodes (d .core) ≤ 256 = omega (arith, i, m, d .count) in
               done (post (d .core)) (d .laid) (omega (arith, few, length-post (d .core)), omega (arith, few, few-strings (d .core) (elaborated-keeps Γ q (d .core) s (d .says))))
 
-pub ruleset fitted = (fit-undeclared, fit-unfit, fit-many, fit-fine)
+pub ruleset fitted = (fit-undeclared, fit-unfit, fit-many, fit-accepted)

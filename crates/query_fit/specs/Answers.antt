@@ -18,7 +18,7 @@ use Rattle.query_fit.specs.declared.Fit.{Fit}
 
 -- "17 a property not declared", 18 a piece unfit for its kind, 19 more than 256 nodes.
 abbrev pub fitNumber : Fit → ℕ
-fitNumber Fit.Fine = 0
+fitNumber Fit.Accepted = 0
 fitNumber Fit.Undeclared = 17
 fitNumber Fit.Unfit = 18
 fitNumber Fit.TooMany = 19

@@ -38,7 +38,7 @@ pub enum Step {
 // What fitting answers: the held query is written, a property is not declared (17), a piece is unfit (18), there are more than 256
 // nodes (19).
 pub enum Fit {
-    Fine,
+    Accepted,
     Undeclared,
     Unfit,
     TooMany,
@@ -61,5 +61,5 @@ pub fn fit_tree(tree: &[u8], register: &[u8], held: &mut [u8]) -> Fit
         return Fit::TooMany;
     }
     finish(held, place);
-    Fit::Fine
+    Fit::Accepted
 }

@@ -37,7 +37,7 @@ use Rattle.pieces.proofs.Read.{the-type}
 use Rattle.query_tree.specs.Nodes.{Node, tree, treeIn, treeCategories, treeIdentifiers}
 use Rattle.query_tree.specs.Reading.{nodeBy}
 use Rattle.query_tree.specs.declared.TreeNode.{TreeNode}
-use Rattle.query_heads.specs.Effects.{Effect, noded, one, met, _then_, flagged, After, Reads}
+use Rattle.query_heads.specs.Effects.{Effect, noded, one, met, _then_, flagged, After, ReadsPart}
 use Rattle.query_heads.specs.Trees.{deeper, effect, effectIn, chainNodes, chainEffect, valueNode, nodeOfPiece, pieceEffect, restEffect, tailPieces, numberOfRead}
 use Rattle.query_heads.specs.declared.Seen.{Seen}
 use Rattle.query_heads.specs.declared.Outcome.{Outcome}
@@ -204,7 +204,7 @@ unfolding tailPieces
 tail-some x y h = rw h
 
 module _ (s : Bytes) (at i : ℕ) (a : Found) (cats : Bool) (t t₁ t₂ t₃ : Bytes) (n n₁ n₂ : Seen) (r : Outcome) (p : Placed) (e : restOf s a ≡ after (bytes "||") (from s at)) where
-  pub pieces-on : a ≡ Found.At i → pieceAt (from s i) ≡ tellsPiece s p → After t n (pieceEffect cats (pieceOf s (p .comparator) (p .text))) t₁ n₁ → After t₁ n₁ (one (Node.bar 1)) t₂ n₂ → Reads s (restEffect cats) t₂ n₂ (tailPieces (from s (p .next))) r t₃ → Reads s (restEffect cats) t n (tailPieces (from s at)) r t₃
+  pub pieces-on : a ≡ Found.At i → pieceAt (from s i) ≡ tellsPiece s p → After t n (pieceEffect cats (pieceOf s (p .comparator) (p .text))) t₁ n₁ → After t₁ n₁ (one (Node.bar 1)) t₂ n₂ → ReadsPart s (restEffect cats) t₂ n₂ (tailPieces (from s (p .next))) r t₃ → ReadsPart s (restEffect cats) t n (tailPieces (from s at)) r t₃
   unfolding restOf tellsPiece restEffect
   pieces-on g f h k l =
       let q = pieceOf s (p .comparator) (p .text) in
@@ -214,12 +214,12 @@ module _ (s : Bytes) (at i : ℕ) (a : Found) (cats : Bool) (t t₁ t₂ t₃ : 
       (λ x n′ z. after-then t t₂ t₃ n n₂ n′ _ _ (after-then t t₁ t₂ n n₁ n₂ _ _ h k) z) l)
 
 module _ (s : Bytes) (at : ℕ) (a b : Found) (cats : Bool) (t : Bytes) (n : Seen) (e : restOf s a ≡ after (bytes "||") (from s at)) (g : a ≡ Found.Nothing) (f : restOf s b ≡ after (bytes "]]") (from s at)) where
-  pub pieces-end : (i : ℕ) → b ≡ Found.At i → Reads s (restEffect cats) t n (tailPieces (from s at)) (Outcome.Got i n) t
-  unfolding restOf tailPieces restEffect Reads met flagged
+  pub pieces-end : (i : ℕ) → b ≡ Found.At i → ReadsPart s (restEffect cats) t n (tailPieces (from s at)) (Outcome.Got i n) t
+  unfolding restOf tailPieces restEffect ReadsPart met flagged
   pieces-end i h = ([], rw (← e, g, ← f, h), nothing-met t n)
 
-  pub pieces-not : b ≡ Found.Nothing → Reads s (restEffect cats) t n (tailPieces (from s at)) Outcome.Refused t
-  unfolding restOf tailPieces Reads
+  pub pieces-not : b ≡ Found.Nothing → ReadsPart s (restEffect cats) t n (tailPieces (from s at)) Outcome.Refused t
+  unfolding restOf tailPieces ReadsPart
   pieces-not h = (rw (← e, g, ← f, h), refl)
 
 pub ruleset pieces = (pieces-end, pieces-not)
@@ -292,7 +292,7 @@ only-none false y h = refl
 module _ (s : Bytes) (at d : ℕ) (t t₁ t₂ : Bytes) (n n₁ n₂ : Seen) (r : Outcome) (p : Placed) (f : First) (h : pieceAt (from s at) ≡ tellsPiece s p) (k : n₁ ≡ flagged n (ltb 8 d) false false)
     (c : categoryTold s f ≡ onlyIf (isCategory (pieceOf s (p .comparator) (p .text))) (some (articleOf (reference (partOf s (p .text)))))) where
   begun : (b : Bool) (e : Effect) → After t n₁ e t₁ n₂ → ((l : List Piece) → effect d (RawQuery.pieces (pieceOf s (p .comparator) (p .text)) l) ≡ met (ltb 8 d) false false then e then restEffect b l)
-      → Reads s (restEffect b) t₁ n₂ (tailPieces (from s (p .next))) r t₂ → Reads s (effect d) t n (plainBody (from s at)) r t₂
+      → ReadsPart s (restEffect b) t₁ n₂ (tailPieces (from s (p .next))) r t₂ → ReadsPart s (effect d) t n (plainBody (from s at)) r t₂
   unfolding tellsPiece
   begun b e a g q =
       let m = after-then t t t₁ n n₁ n₂ (met (ltb 8 d) false false) e (rw k (after-met t n (ltb 8 d) false false)) a in
@@ -300,13 +300,13 @@ module _ (s : Bytes) (at d : ℕ) (t t₁ t₂ : Bytes) (n n₁ n₂ : Seen) (r 
       (reads-map s (restEffect b) t₁ t₂ n₂ (tailPieces (from s (p .next))) (effect d) t n (RawQuery.pieces (pieceOf s (p .comparator) (p .text))) r (a .adds .long)
       (λ l n′ z. rw (g l) (after-then t t₁ t₂ n n₂ n′ _ (restEffect b l) m z)) q)
 
-  pub plain-categories : (x : Span) → f ≡ First.Category x → After t n₁ (noded (Node.category (partOf s x)) false (not (true && isName (partOf s x))) false) t₁ n₂ → Reads s (restEffect true) t₁ n₂ (tailPieces (from s (p .next))) r t₂ → Reads s (effect d) t n (plainBody (from s at)) r t₂
+  pub plain-categories : (x : Span) → f ≡ First.Category x → After t n₁ (noded (Node.category (partOf s x)) false (not (true && isName (partOf s x))) false) t₁ n₂ → ReadsPart s (restEffect true) t₁ n₂ (tailPieces (from s (p .next))) r t₂ → ReadsPart s (effect d) t n (plainBody (from s at)) r t₂
   unfolding categoryTold
   plain-categories x e a q =
       let o = only-some _ _ _ (rw e at c) in
       begun true _ a (λ l. rw (o .1) (categories-effect d (pieceOf s (p .comparator) (p .text)) l (o .0))) q
 
-  pub plain-identifiers : f ≡ First.Other → After t n₁ (pieceEffect false (pieceOf s (p .comparator) (p .text))) t₁ n₂ → Reads s (restEffect false) t₁ n₂ (tailPieces (from s (p .next))) r t₂ → Reads s (effect d) t n (plainBody (from s at)) r t₂
+  pub plain-identifiers : f ≡ First.Other → After t n₁ (pieceEffect false (pieceOf s (p .comparator) (p .text))) t₁ n₂ → ReadsPart s (restEffect false) t₁ n₂ (tailPieces (from s (p .next))) r t₂ → ReadsPart s (effect d) t n (plainBody (from s at)) r t₂
   unfolding categoryTold
   plain-identifiers e a q =
       let o = only-none _ _ (rw e at c) in

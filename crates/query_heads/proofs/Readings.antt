@@ -9,7 +9,7 @@ use lib.ListN.{length}
 use borrow.Author.Tests.{lt-ltb, le-ltb, ltb-true, ltb-false}
 use Rattle.text.specs.Bytes.{Bytes}
 use Rattle.language.specs.Answer.{_>>=_}
-use Rattle.query_heads.specs.Effects.{Effect, After, Reads, ReadsOn}
+use Rattle.query_heads.specs.Effects.{Effect, After, ReadsPart, ReadsOn}
 use Rattle.query_heads.specs.Trees.{deeper}
 use Rattle.query_heads.specs.declared.Seen.{Seen}
 use Rattle.query_heads.specs.declared.Outcome.{Outcome}
@@ -53,20 +53,20 @@ module _ {A : Type 0} (s : Bytes) (e : A → Effect) (t t′ : Bytes) (n : Seen)
   -- What was read, changed by g.
   pub reads-map : {B : Type 0} (f : B → Effect) (t₀ : Bytes) (n₀ : Seen) (g : A → B) (r : Outcome) → length t ≡ length t₀
       → ((a : A) (n′ : Seen) → After t n (e a) t′ n′ → After t₀ n₀ (f (g a)) t′ n′)
-      → Reads s e t n o r t′ → Reads s f t₀ n₀ (o >>= λ x. some (g (x .0), x .1)) r t′
-  unfolding Reads
+      → ReadsPart s e t n o r t′ → ReadsPart s f t₀ n₀ (o >>= λ x. some (g (x .0), x .1)) r t′
+  unfolding ReadsPart
   reads-map f t₀ n₀ g (Outcome.Got next n′) l h r = (g (r .0), rw (r .1), h (r .0) n′ (r .2))
   reads-map f t₀ n₀ g Outcome.Refused l h r = (rw (r .0), r .1 ∙ l)
 
   -- What was read, read on.
-  pub reads-on : (f : A → Bytes → Option (A × Bytes)) (next : ℕ) (n′ : Seen) (x r : Outcome) (t″ : Bytes) → Reads s e t n o x t′ → x ≡ Outcome.Got next n′ → ReadsOn s e t′ n′ f next r t″ → Reads s e t n (o >>= λ q. f (q .0) (q .1)) r t″
-  unfolding Reads ReadsOn
+  pub reads-on : (f : A → Bytes → Option (A × Bytes)) (next : ℕ) (n′ : Seen) (x r : Outcome) (t″ : Bytes) → ReadsPart s e t n o x t′ → x ≡ Outcome.Got next n′ → ReadsOn s e t′ n′ f next r t″ → ReadsPart s e t n (o >>= λ q. f (q .0) (q .1)) r t″
+  unfolding ReadsPart ReadsOn
   reads-on f next n′ x r t″ h g k =
       let (a, p, q) = rw g at h in
       rw p (k a t n q)
 
-  pub reads-no : {B : Type 0} (f : B → Effect) (k : A × Bytes → Option (B × Bytes)) (x : Outcome) → Reads s e t n o x t′ → x ≡ Outcome.Refused → Reads s f t n (o >>= k) Outcome.Refused t′
-  unfolding Reads
+  pub reads-no : {B : Type 0} (f : B → Effect) (k : A × Bytes → Option (B × Bytes)) (x : Outcome) → ReadsPart s e t n o x t′ → x ≡ Outcome.Refused → ReadsPart s f t n (o >>= k) Outcome.Refused t′
+  unfolding ReadsPart
   reads-no f k x h g =
       let (p, l) = rw g at h in
       (rw p, l)

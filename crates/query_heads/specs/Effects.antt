@@ -59,10 +59,10 @@ connective Connective.Or n = Node.or n
 connective Connective.Bar n = Node.bar n
 
 -- What a reader answers of what o reads: e tells the effect of what was read.
-unfoldable pub Reads : {A : Type 0} → Bytes → (A → Effect) → Bytes → Seen → Option (A × Bytes) → Outcome → Bytes → Type 0
-Reads s e t n o Outcome.Refused t′ = (o ≡ none) × (length t′ ≡ length t)
-Reads {A} s e t n o (Outcome.Got next n′) t′ = (a : A) × (o ≡ some (a, from s next)) × After t n (e a) t′ n′
+unfoldable pub ReadsPart : {A : Type 0} → Bytes → (A → Effect) → Bytes → Seen → Option (A × Bytes) → Outcome → Bytes → Type 0
+ReadsPart s e t n o Outcome.Refused t′ = (o ≡ none) × (length t′ ≡ length t)
+ReadsPart {A} s e t n o (Outcome.Got next n′) t′ = (a : A) × (o ≡ some (a, from s next)) × After t n (e a) t′ n′
 
 -- The same behind something whose effect is there already: f reads on from it.
 unfoldable pub ReadsOn : {A : Type 0} → Bytes → (A → Effect) → Bytes → Seen → (A → Bytes → Option (A × Bytes)) → ℕ → Outcome → Bytes → Type 0
-ReadsOn {A} s e t′ n′ f at r t″ = (a : A) (t : Bytes) (n : Seen) → After t n (e a) t′ n′ → Reads s e t n (f a (from s at)) r t″
+ReadsOn {A} s e t′ n′ f at r t″ = (a : A) (t : Bytes) (n : Seen) → After t n (e a) t′ n′ → ReadsPart s e t n (f a (from s at)) r t″

@@ -8,7 +8,7 @@ ghost use Rattle.language.specs.QueryText.{breaksReference};
 ghost use Rattle.pieces.specs.Places.{from, pieceOf, headOf};
 ghost use Rattle.query_tree.specs.Nodes.{Node};
 ghost use Rattle.query_tree.specs.Reading.{nodeBy};
-ghost use Rattle.query_heads.specs.Effects.{After, noded, Reads};
+ghost use Rattle.query_heads.specs.Effects.{After, noded, ReadsPart};
 ghost use Rattle.query_heads.specs.Trees.{deeper, valueNode, nodeOfPiece, pieceEffect, effectIn, chainEffect, restEffect, tailPieces, effect, numberOfRead};
 use crate::Outcome;
 use crate::Seen;
@@ -185,7 +185,7 @@ fn piece(
 
 // The pieces behind the first of a bracket without `::`, and its `]]`. Each is one node.
 fn more_pieces(s: &[u8], at: usize, categories: bool, tree: &mut [u8], seen: Seen) -> Outcome
-    ensures { λ r. ⌜ Reads (now (s .entry)) (restEffect categories) (now (tree .entry)) seen (tailPieces (from (now (s .entry)) at)) r (now (tree .exit)) ⌝ }
+    ensures { λ r. ⌜ ReadsPart (now (s .entry)) (restEffect categories) (now (tree .entry)) seen (tailPieces (from (now (s .entry)) at)) r (now (tree .exit)) ⌝ }
 {
     match after(s, at, b"||") {
         Found::At(i) => {
@@ -205,7 +205,7 @@ fn more_pieces(s: &[u8], at: usize, categories: bool, tree: &mut [u8], seen: See
 
 // The body of a bracket without `::`, and its `]]`.
 pub fn plain(s: &[u8], at: usize, depth: usize, tree: &mut [u8], seen: Seen) -> Outcome
-    ensures { λ r. ⌜ Reads (now (s .entry)) (effect depth) (now (tree .entry)) seen (plainBody (from (now (s .entry)) at)) r (now (tree .exit)) ⌝ }
+    ensures { λ r. ⌜ ReadsPart (now (s .entry)) (effect depth) (now (tree .entry)) seen (plainBody (from (now (s .entry)) at)) r (now (tree .exit)) ⌝ }
 {
     let p = piece_at(s, at);
     let c = p.comparator;

@@ -14,7 +14,7 @@ use Rattle.language.proofs.Leaving.{Behind, token-leaves, next-leaves, head-lea
 use Rattle.language.proofs.Readers.{conjunction-less, term-less, alternative-no-more}
 use Rattle.pieces.specs.Places.{from, restOf, placeOf, headAt}
 use Rattle.pieces.specs.declared.Found.{Found}
-use Rattle.query_heads.specs.Effects.{Effect, Reads}
+use Rattle.query_heads.specs.Effects.{Effect, ReadsPart}
 use Rattle.query_heads.specs.declared.Seen.{Seen}
 use Rattle.query_heads.specs.declared.Outcome.{Outcome}
 
@@ -23,8 +23,8 @@ found-on : (P : Bytes → Type 0) (s : Bytes) (o : Option Bytes) (i : ℕ) (a : 
 unfolding restOf
 found-on P s o i a h p g = let k : OnSome P (restOf s a) = rw p h in rw g at k
 
-got-on : {A : Type 0} (P : A × Bytes → Type 0) (s : Bytes) (e : A → Effect) (t t′ : Bytes) (n n′ : Seen) (o : Option (A × Bytes)) (next : ℕ) (x : Outcome) → OnSome P o → Reads s e t n o x t′ → x ≡ Outcome.Got next n′ → (a : A) × P (a, from s next)
-unfolding Reads
+got-on : {A : Type 0} (P : A × Bytes → Type 0) (s : Bytes) (e : A → Effect) (t t′ : Bytes) (n n′ : Seen) (o : Option (A × Bytes)) (next : ℕ) (x : Outcome) → OnSome P o → ReadsPart s e t n o x t′ → x ≡ Outcome.Got next n′ → (a : A) × P (a, from s next)
+unfolding ReadsPart
 got-on P s e t t′ n n′ o next x k h g =
     let z = rw g at h in
     (z .0, rw (z .1) at k)
@@ -43,7 +43,7 @@ module _ (s : Bytes) (at i k : ℕ) (a : Found) where
     pub fall-token-1 : 4 * length (from s at) ≡ k → 4 * length (from s i) + 1 < k
     fall-token-1 e = let l = less in omega arith
 
-    pub fall-or : (d : RawQuery → Effect) (t t′ : Bytes) (n n′ : Seen) (next : ℕ) (x : Outcome) → Reads s d t n (readConjunction (from s i)) x t′ → x ≡ Outcome.Got next n′ → 4 * length (from s at) ≡ k → 4 * length (from s next) < k
+    pub fall-or : (d : RawQuery → Effect) (t t′ : Bytes) (n n′ : Seen) (next : ℕ) (x : Outcome) → ReadsPart s d t n (readConjunction (from s i)) x t′ → x ≡ Outcome.Got next n′ → 4 * length (from s at) ≡ k → 4 * length (from s next) < k
     fall-or d t t′ n n′ next x h y e =
         let l = less in
         let m = got-on (Less (from s i)) s d t t′ n n′ _ next x (conjunction-less (from s i)) h y in
@@ -56,7 +56,7 @@ module _ (s : Bytes) (at i k : ℕ) (a : Found) where
     pub fall-next : 4 * length (from s at) + 1 ≡ k → 4 * length (from s i) < k
     fall-next e = let l = no-more in omega arith
 
-    pub fall-and : (d : RawQuery → Effect) (t t′ : Bytes) (n n′ : Seen) (next : ℕ) (x : Outcome) → Reads s d t n (readTerm (from s i)) x t′ → x ≡ Outcome.Got next n′ → 4 * length (from s at) + 1 ≡ k → 4 * length (from s next) + 1 < k
+    pub fall-and : (d : RawQuery → Effect) (t t′ : Bytes) (n n′ : Seen) (next : ℕ) (x : Outcome) → ReadsPart s d t n (readTerm (from s i)) x t′ → x ≡ Outcome.Got next n′ → 4 * length (from s at) + 1 ≡ k → 4 * length (from s next) + 1 < k
     fall-and d t t′ n n′ next x h y e =
         let l = no-more in
         let m = got-on (Less (from s i)) s d t t′ n n′ _ next x (term-less (from s i)) h y in
@@ -69,20 +69,20 @@ module _ (s : Bytes) (at i k : ℕ) (a : Found) where
     pub fall-after : 4 * length (from s at) ≡ k → 4 * length (from s i) < k
     fall-after e = let l = behind in omega arith
 
-    pub fall-more : (d : RawAlternatives → Effect) (t t′ : Bytes) (n n′ : Seen) (next : ℕ) (x : Outcome) → Reads s d t n (readAlternative (from s i)) x t′ → x ≡ Outcome.Got next n′ → 4 * length (from s at) ≡ k → 4 * length (from s next) < k
+    pub fall-more : (d : RawAlternatives → Effect) (t t′ : Bytes) (n n′ : Seen) (next : ℕ) (x : Outcome) → ReadsPart s d t n (readAlternative (from s i)) x t′ → x ≡ Outcome.Got next n′ → 4 * length (from s at) ≡ k → 4 * length (from s next) < k
     fall-more d t t′ n n′ next x h y e =
         let l = behind in
         let m = got-on (NoMore (from s i)) s d t t′ n n′ _ next x (alternative-no-more (from s i)) h y in
         omega arith
 
 module _ (s : Bytes) (at k next : ℕ) (t t′ : Bytes) (n n′ : Seen) (x : Outcome) (y : x ≡ Outcome.Got next n′) where
-  pub fall-query : (d : RawQuery → Effect) → Reads s d t n (readConjunction (from s at)) x t′ → 4 * length (from s at) + 3 ≡ k → 4 * length (from s next) < k
+  pub fall-query : (d : RawQuery → Effect) → ReadsPart s d t n (readConjunction (from s at)) x t′ → 4 * length (from s at) + 3 ≡ k → 4 * length (from s next) < k
   fall-query d h e = let m = got-on (Less (from s at)) s d t t′ n n′ _ next x (conjunction-less (from s at)) h y in omega arith
 
-  pub fall-conjunction : (d : RawQuery → Effect) → Reads s d t n (readTerm (from s at)) x t′ → 4 * length (from s at) + 2 ≡ k → 4 * length (from s next) + 1 < k
+  pub fall-conjunction : (d : RawQuery → Effect) → ReadsPart s d t n (readTerm (from s at)) x t′ → 4 * length (from s at) + 2 ≡ k → 4 * length (from s next) + 1 < k
   fall-conjunction d h e = let m = got-on (Less (from s at)) s d t t′ n n′ _ next x (term-less (from s at)) h y in omega arith
 
-  pub fall-alternatives : (d : RawAlternatives → Effect) → Reads s d t n (readAlternative (from s at)) x t′ → 4 * length (from s at) + 1 ≡ k → 4 * length (from s next) < k
+  pub fall-alternatives : (d : RawAlternatives → Effect) → ReadsPart s d t n (readAlternative (from s at)) x t′ → 4 * length (from s at) + 1 ≡ k → 4 * length (from s next) < k
   fall-alternatives d h e = let m = got-on (NoMore (from s at)) s d t t′ n n′ _ next x (alternative-no-more (from s at)) h y in omega arith
 
 -- The head of a bracket lies within the text, with its `::`.

@@ -24,7 +24,7 @@ use Rattle.query_tree.specs.Form.{treeOf}
 use Rattle.query_tree.proofs.Held.{text-fits}
 use Rattle.query_write.specs.Laying.{Fits}
 use Rattle.query_write.proofs.Laws.{fits-laid, laid-none, finished}
-use Rattle.query_heads.specs.Effects.{Reads}
+use Rattle.query_heads.specs.Effects.{ReadsPart}
 use Rattle.query_heads.specs.Trees.{effect}
 use Rattle.query_heads.specs.declared.Seen.{Seen}
 use Rattle.query_heads.specs.declared.Outcome.{Outcome}
@@ -45,7 +45,7 @@ unfolding readText
 text-long s t h = text-refused s t t Reading.TooLong (rw (lt-ltb 1024 (length s) h)) refl
 
 -- The conditions of 14, 15 and 16.
-judged : (d n v : Bool) {A : Type 0} (a : A) → numberOfReading (cond d Reading.TooDeep (cond n Reading.BadName (cond v Reading.BadValue Reading.Fine))) ≡ numberOf (judge (14 if d ∷ 15 if n ∷ 16 if v ∷ []) a)
+judged : (d n v : Bool) {A : Type 0} (a : A) → numberOfReading (cond d Reading.TooDeep (cond n Reading.BadName (cond v Reading.BadValue Reading.Accepted))) ≡ numberOf (judge (14 if d ∷ 15 if n ∷ 16 if v ∷ []) a)
 unfolding judge
 judged true n v a = refl
 judged false true v a = refl
@@ -77,16 +77,16 @@ module _ (s : Bytes) (short : length s ≤ 1024) where
   unfolding readText
   a-reading q e = rw (le-ltb 1024 (length s) short, e)
 
-  module _ (t t′ : Bytes) (x : Outcome) (k : Reads s (effect 0) t nothing (readQuery (from s 0)) x t′) where
+  module _ (t t′ : Bytes) (x : Outcome) (k : ReadsPart s (effect 0) t nothing (readQuery (from s 0)) x t′) where
     pub text-none : x ≡ Outcome.Refused → ReadsText s t t′ Reading.NoReading
-    unfolding Reads readWhole from
+    unfolding ReadsPart readWhole from
     text-none g =
         let z = rw g at k in
         text-refused s t t′ Reading.NoReading (no-reading (rw (z .0))) (z .1)
 
     module _ (next end : ℕ) (n′ : Seen) (g : x ≡ Outcome.Got next n′) (e : end ≡ next + span isBlank (drop next s)) where
       pub text-tail : end < length s → ReadsText s t t′ Reading.NoReading
-      unfolding Reads readWhole from
+      unfolding ReadsPart readWhole from
       text-tail l =
           let z = rw g at k in
           let o : eqb (length (behind isBlank (from s next))) 0 ≡ false = ap (λ m. eqb m 0) (left-over s next end e) ∙ ne-eqb (length s - end) 0 (λ u. omega arith) in
@@ -99,7 +99,7 @@ module _ (s : Bytes) (short : length s ≤ 1024) where
           rw (u, o)
 
       pub text-read : (t″ : Bytes) (r : Reading) → length s ≤ end → t″ ≡ written t′ 0 (twoBytes (n′ .place .count)) → r ≡ verdictOf n′ → ReadsText s t t″ r
-      unfolding Reads effect verdictOf treeOf
+      unfolding ReadsPart effect verdictOf treeOf
       text-read t″ r l w u =
           let z = rw g at k in
           let q = z .0 in

@@ -17,7 +17,7 @@ use Rattle.pieces.specs.Places.{from, restOf, placeOf, headAt, headOf, innerEnd
 use Rattle.pieces.specs.declared.Found.{Found}
 use Rattle.pieces.specs.declared.Placed.{Placed}
 use Rattle.query_tree.specs.Nodes.{Node}
-use Rattle.query_heads.specs.Effects.{Effect, one, _then_, After, connective, Reads, ReadsOn}
+use Rattle.query_heads.specs.Effects.{Effect, one, _then_, After, connective, ReadsPart, ReadsOn}
 use Rattle.query_heads.specs.Trees.{deeper, effect, effectIn, chainEffect, propertyBody}
 use Rattle.query_heads.specs.declared.Connective.{Connective}
 use Rattle.query_heads.specs.declared.Seen.{Seen}
@@ -30,30 +30,30 @@ use Rattle.query_read.proofs.Trees.{effect-or, effect-and, effect-group
 -- Reading on behind what was read: f reads on, o reads what comes next, w finds where, behind a connective.
 module _ {A : Type 0} (e : A → Effect) (f : A → Bytes → Option (A × Bytes)) (o : Bytes → Option (A × Bytes)) (w : Bytes → Option Bytes) (kind : Connective) where
   abbrev pub Joined : Type 0
-  Joined = (s : Bytes) (at i next : ℕ) (t t₁ t₂ t₃ : Bytes) (n n₁ n₂ : Seen) (x : Found) (y r : Outcome) → restOf s x ≡ w (from s at) → x ≡ Found.At i → Reads s e t n (o (from s i)) y t₁ → y ≡ Outcome.Got next n₁ → After t₁ n₁ (one (connective kind (n₁ .place .count - n .place .count))) t₂ n₂ → ReadsOn s e t₂ n₂ f next r t₃ → ReadsOn s e t n f at r t₃
+  Joined = (s : Bytes) (at i next : ℕ) (t t₁ t₂ t₃ : Bytes) (n n₁ n₂ : Seen) (x : Found) (y r : Outcome) → restOf s x ≡ w (from s at) → x ≡ Found.At i → ReadsPart s e t n (o (from s i)) y t₁ → y ≡ Outcome.Got next n₁ → After t₁ n₁ (one (connective kind (n₁ .place .count - n .place .count))) t₂ n₂ → ReadsOn s e t₂ n₂ f next r t₃ → ReadsOn s e t n f at r t₃
 
   abbrev pub Stopped : Type 0
-  Stopped = (s : Bytes) (at i : ℕ) (t t₁ : Bytes) (n : Seen) (x : Found) (y : Outcome) → restOf s x ≡ w (from s at) → x ≡ Found.At i → Reads s e t n (o (from s i)) y t₁ → y ≡ Outcome.Refused → ReadsOn s e t n f at Outcome.Refused t₁
+  Stopped = (s : Bytes) (at i : ℕ) (t t₁ : Bytes) (n : Seen) (x : Found) (y : Outcome) → restOf s x ≡ w (from s at) → x ≡ Found.At i → ReadsPart s e t n (o (from s i)) y t₁ → y ≡ Outcome.Refused → ReadsOn s e t n f at Outcome.Refused t₁
 
   abbrev pub Done : Type 0
   Done = (s : Bytes) (at : ℕ) (t : Bytes) (n : Seen) (x : Found) → restOf s x ≡ w (from s at) → x ≡ Found.Nothing → ReadsOn s e t n f at (Outcome.Got at n) t
 
   module _ (j : A → A → A) (eq : (s : Bytes) (a : A) → f a s ≡ found (w s) (λ r. o r >>= λ b. f (j a (b .0)) (b .1)) (some (a, s))) where
     on-joined : ((a b : A) → e (j a b) ≡ e a then e b then one (connective kind (length (e b .nodes)))) → Joined
-    unfolding restOf Reads ReadsOn
+    unfolding restOf ReadsPart ReadsOn
     on-joined both s at i next t t₁ t₂ t₃ n n₁ n₂ x y r p g h k c l a t₀ n₀ before =
         let b = rw k at h in
         let m = joined t₀ t t₁ t₂ n₀ n n₁ n₂ (e a) (e (b .0)) (connective kind) before (b .2) c in
         rw (eq (from s at) a, ← p, g, b .1) (l (j a (b .0)) t₀ n₀ (rw (both a (b .0)) m))
 
     on-stopped : Stopped
-    unfolding restOf Reads ReadsOn
+    unfolding restOf ReadsPart ReadsOn
     on-stopped s at i t t₁ n x y p g h k a t₀ n₀ before =
         let b = rw k at h in
         (rw (eq (from s at) a, ← p, g, b .0), b .1 ∙ before .adds .long)
 
     on-done : Done
-    unfolding restOf Reads ReadsOn
+    unfolding restOf ReadsPart ReadsOn
     on-done s at t n x p g a t₀ n₀ before = (a, rw (eq (from s at) a, ← p, g), before)
 
 module _ (d : ℕ) where
@@ -86,31 +86,31 @@ module _ (d : ℕ) where
 
 -- A reading and what comes behind it.
 module _ (s : Bytes) (d at next : ℕ) (t t′ t″ : Bytes) (n n′ : Seen) (x r : Outcome) where
-  pub query-got : Reads s (effect d) t n (readConjunction (from s at)) x t′ → x ≡ Outcome.Got next n′ → ReadsOn s (effect d) t′ n′ readOr next r t″ → Reads s (effect d) t n (readQuery (from s at)) r t″
+  pub query-got : ReadsPart s (effect d) t n (readConjunction (from s at)) x t′ → x ≡ Outcome.Got next n′ → ReadsOn s (effect d) t′ n′ readOr next r t″ → ReadsPart s (effect d) t n (readQuery (from s at)) r t″
   query-got h g k = rw (query-eq (from s at)) (reads-on s (effect d) t t′ n (readConjunction (from s at)) readOr next n′ x r t″ h g k)
 
-  pub conjunction-got : Reads s (effect d) t n (readTerm (from s at)) x t′ → x ≡ Outcome.Got next n′ → ReadsOn s (effect d) t′ n′ readAnd next r t″ → Reads s (effect d) t n (readConjunction (from s at)) r t″
+  pub conjunction-got : ReadsPart s (effect d) t n (readTerm (from s at)) x t′ → x ≡ Outcome.Got next n′ → ReadsOn s (effect d) t′ n′ readAnd next r t″ → ReadsPart s (effect d) t n (readConjunction (from s at)) r t″
   conjunction-got h g k = rw (conjunction-eq (from s at)) (reads-on s (effect d) t t′ n (readTerm (from s at)) readAnd next n′ x r t″ h g k)
 
-  pub alternatives-got : Reads s (effectIn d) t n (readAlternative (from s at)) x t′ → x ≡ Outcome.Got next n′ → ReadsOn s (effectIn d) t′ n′ readMore next r t″ → Reads s (effectIn d) t n (readAlternatives (from s at)) r t″
+  pub alternatives-got : ReadsPart s (effectIn d) t n (readAlternative (from s at)) x t′ → x ≡ Outcome.Got next n′ → ReadsOn s (effectIn d) t′ n′ readMore next r t″ → ReadsPart s (effectIn d) t n (readAlternatives (from s at)) r t″
   alternatives-got h g k = rw (alternatives-eq (from s at)) (reads-on s (effectIn d) t t′ n (readAlternative (from s at)) readMore next n′ x r t″ h g k)
 
 module _ (s : Bytes) (d at : ℕ) (t t′ : Bytes) (n : Seen) (x : Outcome) (g : x ≡ Outcome.Refused) where
-  pub query-not : Reads s (effect d) t n (readConjunction (from s at)) x t′ → Reads s (effect d) t n (readQuery (from s at)) Outcome.Refused t′
+  pub query-not : ReadsPart s (effect d) t n (readConjunction (from s at)) x t′ → ReadsPart s (effect d) t n (readQuery (from s at)) Outcome.Refused t′
   query-not h = rw (query-eq (from s at)) (reads-no s (effect d) t t′ n (readConjunction (from s at)) (effect d) _ x h g)
 
-  pub conjunction-not : Reads s (effect d) t n (readTerm (from s at)) x t′ → Reads s (effect d) t n (readConjunction (from s at)) Outcome.Refused t′
+  pub conjunction-not : ReadsPart s (effect d) t n (readTerm (from s at)) x t′ → ReadsPart s (effect d) t n (readConjunction (from s at)) Outcome.Refused t′
   conjunction-not h = rw (conjunction-eq (from s at)) (reads-no s (effect d) t t′ n (readTerm (from s at)) (effect d) _ x h g)
 
-  pub alternatives-not : Reads s (effectIn d) t n (readAlternative (from s at)) x t′ → Reads s (effectIn d) t n (readAlternatives (from s at)) Outcome.Refused t′
+  pub alternatives-not : ReadsPart s (effectIn d) t n (readAlternative (from s at)) x t′ → ReadsPart s (effectIn d) t n (readAlternatives (from s at)) Outcome.Refused t′
   alternatives-not h = rw (alternatives-eq (from s at)) (reads-no s (effectIn d) t t′ n (readAlternative (from s at)) (effectIn d) _ x h g)
 
 -- A group, or a bracket.
 module _ (s : Bytes) (d at i : ℕ) (t t′ : Bytes) (n : Seen) (a : Found) (p : restOf s a ≡ token (bytes "<q>") (from s at)) where
-  module _ (g : a ≡ Found.At i) (k : ℕ) (e : k ≡ deeper d) (y : Outcome) (h : Reads s (effect k) t n (readQuery (from s i)) y t′) where
+  module _ (g : a ≡ Found.At i) (k : ℕ) (e : k ≡ deeper d) (y : Outcome) (h : ReadsPart s (effect k) t n (readQuery (from s i)) y t′) where
     module _ (next : ℕ) (n′ : Seen) (l : y ≡ Outcome.Got next n′) (b : Found) (q : restOf s b ≡ token (bytes "</q>") (from s next)) where
-      pub term-group : (end : ℕ) → b ≡ Found.At end → Reads s (effect d) t n (readTerm (from s at)) (Outcome.Got end n′) t′
-      unfolding restOf Reads closedGroup
+      pub term-group : (end : ℕ) → b ≡ Found.At end → ReadsPart s (effect d) t n (readTerm (from s at)) (Outcome.Got end n′) t′
+      unfolding restOf ReadsPart closedGroup
       term-group end f =
           let z = rw l at h in
           (RawQuery.group (z .0), closes (z .0) (z .1), rw (effect-group d (z .0), ← e) (z .2))
@@ -118,25 +118,25 @@ module _ (s : Bytes) (d at i : ℕ) (t t′ : Bytes) (n : Seen) (a : Found) (p :
           closes : (x : RawQuery) → readQuery (from s i) ≡ some (x, from s next) → readTerm (from s at) ≡ some (RawQuery.group x, from s end)
           closes x m = rw (term-eq (from s at), ← p, g, m, ← q, f)
 
-      pub term-open : b ≡ Found.Nothing → Reads s (effect d) t n (readTerm (from s at)) Outcome.Refused t′
-      unfolding restOf Reads closedGroup
+      pub term-open : b ≡ Found.Nothing → ReadsPart s (effect d) t n (readTerm (from s at)) Outcome.Refused t′
+      unfolding restOf ReadsPart closedGroup
       term-open f =
           let z = rw l at h in
           (rw (term-eq (from s at), ← p, g, z .1, ← q, f), z .2 .adds .long)
 
-    pub term-not : y ≡ Outcome.Refused → Reads s (effect d) t n (readTerm (from s at)) Outcome.Refused t′
-    unfolding restOf Reads
+    pub term-not : y ≡ Outcome.Refused → ReadsPart s (effect d) t n (readTerm (from s at)) Outcome.Refused t′
+    unfolding restOf ReadsPart
     term-not l =
         let z = rw l at h in
         (rw (term-eq (from s at), ← p, g, z .0), z .1)
 
 module _ (s : Bytes) (d at : ℕ) (t : Bytes) (n : Seen) (a b : Found) (p : restOf s a ≡ token (bytes "<q>") (from s at)) (g : a ≡ Found.Nothing) (q : restOf s b ≡ token (bytes "[[") (from s at)) where
-  pub term-bracket : (i : ℕ) (t′ : Bytes) (r : Outcome) → b ≡ Found.At i → Reads s (effect d) t n (readBody (from s i)) r t′ → Reads s (effect d) t n (readTerm (from s at)) r t′
+  pub term-bracket : (i : ℕ) (t′ : Bytes) (r : Outcome) → b ≡ Found.At i → ReadsPart s (effect d) t n (readBody (from s i)) r t′ → ReadsPart s (effect d) t n (readTerm (from s at)) r t′
   unfolding restOf
   term-bracket i t′ r f h = rw (term-eq (from s at), ← p, g, ← q, f) h
 
-  pub term-none : b ≡ Found.Nothing → Reads s (effect d) t n (readTerm (from s at)) Outcome.Refused t
-  unfolding restOf Reads
+  pub term-none : b ≡ Found.Nothing → ReadsPart s (effect d) t n (readTerm (from s at)) Outcome.Refused t
+  unfolding restOf ReadsPart
   term-none f = (rw (term-eq (from s at), ← p, g, ← q, f), refl)
 
 -- A bracket with `::`, or without.
@@ -148,7 +148,7 @@ head-no : (at : ℕ) (o : Option ℕ) → none ≡ mapOption (λ k. at + k) o �
 head-no at none h = refl
 head-no at (some k) h = cc
 
-pub bracket-plain : (s : Bytes) (d at : ℕ) (t t′ : Bytes) (n : Seen) (a : Found) (r : Outcome) → placeOf a ≡ headAt s at → a ≡ Found.Nothing → Reads s (effect d) t n (plainBody (from s at)) r t′ → Reads s (effect d) t n (readBody (from s at)) r t′
+pub bracket-plain : (s : Bytes) (d at : ℕ) (t t′ : Bytes) (n : Seen) (a : Found) (r : Outcome) → placeOf a ≡ headAt s at → a ≡ Found.Nothing → ReadsPart s (effect d) t n (plainBody (from s at)) r t′ → ReadsPart s (effect d) t n (readBody (from s at)) r t′
 unfolding placeOf headAt
 bracket-plain s d at t t′ n a r p g h = rw (body-eq (from s at), head-no at (headLength (from s at)) (rw g at p)) h
 
@@ -168,20 +168,20 @@ module _ (s h : Bytes) (d at i : ℕ) (t : Bytes) (n : Seen) (a : Found) (b : Bo
   unfolding from
   free g = rw (← e) (sym f ∙ g)
 
-  pub bracket-unfree : not b ≡ true → Reads s (effect d) t n (readBody (from s at)) Outcome.Refused t
-  unfolding Reads propertyBody
+  pub bracket-unfree : not b ≡ true → ReadsPart s (effect d) t n (readBody (from s at)) Outcome.Refused t
+  unfolding ReadsPart propertyBody
   bracket-unfree g = (rw (body, free (not-true b g)), refl)
 
-  module _ (g : not b ≡ false) (t′ : Bytes) (y : Outcome) (r : Reads s (effectIn d) t n (readAlternatives (from s (i + 2))) y t′) where
-    pub bracket-not : y ≡ Outcome.Refused → Reads s (effect d) t n (readBody (from s at)) Outcome.Refused t′
-    unfolding Reads propertyBody
+  module _ (g : not b ≡ false) (t′ : Bytes) (y : Outcome) (r : ReadsPart s (effectIn d) t n (readAlternatives (from s (i + 2))) y t′) where
+    pub bracket-not : y ≡ Outcome.Refused → ReadsPart s (effect d) t n (readBody (from s at)) Outcome.Refused t′
+    unfolding ReadsPart propertyBody
     bracket-not l =
         let z = rw l at r in
         (rw (body, free (not-false b g), behind-head, z .0), z .1)
 
     module _ (next : ℕ) (n′ : Seen) (l : y ≡ Outcome.Got next n′) (c : Found) (q : restOf s c ≡ after (bytes "]]") (from s next)) where
-      pub bracket-open : c ≡ Found.Nothing → Reads s (effect d) t n (readBody (from s at)) Outcome.Refused t′
-      unfolding Reads propertyBody closedBody restOf
+      pub bracket-open : c ≡ Found.Nothing → ReadsPart s (effect d) t n (readBody (from s at)) Outcome.Refused t′
+      unfolding ReadsPart propertyBody closedBody restOf
       bracket-open m =
           let z = rw l at r in
           (rw (body, free (not-false b g), behind-head, z .1, ← q, m), z .2 .adds .long)
@@ -190,8 +190,8 @@ module _ (s h : Bytes) (d at i : ℕ) (t : Bytes) (n : Seen) (a : Found) (b : Bo
       unfolding propertyBody closedBody restOf headOf from
       closed end w m k = rw (body, free (not-false b g), behind-head, k, ← q, m)
 
-      pub bracket-got : (end : ℕ) (t″ : Bytes) (n″ : Seen) → c ≡ Found.At end → After t′ n′ (chainEffect 0 (headOf s at (i - at))) t″ n″ → Reads s (effect d) t n (readBody (from s at)) (Outcome.Got end n″) t″
-      unfolding Reads
+      pub bracket-got : (end : ℕ) (t″ : Bytes) (n″ : Seen) → c ≡ Found.At end → After t′ n′ (chainEffect 0 (headOf s at (i - at))) t″ n″ → ReadsPart s (effect d) t n (readBody (from s at)) (Outcome.Got end n″) t″
+      unfolding ReadsPart
       bracket-got end t″ n″ m v =
           let z = rw l at r in
           (RawQuery.property (headOf s at (i - at)) (z .0), closed end (z .0) m (z .1), rw (effect-property d (headOf s at (i - at)) (z .0)) (after-then t t′ t″ n n′ n″ _ _ (z .2) v))
@@ -206,10 +206,10 @@ inner-is q s = go (token (bytes "</q>") s)
     go (some r) = refl
 
 module _ (s : Bytes) (d at : ℕ) (t t′ : Bytes) (n : Seen) (a : Found) (p : restOf s a ≡ token (bytes "<q>") (from s at)) where
-  module _ (i : ℕ) (g : a ≡ Found.At i) (k : ℕ) (e : k ≡ deeper d) (y : Outcome) (h : Reads s (effect k) t n (readQuery (from s i)) y t′) where
+  module _ (i : ℕ) (g : a ≡ Found.At i) (k : ℕ) (e : k ≡ deeper d) (y : Outcome) (h : ReadsPart s (effect k) t n (readQuery (from s i)) y t′) where
     module _ (next : ℕ) (n′ : Seen) (l : y ≡ Outcome.Got next n′) (b : Found) (q : restOf s b ≡ innerEnd (from s next)) where
-      pub alternative-group : (end : ℕ) (t″ : Bytes) (n″ : Seen) → b ≡ Found.At end → After t′ n′ (one Node.subquery) t″ n″ → Reads s (effectIn d) t n (readAlternative (from s at)) (Outcome.Got end n″) t″
-      unfolding restOf Reads
+      pub alternative-group : (end : ℕ) (t″ : Bytes) (n″ : Seen) → b ≡ Found.At end → After t′ n′ (one Node.subquery) t″ n″ → ReadsPart s (effectIn d) t n (readAlternative (from s at)) (Outcome.Got end n″) t″
+      unfolding restOf ReadsPart
       alternative-group end t″ n″ f w =
           let z = rw l at h in
           (RawAlternatives.subquery (z .0), closes (z .0) (z .1), rw (effect-inner d (z .0), ← e) (after-then t t′ t″ n n′ n″ _ _ (z .2) w))
@@ -217,20 +217,20 @@ module _ (s : Bytes) (d at : ℕ) (t t′ : Bytes) (n : Seen) (a : Found) (p : r
           closes : (x : RawQuery) → readQuery (from s i) ≡ some (x, from s next) → readAlternative (from s at) ≡ some (RawAlternatives.subquery x, from s end)
           closes x m = rw (alternative-eq (from s at), ← p, g, m, inner-is, ← q, f)
 
-      pub alternative-open : b ≡ Found.Nothing → Reads s (effectIn d) t n (readAlternative (from s at)) Outcome.Refused t′
-      unfolding restOf Reads
+      pub alternative-open : b ≡ Found.Nothing → ReadsPart s (effectIn d) t n (readAlternative (from s at)) Outcome.Refused t′
+      unfolding restOf ReadsPart
       alternative-open f =
           let z = rw l at h in
           (rw (alternative-eq (from s at), ← p, g, z .1, inner-is, ← q, f), z .2 .adds .long)
 
-    pub alternative-not : y ≡ Outcome.Refused → Reads s (effectIn d) t n (readAlternative (from s at)) Outcome.Refused t′
-    unfolding restOf Reads
+    pub alternative-not : y ≡ Outcome.Refused → ReadsPart s (effectIn d) t n (readAlternative (from s at)) Outcome.Refused t′
+    unfolding restOf ReadsPart
     alternative-not l =
         let z = rw l at h in
         (rw (alternative-eq (from s at), ← p, g, z .0), z .1)
 
-  pub alternative-piece : (c : Placed) (n′ : Seen) → a ≡ Found.Nothing → pieceAt (from s at) ≡ tellsPiece s c → After t n (effectIn d (RawAlternatives.piece (pieceOf s (c .comparator) (c .text)))) t′ n′ → Reads s (effectIn d) t n (readAlternative (from s at)) (Outcome.Got (c .next) n′) t′
-  unfolding restOf Reads tellsPiece
+  pub alternative-piece : (c : Placed) (n′ : Seen) → a ≡ Found.Nothing → pieceAt (from s at) ≡ tellsPiece s c → After t n (effectIn d (RawAlternatives.piece (pieceOf s (c .comparator) (c .text)))) t′ n′ → ReadsPart s (effectIn d) t n (readAlternative (from s at)) (Outcome.Got (c .next) n′) t′
+  unfolding restOf ReadsPart tellsPiece
   alternative-piece c n′ g k h = (RawAlternatives.piece (pieceOf s (c .comparator) (c .text)), rw (alternative-eq (from s at), ← p, g, k), h)
 
 pub ruleset cycle = (or-joined, or-stopped, or-done, and-joined, and-stopped, and-done, more-joined, more-stopped, more-done, query-got, conjunction-got, alternatives-got, query-not, conjunction-not, alternatives-not, term-group, term-open, term-not, term-bracket, term-none, bracket-plain, bracket-unfree, bracket-not, bracket-open, alternative-open, alternative-not, alternative-piece)

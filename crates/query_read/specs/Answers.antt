@@ -14,7 +14,7 @@ use Rattle.query_read.specs.declared.Reading.{Reading}
 
 -- 01's numbers.
 abbrev pub numberOfReading : Reading → ℕ
-numberOfReading Reading.Fine = 0
+numberOfReading Reading.Accepted = 0
 numberOfReading Reading.TooLong = 12
 numberOfReading Reading.NoReading = 13
 numberOfReading Reading.TooDeep = 14
@@ -29,4 +29,4 @@ pub record ReadsText (s t t′ : Bytes) (r : Reading) : Type 0 where
 
 -- A working definition: the first of 14, 15 and 16 whose condition was met.
 unfoldable pub verdictOf : Seen → Reading
-verdictOf n = cond (n .deep) Reading.TooDeep (cond (n .name) Reading.BadName (cond (n .value) Reading.BadValue Reading.Fine))
+verdictOf n = cond (n .deep) Reading.TooDeep (cond (n .name) Reading.BadName (cond (n .value) Reading.BadValue Reading.Accepted))

@@ -13,7 +13,7 @@ mod readers; // readers.rt: the grammar
 
 // What reading a text answers: that it was read, or why it was not.
 pub enum Reading {
-    Fine,
+    Accepted,
     TooLong,
     NoReading,
     TooDeep,
@@ -37,7 +37,7 @@ fn verdict(seen: Seen) -> Reading
     if value {
         Reading::BadValue
     } else {
-        Reading::Fine
+        Reading::Accepted
     }
 }
 

@@ -2,7 +2,7 @@
 // left, or stands lower in the grammar.
 ghost use Rattle.language.specs.RawQuery.{readQuery, readOr, readConjunction, readAnd, readTerm, readBody, readAlternatives, readMore, readAlternative};
 ghost use Rattle.pieces.specs.Places.{from};
-ghost use Rattle.query_heads.specs.Effects.{Reads, ReadsOn};
+ghost use Rattle.query_heads.specs.Effects.{ReadsPart, ReadsOn};
 ghost use Rattle.query_heads.specs.Trees.{effect, effectIn};
 use pieces::Found;
 use pieces::after;
@@ -27,7 +27,7 @@ use text::part;
 
 // Conjunctions parted by `OR`.
 pub fn query(s: &[u8], at: usize, depth: usize, tree: &mut [u8], seen: Seen) -> Outcome
-    ensures { λ r. ⌜ Reads (now (s .entry)) (effect depth) (now (tree .entry)) seen (readQuery (from (now (s .entry)) at)) r (now (tree .exit)) ⌝ }
+    ensures { λ r. ⌜ ReadsPart (now (s .entry)) (effect depth) (now (tree .entry)) seen (readQuery (from (now (s .entry)) at)) r (now (tree .exit)) ⌝ }
 {
     match conjunction(s, at, depth, tree, seen) {
         Outcome::Got(next, got) => more_conjunctions(s, next, depth, tree, got),
@@ -52,7 +52,7 @@ fn more_conjunctions(s: &[u8], at: usize, depth: usize, tree: &mut [u8], seen: S
 
 // Terms side by side or with `AND` between.
 fn conjunction(s: &[u8], at: usize, depth: usize, tree: &mut [u8], seen: Seen) -> Outcome
-    ensures { λ r. ⌜ Reads (now (s .entry)) (effect depth) (now (tree .entry)) seen (readConjunction (from (now (s .entry)) at)) r (now (tree .exit)) ⌝ }
+    ensures { λ r. ⌜ ReadsPart (now (s .entry)) (effect depth) (now (tree .entry)) seen (readConjunction (from (now (s .entry)) at)) r (now (tree .exit)) ⌝ }
 {
     match term(s, at, depth, tree, seen) {
         Outcome::Got(next, got) => more_terms(s, next, depth, tree, got),
@@ -77,7 +77,7 @@ fn more_terms(s: &[u8], at: usize, depth: usize, tree: &mut [u8], seen: Seen) ->
 
 // A bracket, or `<q>` query `</q>`.
 fn term(s: &[u8], at: usize, depth: usize, tree: &mut [u8], seen: Seen) -> Outcome
-    ensures { λ r. ⌜ Reads (now (s .entry)) (effect depth) (now (tree .entry)) seen (readTerm (from (now (s .entry)) at)) r (now (tree .exit)) ⌝ }
+    ensures { λ r. ⌜ ReadsPart (now (s .entry)) (effect depth) (now (tree .entry)) seen (readTerm (from (now (s .entry)) at)) r (now (tree .exit)) ⌝ }
 {
     match token(s, at, b"<q>") {
         Found::At(i) => match query(s, i, one_deeper(depth), tree, seen) {
@@ -96,7 +96,7 @@ fn term(s: &[u8], at: usize, depth: usize, tree: &mut [u8], seen: Seen) -> Outco
 
 // The body of a bracket and its `]]`. With `::` it has a head, whose names come behind the alternatives.
 fn bracket(s: &[u8], at: usize, depth: usize, tree: &mut [u8], seen: Seen) -> Outcome
-    ensures { λ r. ⌜ Reads (now (s .entry)) (effect depth) (now (tree .entry)) seen (readBody (from (now (s .entry)) at)) r (now (tree .exit)) ⌝ }
+    ensures { λ r. ⌜ ReadsPart (now (s .entry)) (effect depth) (now (tree .entry)) seen (readBody (from (now (s .entry)) at)) r (now (tree .exit)) ⌝ }
 {
     let Found::At(end) = head_end(s, at) else {
         return plain(s, at, depth, tree, seen);
@@ -119,7 +119,7 @@ fn bracket(s: &[u8], at: usize, depth: usize, tree: &mut [u8], seen: Seen) -> Ou
 
 // Alternatives parted by `||`.
 fn alternatives(s: &[u8], at: usize, depth: usize, tree: &mut [u8], seen: Seen) -> Outcome
-    ensures { λ r. ⌜ Reads (now (s .entry)) (effectIn depth) (now (tree .entry)) seen (readAlternatives (from (now (s .entry)) at)) r (now (tree .exit)) ⌝ }
+    ensures { λ r. ⌜ ReadsPart (now (s .entry)) (effectIn depth) (now (tree .entry)) seen (readAlternatives (from (now (s .entry)) at)) r (now (tree .exit)) ⌝ }
 {
     match alternative(s, at, depth, tree, seen) {
         Outcome::Got(next, got) => more_alternatives(s, next, depth, tree, got),
@@ -144,7 +144,7 @@ fn more_alternatives(s: &[u8], at: usize, depth: usize, tree: &mut [u8], seen: S
 
 // A subquery, or a piece.
 fn alternative(s: &[u8], at: usize, depth: usize, tree: &mut [u8], seen: Seen) -> Outcome
-    ensures { λ r. ⌜ Reads (now (s .entry)) (effectIn depth) (now (tree .entry)) seen (readAlternative (from (now (s .entry)) at)) r (now (tree .exit)) ⌝ }
+    ensures { λ r. ⌜ ReadsPart (now (s .entry)) (effectIn depth) (now (tree .entry)) seen (readAlternative (from (now (s .entry)) at)) r (now (tree .exit)) ⌝ }
 {
     match token(s, at, b"<q>") {
         Found::At(i) => match query(s, i, one_deeper(depth), tree, seen) {

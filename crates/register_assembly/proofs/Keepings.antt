@@ -17,7 +17,7 @@ use Rattle.text.proofs.Laws.{any-append}
 use Rattle.register_form.specs.Draft.{onceBehind, filtered}
 use Rattle.buffer.proofs.Parts.{flat-more}
 use Rattle.register_form.specs.Tables.{range, formsAt}
-use Rattle.register_assembly.specs.Keeping.{wants, passed, added, keptBy, keptOn, keptUpTo, Listed, Keeping, Kept, PassKept, Ready, PagesKept, Fresh, Within}
+use Rattle.register_assembly.specs.Keeping.{ofPass, passed, added, keptBy, keptOn, keptUpTo, Listed, Keeping, Kept, PassKept, Ready, PagesKept, Fresh, Within}
 
 -- One more in a table.
 module _ (l table : List ℕ) (n x : ℕ) (a : Listed l table n) (b : 2048 ≤ length table) where
@@ -127,11 +127,11 @@ module _ (first : Bool) (groups numbers : List ℕ) where
   unfolding keptBy passed filtered onceBehind
   kept-none kept = refl
 
-  kept-more : (kept l : List ℕ) (f : ℕ) → keptBy first groups numbers kept (l ++ (f ∷ [])) ≡ cond (wants first (getD groups f 0)) (added (keptBy first groups numbers kept l) (getD numbers f 0)) (keptBy first groups numbers kept l)
+  kept-more : (kept l : List ℕ) (f : ℕ) → keptBy first groups numbers kept (l ++ (f ∷ [])) ≡ cond (ofPass first (getD groups f 0)) (added (keptBy first groups numbers kept l) (getD numbers f 0)) (keptBy first groups numbers kept l)
   unfolding keptBy passed filtered onceBehind added
   kept-more kept l f =
-      ap (λ (t : List ℕ). onceBehind eqb kept (map (λ q. getD numbers q 0) t)) (filtered-append (λ q. wants first (getD groups q 0)) l (f ∷ []))
-      ∙ go (wants first (getD groups f 0))
+      ap (λ (t : List ℕ). onceBehind eqb kept (map (λ q. getD numbers q 0) t)) (filtered-append (λ q. ofPass first (getD groups q 0)) l (f ∷ []))
+      ∙ go (ofPass first (getD groups f 0))
     where
       go : (b : Bool) → onceBehind eqb kept (map (λ q. getD numbers q 0) (passed first groups l ++ cond b (f ∷ []) [])) ≡ cond b (added (keptBy first groups numbers kept l) (getD numbers f 0)) (keptBy first groups numbers kept l)
       go true =
@@ -144,14 +144,14 @@ module _ (first : Bool) (groups numbers : List ℕ) where
     pass-none = record { used-size = refl; table-size = refl; good = λ b before kept k. rw (range-none from, kept-none kept) k }
 
     module _ (f : ℕ) (used table : List ℕ) (count : ℕ) (a : PassKept page first groups numbers from f used₀ table₀ n used table count) where
-      pub pass-more : (k g x : ℕ) (w : Bool) (used′ table′ : List ℕ) (r : ℕ) → from ≤ f → k ≡ f → g ≡ getD groups k 0 → w ≡ wants first g → x ≡ getD numbers k 0 → Kept page x w used table count used′ table′ r → PassKept page first groups numbers from (f + 1) used₀ table₀ n used′ table′ r
+      pub pass-more : (k g x : ℕ) (w : Bool) (used′ table′ : List ℕ) (r : ℕ) → from ≤ f → k ≡ f → g ≡ getD groups k 0 → w ≡ ofPass first g → x ≡ getD numbers k 0 → Kept page x w used table count used′ table′ r → PassKept page first groups numbers from (f + 1) used₀ table₀ n used′ table′ r
       pass-more k g x w used′ table′ r h d e i j q =
           record {
             used-size = q .used-size ∙ a .used-size;
             table-size = q .table-size ∙ a .table-size;
             good = λ b before kept s.
                 let number : x ≡ getD numbers f 0 = j ∙ rw d in
-                let wanted : w ≡ wants first (getD groups f 0) = i ∙ rw (e, d) in
+                let wanted : w ≡ ofPass first (getD groups f 0) = i ∙ rw (e, d) in
                 let below : x < length used = rw (number, a .used-size) (b f h (omega arith)) in
                 rw (range-more from f h, kept-more kept (range from f) f, ← wanted, ← number)
                 (q .good before (keptBy first groups numbers kept (range from f)) below (a .good (λ y c z. b y c (omega arith)) before kept s));

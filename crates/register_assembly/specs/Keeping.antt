@@ -12,12 +12,12 @@ use Rattle.register_form.specs.Draft.{onceBehind, once, filtered}
 use Rattle.register_form.specs.Tables.{range, formsAt}
 
 -- The forms that a pass keeps: of categories the first, of values the second.
-abbrev pub wants : Bool → ℕ → Bool
-wants true g = eqb g 0
-wants false g = not (eqb g 0)
+abbrev pub ofPass : Bool → ℕ → Bool
+ofPass true g = eqb g 0
+ofPass false g = not (eqb g 0)
 
 unfoldable pub passed : Bool → List ℕ → List ℕ → List ℕ
-passed first groups l = filtered (λ f. wants first (getD groups f 0)) l
+passed first groups l = filtered (λ f. ofPass first (getD groups f 0)) l
 
 -- A number behind those kept, unless it is one of them.
 unfoldable pub added : List ℕ → ℕ → List ℕ

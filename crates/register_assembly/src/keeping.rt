@@ -1,7 +1,7 @@
 // The forms that each page keeps: categories first, then values, each once, in the order in which they came.
 ghost use mathlib.Core.Path.{_≡_};
 ghost use Prim.Native.Nat.{_+_, min};
-ghost use Rattle.register_assembly.specs.Keeping.{wants, Kept, PassKept, PagesKept, Fresh, Within};
+ghost use Rattle.register_assembly.specs.Keeping.{ofPass, Kept, PassKept, PagesKept, Fresh, Within};
 use register_form::layout;
 use tables::get;
 use tables::put;
@@ -17,7 +17,7 @@ fn bump(n: u16) -> u16
 
 // Whether the first pass, or the second, keeps a form of the group.
 fn is_wanted(first: bool, group: u8) -> bool
-    ensures { λ r. ⌜ r ≡ wants first group ⌝ }
+    ensures { λ r. ⌜ r ≡ ofPass first group ⌝ }
 {
     if first { group == 0 } else { group != 0 }
 }

@@ -28,7 +28,7 @@ use Rattle.register_draft.specs.declared.PropertyFound.{PropertyFound}
 use Rattle.register_draft.specs.Drafting.{withTexts, onLast, codeIn, withValue, added}
 use Rattle.register_draft.specs.Sizes.{Sized, Fits, Valued, Good, Spaced}
 use Rattle.register_draft.specs.Lookup.{foundIn, propertyFound, Lists}
-use Rattle.register_draft.specs.Tables.{Texts, propertyIn, Properties, pageIn, Pages, termIn, Terms, Holding, Pushed, FormsPushed, Adds}
+use Rattle.register_draft.specs.Tables.{Texts, propertyIn, Properties, pageIn, Pages, termIn, Terms, Holding, Pushed, FormsPushed, Extends}
 use Rattle.register_draft.proofs.Bounds.{length-last}
 use Rattle.register_draft.proofs.Entries.{namespace-short}
 use Rattle.register_draft.proofs.Terms.{Stands, stands}
@@ -45,7 +45,7 @@ module _ (heap starts lens heap′ starts′ lens′ : List ℕ) (c : Counts) (e
     -- A value.
     module _ (firsts′ groups′ codes′ : List ℕ) (g n : ℕ) (q : FormsPushed firsts groups codes (c .pages) (c .forms) g n firsts′ groups′ codes′) (f : ℕ) (ef : f ≡ (c .forms + 1) % 65536) where
       pub value-added : (w : Value) → l ≡ valueTexts w → n ≡ codeIn (c .texts) w
-          → Adds (Holding heap starts lens kinds names identifiers firsts groups codes) (Holding heap′ starts′ lens′ kinds names identifiers firsts′ groups′ codes′) c
+          → Extends (Holding heap starts lens kinds names identifiers firsts groups codes) (Holding heap′ starts′ lens′ kinds names identifiers firsts′ groups′ codes′) c
           (record { texts = e .texts; bytes = e .bytes; properties = c .properties; pages = c .pages; forms = f }) (withValue g w)
       value-added w el en = record { held = go }
         where
@@ -70,7 +70,7 @@ module _ (heap starts lens heap′ starts′ lens′ : List ℕ) (c : Counts) (e
         (q : (m : List PropertyRow) → Properties kinds names (c .properties) m → c .properties < 64 → Properties kinds′ names′ (c .properties + 1) (m ++ (record { kind = k; name = c .texts } ∷ [])))
       where
         pub property-added : (ps : List Property)
-            → Adds (Holding heap starts lens kinds names identifiers firsts groups codes) (Holding heap′ starts′ lens′ kinds′ names′ identifiers firsts groups codes) c
+            → Extends (Holding heap starts lens kinds names identifiers firsts groups codes) (Holding heap′ starts′ lens′ kinds′ names′ identifiers firsts groups codes) c
             (record { texts = e .texts; bytes = e .bytes; properties = f; pages = c .pages; forms = c .forms }) (λ d. added ps d (prop x k))
         unfolding added
         property-added ps = record { held = go }
@@ -94,7 +94,7 @@ module _ (heap starts lens heap′ starts′ lens′ : List ℕ) (c : Counts) (e
         (q : (m : List PageRow) → Pages identifiers firsts (c .pages) (c .forms) m → c .pages < 256 → Pages identifiers′ firsts′ (c .pages + 1) (c .forms) (m ++ (record { identifier = c .texts; forms = [] } ∷ [])))
       where
         pub page-added : (ps : List Property)
-            → Adds (Holding heap starts lens kinds names identifiers firsts groups codes) (Holding heap′ starts′ lens′ kinds names identifiers′ firsts′ groups codes) c
+            → Extends (Holding heap starts lens kinds names identifiers firsts groups codes) (Holding heap′ starts′ lens′ kinds names identifiers′ firsts′ groups codes) c
             (record { texts = e .texts; bytes = e .bytes; properties = c .properties; pages = f; forms = c .forms }) (λ d. added ps d (page n x))
         unfolding added
         page-added ps = record { held = go }
@@ -148,7 +148,7 @@ module _ (s : Bytes) (t props : List ℕ) (np : ℕ) (x v : Bytes) (ps : List Pr
     unfolding valueOf
     reads = let f : (kindAmong ps x >>= λ k. readValue k v) ≡ some (q .value) = q .read in let g : readValue (kindOf (q .value)) v ≡ some (q .value) = rw (q .kind) at f in rw kind-is at g
 
-    pub val-added : (H K : Counts → Dictionary → Type 0) (c d : Counts) → ((w : Value) → readValue k v ≡ some w → Spaced w → Adds H K c d (withValue g w)) → Adds H K c d (λ b. added ps b (val x v))
+    pub val-added : (H K : Counts → Dictionary → Type 0) (c d : Counts) → ((w : Value) → readValue k v ≡ some w → Spaced w → Extends H K c d (withValue g w)) → Extends H K c d (λ b. added ps b (val x v))
     unfolding added
     val-added H K c d f =
         let a = f (q .value) reads (spaced (q .value) (q .storable)) in

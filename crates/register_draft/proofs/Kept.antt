@@ -19,7 +19,7 @@ use Rattle.language.specs.Register.{Property, Register, distinct, sameProperty}
 use Rattle.language.specs.RegisterText.{Entry, prop, page, cat, val, close, line, properties, valueOf, pagesOf, registerOf}
 use Rattle.language.proofs.Members.{both-true, by-test}
 use Rattle.language.proofs.Registers.{entries-sound, Passed}
-use Rattle.register_form.specs.Dictionary.{PropertyRow, PageRow, Dictionary, labelled, termOf, groupOf, codeOf, textIn, termIn, decodeProperty, decodePage, decode}
+use Rattle.register_form.specs.Dictionary.{PropertyRow, PageRow, Dictionary, labelled, termOf, groupOf, termCode, textIn, termIn, decodeProperty, decodePage, decode}
 use Rattle.register_form.specs.Encoding.{plainText, identifierText, valueTexts, placeAmong}
 use Rattle.register_form.specs.Form.{formsOf}
 use Rattle.register_form.specs.Tests.{isLabelled, isPlainNumber, isTerm, termTexts, textUses, termUses, everyUsed}
@@ -134,7 +134,7 @@ module _ (D : Dictionary) where
     identifiers : all (λ i. ltb i (length (D .texts))) (map identifierOfRow (c .pages)) ≡ true
     terms : all (isTerm D) (c .terms) ≡ true
     uses : (i : ℕ) → i < length (c .texts) → Used c i
-    shaped : (t : Bytes) → List·Memᴰ t (c .terms) → termOf (groupOf t) (codeOf t) ≡ t
+    shaped : (t : Bytes) → List·Memᴰ t (c .terms) → termOf (groupOf t) (termCode t) ≡ t
 
   keeps-none : Keeps noDraft
   unfolding all
@@ -169,7 +169,7 @@ module _ (D : Dictionary) where
               (pages ∙ sym (append-nil (map identifierOfRow (c .pages))))
               (flat-append (termTexts D) (c .terms) (term ∷ []))
               (valueTexts v) refl (h .uses) (λ i a b. inr (inr (Memᴰ·append-left [] (t .uses i a b))));
-          shaped = mem-more (λ t. termOf (groupOf t) (codeOf t) ≡ t) (c .terms) term (h .shaped) (ap (termOf g) (t .code));
+          shaped = mem-more (λ t. termOf (groupOf t) (termCode t) ≡ t) (c .terms) term (h .shaped) (ap (termOf g) (t .code));
         }
 
     -- what an entry adds

@@ -35,7 +35,7 @@ use Rattle.register_draft.specs.declared.Counts.{Counts}
 use Rattle.register_draft.specs.Drafting.{noDraft, added, draftFrom, draftOf}
 use Rattle.register_draft.specs.Sizes.{Fits, Good}
 use Rattle.register_draft.specs.Lookup.{Lists}
-use Rattle.register_draft.specs.Tables.{Texts, Holding, Adds, Roomy, Accepted}
+use Rattle.register_draft.specs.Tables.{Texts, Holding, Extends, Roomy, Accepted}
 use Rattle.register_draft.proofs.Growing.{draft-more}
 use Rattle.register_draft.proofs.Entries.{passed-good}
 use Rattle.register_draft.proofs.Bounds.{passed-fits}
@@ -100,7 +100,7 @@ module _ (s : Bytes) (t props : List ℕ) (n np : ℕ) (a : Accepted s t props n
     here = Memᴰ·cast (sym (rows-at s t n i close below)) (mem-at L i close (omega (arith, rows-length s t n)))
 
     pub row-added : (H K : Counts → Dictionary → Type 0) (c r : Counts) (x : Item) → ((u : Bytes) → entryIn u x ≡ entryAt u t i)
-        → ((ps : List Property) → Lists s t props np ps → Good ps (entryIn s x) → Adds H K c r (λ d. added ps d (entryIn s x)))
+        → ((ps : List Property) → Lists s t props np ps → Good ps (entryIn s x) → Extends H K c r (λ d. added ps d (entryIn s x)))
         → H c (draftOf (properties L) (entriesIn s t i)) → K r (draftOf (properties L) (entriesIn s t (i + 1)))
     row-added H K c r x e f h =
         let good : Good (properties L) (entryIn s x) = subst (Good (properties L)) (sym (e s)) (passed-good s L accepted-passed here) in

@@ -16,11 +16,11 @@ use Rattle.register_form.specs.Dictionary.{Dictionary}
 use Rattle.register_draft.specs.declared.Counts.{Counts}
 use Rattle.register_draft.specs.Drafting.{withValue, added}
 use Rattle.register_draft.specs.Sizes.{Fits, Valued, Good, Spaced}
-use Rattle.register_draft.specs.Tables.{Adds}
+use Rattle.register_draft.specs.Tables.{Extends}
 
 module _ (s : Bytes) (i : Item) (ps : List Property) (H K : Counts → Dictionary → Type 0) (c r : Counts) (x : Bytes) (ex : x ≡ part s (i .first .start) (i .first .len)) where
   abbrev Does : Entry → Type 0
-  Does e = Adds H K c r (λ d. added ps d e)
+  Does e = Extends H K c r (λ d. added ps d e)
 
   -- an entry that is known
   by-entry : (e : Entry) → entryIn s i ≡ e → (Good ps e → Does e) → Good ps (entryIn s i) → Does (entryIn s i)
@@ -29,7 +29,7 @@ module _ (s : Bytes) (i : Item) (ps : List Property) (H K : Counts → Dictionar
   pub entry-prop : i .tag ≡ Tag.Prop → Does (prop x (i .kind)) → Good ps (entryIn s i) → Does (entryIn s i)
   entry-prop h f = by-entry (prop x (i .kind)) (rw (h, ex)) (λ g. f)
 
-  pub entry-cat : i .tag ≡ Tag.Cat → ((w : Value) → readValue Kind.String x ≡ some w → Spaced w → Adds H K c r (withValue 0 w)) → Good ps (entryIn s i) → Does (entryIn s i)
+  pub entry-cat : i .tag ≡ Tag.Cat → ((w : Value) → readValue Kind.String x ≡ some w → Spaced w → Extends H K c r (withValue 0 w)) → Good ps (entryIn s i) → Does (entryIn s i)
   unfolding added
   entry-cat h f = by-entry (cat x) (rw (h, ex)) (λ g. f (plain (string x)) refl tt)
 
@@ -41,12 +41,12 @@ module _ (s : Bytes) (i : Item) (ps : List Property) (H K : Counts → Dictionar
     entry-val h f = by-entry (val x y) (rw (h, ex, ey)) f
 
 module _ (s : Bytes) (i : Item) (ps : List Property) (H : Counts → Dictionary → Type 0) (c : Counts) where
-  no-entry : entryIn s i ≡ close → Adds H H c c (λ d. added ps d (entryIn s i))
+  no-entry : entryIn s i ≡ close → Extends H H c c (λ d. added ps d (entryIn s i))
   unfolding added
-  no-entry q = subst (λ (e : Entry). Adds H H c c (λ d. added ps d e)) (sym q) (record { held = λ d fit h. h })
+  no-entry q = subst (λ (e : Entry). Extends H H c c (λ d. added ps d e)) (sym q) (record { held = λ d fit h. h })
 
-  pub entry-close : i .tag ≡ Tag.Close → Adds H H c c (λ d. added ps d (entryIn s i))
+  pub entry-close : i .tag ≡ Tag.Close → Extends H H c c (λ d. added ps d (entryIn s i))
   entry-close h = no-entry (rw h)
 
-  pub entry-broken : i .tag ≡ Tag.Broken → Adds H H c c (λ d. added ps d (entryIn s i))
+  pub entry-broken : i .tag ≡ Tag.Broken → Extends H H c c (λ d. added ps d (entryIn s i))
   entry-broken h = no-entry (rw h)

@@ -19,7 +19,7 @@ use Rattle.values.specs.Answers.{base, biased}
 use Rattle.language.specs.Register.{Property, Held, kindAmong}
 use Rattle.language.specs.Rules.{magnitude, isStorable}
 use Rattle.language.proofs.Members.{both-true, getD-mapped}
-use Rattle.register_form.specs.Dictionary.{PropertyRow, Dictionary, nameOf, termOf, groupOf, codeOf, isCategory, valueFrom, textIn, propertyIn, noProperty, categoryOf, heldOf, decodeProperty}
+use Rattle.register_form.specs.Dictionary.{PropertyRow, Dictionary, nameOf, termOf, groupOf, termCode, isCategory, valueFrom, textIn, propertyIn, noProperty, categoryOf, heldOf, decodeProperty}
 use Rattle.register_form.specs.Encoding.{plainText, identifierText, valueTexts, placeAmong}
 use Rattle.register_form.specs.Tests.{isPlainNumber, isCode, isTerm, codeTexts, termTexts}
 use Rattle.register_form.proofs.Numbers.{code-back}
@@ -97,7 +97,7 @@ no-category p c = ne-eqb (suc p) 0 (λ e. omega arith)
 
 -- The term of the value v in group g, whose text is behind the texts l.
 pub record Told (D : Dictionary) (l : List Bytes) (g : ℕ) (v : Value) : Type 0 where
-  pub code : codeOf (termOf g (codeIn (length l) v)) ≡ codeIn (length l) v
+  pub code : termCode (termOf g (codeIn (length l) v)) ≡ codeIn (length l) v
   pub fits : isTerm D (termOf g (codeIn (length l) v)) ≡ true
   pub uses : (i : ℕ) → length l ≤ i → i < length (l ++ valueTexts v) → List·Memᴰ i (termTexts D (termOf g (codeIn (length l) v)))
 
@@ -111,7 +111,7 @@ module _ (D : Dictionary) (few : length (D .texts) ≤ 2368) where
     unfolding valueTexts
     there = front-there l [] (plainText x) f
 
-    category-code : codeOf (termOf 0 c) ≡ c
+    category-code : termCode (termOf 0 c) ≡ c
     category-code = code-back 0 c (omega (arith, there))
 
     pub category-told : Told D l 0 (plain (string x))
@@ -145,7 +145,7 @@ module _ (D : Dictionary) (few : length (D .texts) ≤ 2368) where
       at : Stands ps x (kindOf (q .value)) none-such
       at = stands ps x (kindOf (q .value)) none-such (q .kind)
 
-      value-code : codeOf (termOf (suc (placeAmong ps x)) (codeIn (length l) (q .value))) ≡ codeIn (length l) (q .value)
+      value-code : termCode (termOf (suc (placeAmong ps x)) (codeIn (length l) (q .value))) ≡ codeIn (length l) (q .value)
       value-code = code-back (suc (placeAmong ps x)) (codeIn (length l) (q .value)) (code-small D l (q .value) (q .storable) f few)
 
       kind-there : propertyIn D (suc (placeAmong ps x) - 1) .kind ≡ kindOf (q .value)
@@ -168,6 +168,6 @@ module _ (D : Dictionary) (few : length (D .texts) ≤ 2368) where
       pub value-is : heldOf D (termOf (suc (placeAmong ps x)) (codeIn (length l) (q .value))) ≡ record { property = x; value = q .value }
       unfolding heldOf
       value-is =
-          let value : valueFrom (D .texts) (propertyIn D (suc (placeAmong ps x) - 1) .kind) (codeOf (termOf (suc (placeAmong ps x)) (codeIn (length l) (q .value)))) ≡ q .value =
+          let value : valueFrom (D .texts) (propertyIn D (suc (placeAmong ps x) - 1) .kind) (termCode (termOf (suc (placeAmong ps x)) (codeIn (length l) (q .value)))) ≡ q .value =
           rw (value-code, kind-there) (value-told D l (q .value) (q .storable) f) in
           λ i. record { property = name-there i; value = value i }

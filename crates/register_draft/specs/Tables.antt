@@ -101,5 +101,5 @@ pub record Accepted (s : Bytes) (t props : List ℕ) (n np : ℕ) : Type 0 where
   pub properties : take np props ≡ rowsThat Declared.Property t n
 
 -- What a function does to a draft f d that fits: H and K are what the tables hold before and behind it.
-pub record Adds (H K : Counts → Dictionary → Type 0) (c r : Counts) (f : Dictionary → Dictionary) : Type 0 where
+pub record Extends (H K : Counts → Dictionary → Type 0) (c r : Counts) (f : Dictionary → Dictionary) : Type 0 where
   pub held : (d : Dictionary) → Fits (f d) → H c d → K r (f d)

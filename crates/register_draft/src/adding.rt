@@ -12,7 +12,7 @@ ghost use Rattle.register_form.specs.Form.{kindCode};
 ghost use Rattle.register_draft.specs.Drafting.{onLast, withValue, added};
 ghost use Rattle.register_draft.specs.Sizes.{Valued, Spaced};
 ghost use Rattle.register_draft.specs.Lookup.{Lists};
-ghost use Rattle.register_draft.specs.Tables.{Properties, Pages, Terms, FormsPushed, Holding, Adds};
+ghost use Rattle.register_draft.specs.Tables.{Properties, Pages, Terms, FormsPushed, Holding, Extends};
 use super::Counts;
 use super::PropertyFound;
 use super::lookup::property_place;
@@ -87,7 +87,7 @@ pub fn draft_value(
     codes: &mut [u64],
     c: Counts,
 ) -> Counts
-    ensures { λ r. ⌜ ((w : Value) (kinds names identifiers : List ℕ) → readValue kind (now (v .entry)) ≡ some w → Spaced w → Adds (Holding (now (heap .entry)) (now (starts .entry)) (now (lens .entry)) kinds names identifiers (now (firsts .entry)) (now (groups .entry)) (now (codes .entry))) (Holding (now (heap .exit)) (now (starts .exit)) (now (lens .exit)) kinds names identifiers (now (firsts .exit)) (now (groups .exit)) (now (codes .exit))) c r (withValue group w)) ⌝ }
+    ensures { λ r. ⌜ ((w : Value) (kinds names identifiers : List ℕ) → readValue kind (now (v .entry)) ≡ some w → Spaced w → Extends (Holding (now (heap .entry)) (now (starts .entry)) (now (lens .entry)) kinds names identifiers (now (firsts .entry)) (now (groups .entry)) (now (codes .entry))) (Holding (now (heap .exit)) (now (starts .exit)) (now (lens .exit)) kinds names identifiers (now (firsts .exit)) (now (groups .exit)) (now (codes .exit))) c r (withValue group w)) ⌝ }
 {
     let m = c.texts;
     let f = c.forms;
@@ -114,7 +114,7 @@ pub fn draft_prop(
     names: &mut [u16],
     c: Counts,
 ) -> Counts
-    ensures { λ r. ⌜ ((ps : List Property) (identifiers firsts groups codes : List ℕ) → Adds (Holding (now (heap .entry)) (now (starts .entry)) (now (lens .entry)) (now (kinds .entry)) (now (names .entry)) identifiers firsts groups codes) (Holding (now (heap .exit)) (now (starts .exit)) (now (lens .exit)) (now (kinds .exit)) (now (names .exit)) identifiers firsts groups codes) c r (λ d. added ps d (prop (now (name .entry)) kind))) ⌝ }
+    ensures { λ r. ⌜ ((ps : List Property) (identifiers firsts groups codes : List ℕ) → Extends (Holding (now (heap .entry)) (now (starts .entry)) (now (lens .entry)) (now (kinds .entry)) (now (names .entry)) identifiers firsts groups codes) (Holding (now (heap .exit)) (now (starts .exit)) (now (lens .exit)) (now (kinds .exit)) (now (names .exit)) identifiers firsts groups codes) c r (λ d. added ps d (prop (now (name .entry)) kind))) ⌝ }
 {
     let m = c.texts;
     let p = c.properties;
@@ -140,7 +140,7 @@ pub fn draft_page(
     firsts: &mut [u16],
     c: Counts,
 ) -> Counts
-    ensures { λ r. ⌜ ((ps : List Property) (kinds names groups codes : List ℕ) → length (now (space .entry)) ≤ 64 → Adds (Holding (now (heap .entry)) (now (starts .entry)) (now (lens .entry)) kinds names (now (identifiers .entry)) (now (firsts .entry)) groups codes) (Holding (now (heap .exit)) (now (starts .exit)) (now (lens .exit)) kinds names (now (identifiers .exit)) (now (firsts .exit)) groups codes) c r (λ d. added ps d (page (now (space .entry)) (now (name .entry))))) ⌝ }
+    ensures { λ r. ⌜ ((ps : List Property) (kinds names groups codes : List ℕ) → length (now (space .entry)) ≤ 64 → Extends (Holding (now (heap .entry)) (now (starts .entry)) (now (lens .entry)) kinds names (now (identifiers .entry)) (now (firsts .entry)) groups codes) (Holding (now (heap .exit)) (now (starts .exit)) (now (lens .exit)) kinds names (now (identifiers .exit)) (now (firsts .exit)) groups codes) c r (λ d. added ps d (page (now (space .entry)) (now (name .entry))))) ⌝ }
 {
     let m = c.texts;
     let g = c.pages;
@@ -171,7 +171,7 @@ pub fn draft_val(
     codes: &mut [u64],
     c: Counts,
 ) -> Counts
-    ensures { λ r. ⌜ ((ps : List Property) (kinds names identifiers : List ℕ) → Lists (now (s .entry)) (now (t .entry)) (now (props .entry)) np ps → Valued ps (now (x .entry)) (now (v .entry)) → Adds (Holding (now (heap .entry)) (now (starts .entry)) (now (lens .entry)) kinds names identifiers (now (firsts .entry)) (now (groups .entry)) (now (codes .entry))) (Holding (now (heap .exit)) (now (starts .exit)) (now (lens .exit)) kinds names identifiers (now (firsts .exit)) (now (groups .exit)) (now (codes .exit))) c r (λ d. added ps d (val (now (x .entry)) (now (v .entry))))) ⌝ }
+    ensures { λ r. ⌜ ((ps : List Property) (kinds names identifiers : List ℕ) → Lists (now (s .entry)) (now (t .entry)) (now (props .entry)) np ps → Valued ps (now (x .entry)) (now (v .entry)) → Extends (Holding (now (heap .entry)) (now (starts .entry)) (now (lens .entry)) kinds names identifiers (now (firsts .entry)) (now (groups .entry)) (now (codes .entry))) (Holding (now (heap .exit)) (now (starts .exit)) (now (lens .exit)) kinds names identifiers (now (firsts .exit)) (now (groups .exit)) (now (codes .exit))) c r (λ d. added ps d (val (now (x .entry)) (now (v .entry))))) ⌝ }
 {
     let PropertyFound::At(kind, place) = property_place(s, t, props, np, x) else {
         return c;

@@ -9,7 +9,7 @@ ghost use Rattle.register_form.specs.Tables.{tablesOf, draftIn};
 ghost use Rattle.register_draft.specs.Drafting.{added, draftOf};
 ghost use Rattle.register_draft.specs.Sizes.{Good};
 ghost use Rattle.register_draft.specs.Lookup.{Lists};
-ghost use Rattle.register_draft.specs.Tables.{Holding, Adds, Roomy, Accepted};
+ghost use Rattle.register_draft.specs.Tables.{Holding, Extends, Roomy, Accepted};
 
 pub mod adding; // adding.rt: what each entry adds
 pub mod lookup; // lookup.rt: a property by its name
@@ -65,7 +65,7 @@ fn draft_entry(
     codes: &mut [u64],
     c: Counts,
 ) -> Counts
-    ensures { λ r. ⌜ ((ps : List Property) → Lists (now (s .entry)) (now (t .entry)) (now (props .entry)) np ps → Good ps (entryIn (now (s .entry)) item) → Adds (Holding (now (heap .entry)) (now (starts .entry)) (now (lens .entry)) (now (kinds .entry)) (now (names .entry)) (now (identifiers .entry)) (now (firsts .entry)) (now (groups .entry)) (now (codes .entry))) (Holding (now (heap .exit)) (now (starts .exit)) (now (lens .exit)) (now (kinds .exit)) (now (names .exit)) (now (identifiers .exit)) (now (firsts .exit)) (now (groups .exit)) (now (codes .exit))) c r (λ d. added ps d (entryIn (now (s .entry)) item))) ⌝ }
+    ensures { λ r. ⌜ ((ps : List Property) → Lists (now (s .entry)) (now (t .entry)) (now (props .entry)) np ps → Good ps (entryIn (now (s .entry)) item) → Extends (Holding (now (heap .entry)) (now (starts .entry)) (now (lens .entry)) (now (kinds .entry)) (now (names .entry)) (now (identifiers .entry)) (now (firsts .entry)) (now (groups .entry)) (now (codes .entry))) (Holding (now (heap .exit)) (now (starts .exit)) (now (lens .exit)) (now (kinds .exit)) (now (names .exit)) (now (identifiers .exit)) (now (firsts .exit)) (now (groups .exit)) (now (codes .exit))) c r (λ d. added ps d (entryIn (now (s .entry)) item))) ⌝ }
 {
     let tag = item.tag;
     let kind = item.kind;

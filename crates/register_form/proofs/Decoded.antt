@@ -13,7 +13,7 @@ use Rattle.language.specs.Register.{Property, Held, Page, Register}
 use Rattle.language.proofs.Members.{map-itself, getD-mapped}
 use Rattle.language.proofs.Rules.{Ruled}
 use Rattle.sorting.specs.Ascending.{ascends, rank}
-use Rattle.register_form.specs.Dictionary.{PropertyRow, spaceOf, nameOf, codeOf, groupOf, isCategory, valueFrom, textIn, termIn, propertyIn, noProperty, categoryOf, heldOf, categoriesIn, valuesIn, decodeProperty, decodePage, decode}
+use Rattle.register_form.specs.Dictionary.{PropertyRow, spaceOf, nameOf, termCode, groupOf, isCategory, valueFrom, textIn, termIn, propertyIn, noProperty, categoryOf, heldOf, categoriesIn, valuesIn, decodeProperty, decodePage, decode}
 use Rattle.register_form.specs.Encoding.{plainText, identifierText, valueTexts, pageTexts, textsIn, textsOf, placeAmong, valueCode, categoryTerm, valueTerm, pageTerms, termsOf, encodeProperty, encodePage, encode}
 use Rattle.register_form.proofs.Lists.{mem-flat, mem-at, number-back, number-small, sorted-up, mem-sorted}
 use Rattle.register_form.proofs.Codes.{space-back, name-back, value-back, code-small}
@@ -104,7 +104,7 @@ module _ (R : Register) where
     few = omega (arith, texts-few R w)
 
     -- What a term's bytes tell of a category and of a value.
-    pub category-code : {p : Page} {x : Bytes} → List·Memᴰ p (R .pages) → List·Memᴰ x (p .categories) → codeOf (categoryTerm R x) ≡ rank orderOf (plainText x) (textsOf R)
+    pub category-code : {p : Page} {x : Bytes} → List·Memᴰ p (R .pages) → List·Memᴰ x (p .categories) → termCode (categoryTerm R x) ≡ rank orderOf (plainText x) (textsOf R)
     unfolding categoryTerm
     category-code {p} {x} m n = code-back 0 (rank orderOf (plainText x) (textsOf R)) (omega (arith, number-small (textsOf R) texts-up (plainText x) (category-text m n), few))
 
@@ -116,7 +116,7 @@ module _ (R : Register) where
       unfolding valueTerm
       row = rw (sub-one (placeAmong (R .properties) (h .property))) (property-there (placeAmong (R .properties) (h .property)) undeclared (there .0))
 
-      pub value-code : codeOf (valueTerm R h) ≡ valueCode (textsOf R) (h .value)
+      pub value-code : termCode (valueTerm R h) ≡ valueCode (textsOf R) (h .value)
       unfolding valueTerm
       value-code = code-back (suc (placeAmong (R .properties) (h .property))) (valueCode (textsOf R) (h .value)) (code-small (textsOf R) texts-up (h .value) (value-kept R k m n) few (value-text m n))
 
@@ -131,7 +131,7 @@ module _ (R : Register) where
       value-name : nameOf (textIn (encode R) (propertyIn (encode R) (groupOf (valueTerm R h) - 1) .name)) ≡ h .property
       value-name = ap (λ (r : PropertyRow). nameOf (textIn (encode R) (r .name))) row ∙ property-name (mem-at (R .properties) (placeAmong (R .properties) (h .property)) undeclared (there .0)) ∙ there .1
 
-      value-there : valueFrom (encode R .texts) (propertyIn (encode R) (groupOf (valueTerm R h) - 1) .kind) (codeOf (valueTerm R h)) ≡ h .value
+      value-there : valueFrom (encode R .texts) (propertyIn (encode R) (groupOf (valueTerm R h) - 1) .kind) (termCode (valueTerm R h)) ≡ h .value
       unfolding encode
       value-there =
           ap₂ (λ (l : Kind) (c : ℕ). valueFrom (textsOf R) l c) value-row-kind value-code

@@ -15,7 +15,7 @@ use Rattle.values.specs.Values.{Value}
 use Rattle.language.specs.Register.{Property, Held, Page, distinct, sameProperty}
 use Rattle.sorting.specs.Ascending.{ascends}
 use Rattle.language.proofs.Members.{and-true, all-at, any-at, getD-mapped}
-use Rattle.register_form.specs.Dictionary.{PropertyRow, PageRow, Dictionary, nameOf, identifierOf, termOf, groupOf, codeOf, isCategory, valueFrom, textIn, termIn, propertyIn, noProperty, categoryOf, heldOf, categoriesIn, valuesIn, decodeProperty, decodePage, decode}
+use Rattle.register_form.specs.Dictionary.{PropertyRow, PageRow, Dictionary, nameOf, identifierOf, termOf, groupOf, termCode, isCategory, valueFrom, textIn, termIn, propertyIn, noProperty, categoryOf, heldOf, categoriesIn, valuesIn, decodeProperty, decodePage, decode}
 use Rattle.register_form.specs.Encoding.{plainText, identifierText, valueTexts, placeAmong}
 use Rattle.register_form.specs.Form.{formsOf}
 use Rattle.register_form.specs.Tests.{isLabelled, isPlain, isPlainNumber, isCode, isTerm, inOrder, isPageRow, codeTexts, termTexts, textUses, termUses, everyUsed, isCanonical}
@@ -43,7 +43,7 @@ canon d h =
 
 -- Every term is made of its group and its code.
 abbrev pub Shaped : Dictionary → Type 0
-Shaped d = (t : Bytes) → List·Memᴰ t (d .terms) → termOf (groupOf t) (codeOf t) ≡ t
+Shaped d = (t : Bytes) → List·Memᴰ t (d .terms) → termOf (groupOf t) (termCode t) ≡ t
 
 -- A property that is there once stands in its own place.
 pub place-once : (l : List Property) (i : ℕ) (e : Property) → distinct sameProperty l ≡ true → i < length l → placeAmong l (getD l i e .name) ≡ i
@@ -101,11 +101,11 @@ module _ (d : Dictionary) where
       go true n = n
       go false n = List·Memᴰ·tail n
 
-  pub category-name : (t : Bytes) → categoryOf d t ≡ nameOf (textIn d (codeOf t))
+  pub category-name : (t : Bytes) → categoryOf d t ≡ nameOf (textIn d (termCode t))
   unfolding categoryOf
   category-name t = refl
 
-  pub held-value : (t : Bytes) → heldOf d t .value ≡ valueFrom (d .texts) (propertyIn d (groupOf t - 1) .kind) (codeOf t)
+  pub held-value : (t : Bytes) → heldOf d t .value ≡ valueFrom (d .texts) (propertyIn d (groupOf t - 1) .kind) (termCode t)
   unfolding heldOf
   held-value t = refl
 
@@ -123,19 +123,19 @@ module _ (d : Dictionary) where
   plain-there x h = and-true (ltb x (length (d .texts))) (isPlain (textIn d x)) h .1
 
   module _ (fit : all (isTerm d) (d .terms) ≡ true) where
-    pub category-fits : {t : Bytes} → List·Memᴰ t (d .terms) → isCategory t ≡ true → isPlainNumber d (codeOf t) ≡ true
+    pub category-fits : {t : Bytes} → List·Memᴰ t (d .terms) → isCategory t ≡ true → isPlainNumber d (termCode t) ≡ true
     unfolding isTerm
     category-fits m e = rw e at (all-at (isTerm d) fit m)
 
-    value-fits : {t : Bytes} → List·Memᴰ t (d .terms) → isCategory t ≡ false → (leb (groupOf t) (length (d .properties)) && isCode d (propertyIn d (groupOf t - 1) .kind) (codeOf t)) ≡ true
+    value-fits : {t : Bytes} → List·Memᴰ t (d .terms) → isCategory t ≡ false → (leb (groupOf t) (length (d .properties)) && isCode d (propertyIn d (groupOf t - 1) .kind) (termCode t)) ≡ true
     unfolding isTerm
     value-fits m e = rw e at (all-at (isTerm d) fit m)
 
     pub value-group-fits : {t : Bytes} → List·Memᴰ t (d .terms) → isCategory t ≡ false → groupOf t ≤ length (d .properties)
-    value-group-fits {t} m e = leb-true (groupOf t) (length (d .properties)) (and-true (leb (groupOf t) (length (d .properties))) (isCode d (propertyIn d (groupOf t - 1) .kind) (codeOf t)) (value-fits m e) .0)
+    value-group-fits {t} m e = leb-true (groupOf t) (length (d .properties)) (and-true (leb (groupOf t) (length (d .properties))) (isCode d (propertyIn d (groupOf t - 1) .kind) (termCode t)) (value-fits m e) .0)
 
-    pub value-code-fits : {t : Bytes} → List·Memᴰ t (d .terms) → isCategory t ≡ false → isCode d (propertyIn d (groupOf t - 1) .kind) (codeOf t) ≡ true
-    value-code-fits {t} m e = and-true (leb (groupOf t) (length (d .properties))) (isCode d (propertyIn d (groupOf t - 1) .kind) (codeOf t)) (value-fits m e) .1
+    pub value-code-fits : {t : Bytes} → List·Memᴰ t (d .terms) → isCategory t ≡ false → isCode d (propertyIn d (groupOf t - 1) .kind) (termCode t) ≡ true
+    value-code-fits {t} m e = and-true (leb (groupOf t) (length (d .properties))) (isCode d (propertyIn d (groupOf t - 1) .kind) (termCode t)) (value-fits m e) .1
 
     -- A value's property is declared, in the place before its group.
     pub declared : {t : Bytes} → List·Memᴰ t (d .terms) → isCategory t ≡ false → (suc (groupOf t - 1) ≡ groupOf t) × (groupOf t - 1 < length (decode d .properties)) × (getD (decode d .properties) (groupOf t - 1) undeclared ≡ decodeProperty d (propertyIn d (groupOf t - 1)))
@@ -248,9 +248,9 @@ module _ (d : Dictionary) where
         let q = Memᴰ·of-map (decodePage d) (d .pages) m in
         let r = of-categories (map (termIn d) (q .0 .forms)) (subst (λ (p : Page). List·Memᴰ x (p .categories)) (sym (q .2)) n) in
         let h = category-fits (c .terms) (page-term-mem (q .1) (r .1)) (r .2) in
-        Memᴰ·cast (e ∙ ap plainText (r .3 ∙ category-name (r .0)) ∙ plain-text (codeOf (r .0)) h) (mem-at (d .texts) (codeOf (r .0)) [] (plain-below (codeOf (r .0)) h))
+        Memᴰ·cast (e ∙ ap plainText (r .3 ∙ category-name (r .0)) ∙ plain-text (termCode (r .0)) h) (mem-at (d .texts) (termCode (r .0)) [] (plain-below (termCode (r .0)) h))
     from-in {t} (TextFrom.value {h = g} m n l) =
         let q = Memᴰ·of-map (decodePage d) (d .pages) m in
         let r = of-values (map (termIn d) (q .0 .forms)) (subst (λ (p : Page). List·Memᴰ g (p .values)) (sym (q .2)) n) in
         let h = value-code-fits (c .terms) (page-term-mem (q .1) (r .1)) (r .2) in
-        value-text-in (propertyIn d (groupOf (r .0) - 1) .kind) (codeOf (r .0)) h (subst (λ (v : Value). List·Memᴰ t (valueTexts v)) (ap (λ (g : Held). g .value) (r .3) ∙ held-value (r .0)) l)
+        value-text-in (propertyIn d (groupOf (r .0) - 1) .kind) (termCode (r .0)) h (subst (λ (v : Value). List·Memᴰ t (valueTexts v)) (ap (λ (g : Held). g .value) (r .3) ∙ held-value (r .0)) l)

@@ -21,7 +21,7 @@ use Rattle.language.proofs.Unions.{by-key, distinct-kept}
 use Rattle.language.proofs.Sameness.{same-likeness, sameHeld-likeness, samePage-likeness}
 use Rattle.language.proofs.Registers.{sameKind-refl}
 use Rattle.language.proofs.Rules.{RuledPage, rules-page, rules-register}
-use Rattle.register_form.specs.Dictionary.{PageRow, Dictionary, spaceOf, nameOf, groupOf, codeOf, isCategory, valueFrom, textIn, termIn, propertyIn, noProperty, heldOf, categoriesIn, valuesIn, decodeProperty, decodePage, decode}
+use Rattle.register_form.specs.Dictionary.{PageRow, Dictionary, spaceOf, nameOf, groupOf, termCode, isCategory, valueFrom, textIn, termIn, propertyIn, noProperty, heldOf, categoriesIn, valuesIn, decodeProperty, decodePage, decode}
 use Rattle.register_form.specs.Form.{formsOf}
 use Rattle.register_form.specs.Tests.{termUses, keepsTerm, keepsProperty, keepsPage, termBytes, countedBytes}
 use Rattle.register_form.specs.Draft.{once, pageOnce, drafted, Draft, newNumber, newTerm, newForm, categoriesFirst, newForms, newProperty, newPage, assembled}
@@ -74,7 +74,7 @@ module _ (d : Dictionary) (k : Draft d) where
       let kind = kind-once (map (decodeProperty d) (d .properties)) i none (k .propertiesOnce) (omega arith) in
       let found : kindAmong (map (decodeProperty d) (d .properties)) (nameOf (textIn d (propertyIn d i .name))) ≡ some (propertyIn d i .kind) =
       ap (λ (p : Property). kindAmong (map (decodeProperty d) (d .properties)) (p .name)) (sym at) ∙ kind ∙ ap (λ (p : Property). some (p .kind)) at in
-      rw (found, value-from-kind (d .texts) (propertyIn d i .kind) (codeOf t)) (sameKind-refl (propertyIn d i .kind))
+      rw (found, value-from-kind (d .texts) (propertyIn d i .kind) (termCode t)) (sameKind-refl (propertyIn d i .kind))
 
   -- What is tested of each page.
   drafted-pages : (p : Page → Bool) → ((r : PageRow) → List·Memᴰ r (d .pages) → p (pageOnce (decodePage d r)) ≡ true) → all p (drafted d .pages) ≡ true

@@ -14,7 +14,7 @@ use Rattle.values.specs.Values.{Value}
 use Rattle.language.specs.Register.{Property, Page, distinct, sameProperty}
 use Rattle.sorting.specs.Ascending.{rank}
 use Rattle.language.proofs.Members.{all-at, map-itself}
-use Rattle.register_form.specs.Dictionary.{PropertyRow, PageRow, Dictionary, nameOf, identifierOf, termOf, groupOf, codeOf, isCategory, valueFrom, textIn, termIn, propertyIn, categoryOf, heldOf, categoriesIn, valuesIn, decodeProperty, decodePage, decode}
+use Rattle.register_form.specs.Dictionary.{PropertyRow, PageRow, Dictionary, nameOf, identifierOf, termOf, groupOf, termCode, isCategory, valueFrom, textIn, termIn, propertyIn, categoryOf, heldOf, categoriesIn, valuesIn, decodeProperty, decodePage, decode}
 use Rattle.register_form.specs.Encoding.{plainText, identifierText, valueTexts, pageTexts, textsIn, textsOf, placeAmong, valueCode, categoryTerm, valueTerm, pageTerms, termsOf, encodeProperty, encodePage, encode}
 use Rattle.register_form.specs.Tests.{isPlainNumber, isCode, inOrder, codeTexts, termTexts, textUses}
 use Rattle.register_form.proofs.Lists.{mem-place, mem-flat, of-flat, used-mem, number-at, sorted-is}
@@ -42,14 +42,14 @@ module _ (d : Dictionary) (c : Canon d) where
   unfolding pageTexts decodePage termTexts
   term-mem {t} {i} m n = go (isCategory t) refl n (term-on d c m)
     where
-      go : (b : Bool) → isCategory t ≡ b → List·Memᴰ i (cond b (codeOf t ∷ []) (codeTexts d (propertyIn d (groupOf t - 1) .kind) (codeOf t))) → (r : PageRow) × List·Memᴰ r (d .pages) × List·Memᴰ t (map (termIn d) (r .forms)) → List·Memᴰ (textIn d i) (textsIn (decode d))
+      go : (b : Bool) → isCategory t ≡ b → List·Memᴰ i (cond b (termCode t ∷ []) (codeTexts d (propertyIn d (groupOf t - 1) .kind) (termCode t))) → (r : PageRow) × List·Memᴰ r (d .pages) × List·Memᴰ t (map (termIn d) (r .forms)) → List·Memᴰ (textIn d i) (textsIn (decode d))
       go true e n r =
           let h = category-fits d (c .terms) m e in
-          let name : textIn d i ≡ plainText (categoryOf d t) = ap (textIn d) (List·Memᴰ·eq-of-singleton n) ∙ sym (ap plainText (category-name d t) ∙ plain-text d c (codeOf t) h) in
+          let name : textIn d i ≡ plainText (categoryOf d t) = ap (textIn d) (List·Memᴰ·eq-of-singleton n) ∙ sym (ap plainText (category-name d t) ∙ plain-text d c (termCode t) h) in
           on-page (r .1) (List·Memᴰ·tail (Memᴰ·append-left (flatMap (λ h. valueTexts (h .value)) (valuesIn d (map (termIn d) (r .0 .forms)))) (Memᴰ·cast name (Memᴰ·map plainText (category-mem d (r .2) e)))))
       go false e n r =
           let h = value-code-fits d (c .terms) m e in
-          let text = value-text-out d c (propertyIn d (groupOf t - 1) .kind) (codeOf t) h n in
+          let text = value-text-out d c (propertyIn d (groupOf t - 1) .kind) (termCode t) h n in
           on-page (r .1) (List·Memᴰ·tail (Memᴰ·append-right (map plainText (categoriesIn d (map (termIn d) (r .0 .forms)))) (mem-flat (λ h. valueTexts (h .value)) (value-mem d (r .2) e) (subst (λ (v : Value). List·Memᴰ (textIn d i) (valueTexts v)) (sym (held-value d t)) text))))
 
   used : {i : ℕ} → Use d i → List·Memᴰ (textIn d i) (textsIn (decode d))
@@ -91,7 +91,7 @@ module _ (d : Dictionary) (c : Canon d) where
     pub category-back : {t : Bytes} → List·Memᴰ t (d .terms) → isCategory t ≡ true → categoryTerm (decode d) (categoryOf d t) ≡ t
     unfolding categoryTerm categoryOf
     category-back {t} m e =
-        ap₂ termOf (sym (eqb-true (groupOf t) 0 e)) (plain-number-back (codeOf t) (category-fits d (c .terms) m e)) ∙ shaped t m
+        ap₂ termOf (sym (eqb-true (groupOf t) 0 e)) (plain-number-back (termCode t) (category-fits d (c .terms) m e)) ∙ shaped t m
 
     place-back : {t : Bytes} → List·Memᴰ t (d .terms) → isCategory t ≡ false → suc (placeAmong (decode d .properties) (heldOf d t .property)) ≡ groupOf t
     unfolding heldOf
@@ -103,7 +103,7 @@ module _ (d : Dictionary) (c : Canon d) where
     pub value-back : {t : Bytes} → List·Memᴰ t (d .terms) → isCategory t ≡ false → valueTerm (decode d) (heldOf d t) ≡ t
     unfolding valueTerm
     value-back {t} m e =
-        ap₂ termOf (place-back m e) (ap (valueCode (textsOf (decode d))) (held-value d t) ∙ code-back (propertyIn d (groupOf t - 1) .kind) (codeOf t) (value-code-fits d (c .terms) m e)) ∙ shaped t m
+        ap₂ termOf (place-back m e) (ap (valueCode (textsOf (decode d))) (held-value d t) ∙ code-back (propertyIn d (groupOf t - 1) .kind) (termCode t) (value-code-fits d (c .terms) m e)) ∙ shaped t m
 
     -- A page's terms come back.
     values-only : (l : List Bytes) → ((t : Bytes) → List·Memᴰ t l → List·Memᴰ t (d .terms)) → inOrder true l ≡ true → (categoriesIn d l ≡ []) × (map (valueTerm (decode d)) (valuesIn d l) ≡ l)

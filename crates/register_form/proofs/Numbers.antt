@@ -9,12 +9,12 @@ use lib.ListN.{length, getD, take, drop, length-drop}
 use lib.Seq.{drop-cons, take-all}
 use Rattle.text.specs.Bytes.{Bytes, part}
 use Rattle.buffer.specs.Numbers.{twoBytes, eightBytes, twoAt, eightAt}
-use Rattle.register_form.specs.Dictionary.{termOf, groupOf, codeOf}
+use Rattle.register_form.specs.Dictionary.{termOf, groupOf, termCode}
 use Rattle.buffer.proofs.Numbers.{two-low, two-back, two-here, two-small}
 use Rattle.buffer.proofs.Parts.{both, getD-part, part-add}
 
 -- Eight bytes behind one.
-pub code-back : (g c : ℕ) → c < 2 ^ 64 → codeOf (termOf g c) ≡ c
+pub code-back : (g c : ℕ) → c < 2 ^ 64 → termCode (termOf g c) ≡ c
 unfolding eightAt twoAt
 code-back g n h =
     let b = n / 65536 in
@@ -41,7 +41,7 @@ eight-of p q r s a b c =
     (both (both (both (two-first p (q + 65536 * (r + 65536 * s)) a) (two-first q (r + 65536 * s) b)) (two-first r s c)) refl)
 
 -- a term is told by its group and its code
-pub term-back : (t : Bytes) → length t ≡ 9 → ((i : ℕ) → getD t i 0 < 256) → termOf (groupOf t) (codeOf t) ≡ t
+pub term-back : (t : Bytes) → length t ≡ 9 → ((i : ℕ) → getD t i 0 < 256) → termOf (groupOf t) (termCode t) ≡ t
 unfolding eightAt
 term-back t e b =
     let pair : (i : ℕ) → i + 2 ≤ 9 → twoBytes (twoAt t i) ≡ part t i 2 = λ i l. sym (two-here t i (omega arith) b) in

@@ -12,7 +12,7 @@ use Rattle.values.specs.declared.Kind.{Kind}
 use Rattle.language.proofs.Members.{both-true, by-test, all-at, getD-mapped}
 use Rattle.sorting.proofs.Ranks.{rank-most}
 use Rattle.sorting.proofs.Orders.{bytes-total}
-use Rattle.register_form.specs.Dictionary.{PropertyRow, Dictionary, nameOf, termOf, groupOf, codeOf, isCategory, valueFrom, textIn, propertyIn, noProperty, categoryOf, heldOf, decodeProperty}
+use Rattle.register_form.specs.Dictionary.{PropertyRow, Dictionary, nameOf, termOf, groupOf, termCode, isCategory, valueFrom, textIn, propertyIn, noProperty, categoryOf, heldOf, decodeProperty}
 use Rattle.register_form.specs.Tests.{isPlainNumber, isCode, isTerm, codeTexts, termTexts}
 use Rattle.register_form.specs.Draft.{Draft, sortedTexts, newNumber, newCode, newTerm, newProperty, newPage, assembled}
 use Rattle.register_form.proofs.Lists.{mem-at, mem-place, number-back, number-small, sorted-up, mem-sorted}
@@ -41,7 +41,7 @@ module _ (d : Dictionary) (k : Draft d) where
       both-true (lt-ltb (newNumber d x) (length (assembled d .texts)) (new-below x b)) (rw (new-text x b) (plain-there d x h))
 
   -- A new number is a code.
-  number-code : (g x : ℕ) → codeOf (termOf g (newNumber d x)) ≡ newNumber d x
+  number-code : (g x : ℕ) → termCode (termOf g (newNumber d x)) ≡ newNumber d x
   unfolding newNumber
   number-code g x =
       let f = k .few in
@@ -70,7 +70,7 @@ module _ (d : Dictionary) (k : Draft d) where
   pub draft-shaped : Shaped d
   draft-shaped t m =
       let q = mem-place [] m in
-      subst (λ (t : Bytes). termOf (groupOf t) (codeOf t) ≡ t) (q .2) (k .shaped (q .0) (q .1))
+      subst (λ (t : Bytes). termOf (groupOf t) (termCode t) ≡ t) (q .2) (k .shaped (q .0) (q .1))
 
   pub value-place : {t : Bytes} → List·Memᴰ t (d .terms) → isCategory t ≡ false → groupOf t - 1 < length (d .properties)
   value-place {t} m e = omega (arith, value-group-fits d (k .terms) m e, eqb-false (groupOf t) 0 e)
@@ -79,24 +79,24 @@ module _ (d : Dictionary) (k : Draft d) where
   value-row {t} m e = rw (new-group t) (new-row (groupOf t - 1) (value-place m e))
 
   -- Their codes are the new ones.
-  pub new-category-code : {t : Bytes} → List·Memᴰ t (d .terms) → isCategory t ≡ true → codeOf (newTerm d t) ≡ newNumber d (codeOf t)
+  pub new-category-code : {t : Bytes} → List·Memᴰ t (d .terms) → isCategory t ≡ true → termCode (newTerm d t) ≡ newNumber d (termCode t)
   unfolding newTerm
-  new-category-code {t} m e = rw e (number-code (groupOf t) (codeOf t))
+  new-category-code {t} m e = rw e (number-code (groupOf t) (termCode t))
 
-  pub new-value-code : {t : Bytes} → List·Memᴰ t (d .terms) → isCategory t ≡ false → codeOf (newTerm d t) ≡ newCode d (propertyIn d (groupOf t - 1) .kind) (codeOf t)
+  pub new-value-code : {t : Bytes} → List·Memᴰ t (d .terms) → isCategory t ≡ false → termCode (newTerm d t) ≡ newCode d (propertyIn d (groupOf t - 1) .kind) (termCode t)
   unfolding newTerm newCode
   new-value-code {t} m e = rw e (go (propertyIn d (groupOf t - 1) .kind))
     where
-      go : (l : Kind) → codeOf (termOf (groupOf t) (newCode d l (codeOf t))) ≡ newCode d l (codeOf t)
-      go Kind.Page = number-code (groupOf t) (codeOf t)
-      go Kind.Number = ap codeOf (draft-shaped t m)
-      go Kind.Boolean = ap codeOf (draft-shaped t m)
-      go Kind.String = number-code (groupOf t) (codeOf t)
+      go : (l : Kind) → termCode (termOf (groupOf t) (newCode d l (termCode t))) ≡ newCode d l (termCode t)
+      go Kind.Page = number-code (groupOf t) (termCode t)
+      go Kind.Number = ap termCode (draft-shaped t m)
+      go Kind.Boolean = ap termCode (draft-shaped t m)
+      go Kind.String = number-code (groupOf t) (termCode t)
 
   -- They are the categories and the values that they were.
   pub category-kept : {t : Bytes} → List·Memᴰ t (d .terms) → isCategory t ≡ true → categoryOf (assembled d) (newTerm d t) ≡ categoryOf d t
   unfolding categoryOf
-  category-kept {t} m e = rw (new-category-code m e, new-text (codeOf t) (plain-below d (codeOf t) (category-fits d (k .terms) m e)))
+  category-kept {t} m e = rw (new-category-code m e, new-text (termCode t) (plain-below d (termCode t) (category-fits d (k .terms) m e)))
 
   value-kept : (l : Kind) (c : ℕ) → isCode d l c ≡ true → valueFrom (assembled d .texts) l (newCode d l c) ≡ valueFrom (d .texts) l c
   unfolding newCode isCode
@@ -111,8 +111,8 @@ module _ (d : Dictionary) (k : Draft d) where
       let row = value-row m e in
       let name : nameOf (textIn (assembled d) (propertyIn (assembled d) (groupOf (newTerm d t) - 1) .name)) ≡ nameOf (textIn d (propertyIn d (groupOf t - 1) .name)) =
       ap (λ (r : PropertyRow). nameOf (textIn (assembled d) (r .name))) row ∙ ap nameOf (new-name (mem-at (d .properties) (groupOf t - 1) (noProperty d) (value-place m e))) in
-      let value : valueFrom (assembled d .texts) (propertyIn (assembled d) (groupOf (newTerm d t) - 1) .kind) (codeOf (newTerm d t)) ≡ valueFrom (d .texts) (propertyIn d (groupOf t - 1) .kind) (codeOf t) =
-      ap₂ (λ (l : Kind) (c : ℕ). valueFrom (assembled d .texts) l c) (ap (λ (r : PropertyRow). r .kind) row) (new-value-code m e) ∙ value-kept (propertyIn d (groupOf t - 1) .kind) (codeOf t) (value-code-fits d (k .terms) m e) in
+      let value : valueFrom (assembled d .texts) (propertyIn (assembled d) (groupOf (newTerm d t) - 1) .kind) (termCode (newTerm d t)) ≡ valueFrom (d .texts) (propertyIn d (groupOf t - 1) .kind) (termCode t) =
+      ap₂ (λ (l : Kind) (c : ℕ). valueFrom (assembled d .texts) l c) (ap (λ (r : PropertyRow). r .kind) row) (new-value-code m e) ∙ value-kept (propertyIn d (groupOf t - 1) .kind) (termCode t) (value-code-fits d (k .terms) m e) in
       λ i. record { property = name i; value = value i }
 
   -- They are terms, and made of a group and a code.
@@ -135,11 +135,11 @@ module _ (d : Dictionary) (k : Draft d) where
   unfolding isTerm
   new-fits {t} m =
       by-test (isCategory t)
-      (λ e. rw (new-kind t, e, new-category-code m e) (new-plain (codeOf t) (category-fits d (k .terms) m e)))
+      (λ e. rw (new-kind t, e, new-category-code m e) (new-plain (termCode t) (category-fits d (k .terms) m e)))
       (λ e. rw (new-kind t, e, value-row m e, new-value-code m e, new-group t, properties-many)
-      (both-true (le-leb (groupOf t) (length (d .properties)) (value-group-fits d (k .terms) m e)) (code-fits (propertyIn d (groupOf t - 1) .kind) (codeOf t) (value-code-fits d (k .terms) m e))))
+      (both-true (le-leb (groupOf t) (length (d .properties)) (value-group-fits d (k .terms) m e)) (code-fits (propertyIn d (groupOf t - 1) .kind) (termCode t) (value-code-fits d (k .terms) m e))))
 
-  pub new-shaped : {t : Bytes} → List·Memᴰ t (d .terms) → termOf (groupOf (newTerm d t)) (codeOf (newTerm d t)) ≡ newTerm d t
+  pub new-shaped : {t : Bytes} → List·Memᴰ t (d .terms) → termOf (groupOf (newTerm d t)) (termCode (newTerm d t)) ≡ newTerm d t
   unfolding newTerm
   new-shaped {t} m =
       by-test (isCategory t)
@@ -159,4 +159,4 @@ module _ (d : Dictionary) (k : Draft d) where
   new-names {t} {x} m n =
       by-test (isCategory t)
       (λ e. rw (new-kind t, e, new-category-code m e) (List·Memᴰ·head (ap (newNumber d) (List·Memᴰ·eq-of-singleton (rw e at n)))))
-      (λ e. rw (new-kind t, e, value-row m e, new-value-code m e) (code-names (propertyIn d (groupOf t - 1) .kind) (codeOf t) (rw e at n)))
+      (λ e. rw (new-kind t, e, value-row m e, new-value-code m e) (code-names (propertyIn d (groupOf t - 1) .kind) (termCode t) (rw e at n)))

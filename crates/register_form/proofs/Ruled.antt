@@ -18,7 +18,7 @@ use Rattle.language.specs.Rules.{isIdentifier, isStorable, isPage, isWithinLimi
 use Rattle.language.proofs.Members.{and-true, both-true, by-test, all-at, all-of, all-map}
 use Rattle.language.proofs.Rules.{Ruled, RuledPage, page-rules, rules-page, register-rules, rules-register}
 use Rattle.sorting.proofs.Canonical.{same-truth}
-use Rattle.register_form.specs.Dictionary.{PageRow, Dictionary, nameOf, groupOf, codeOf, isCategory, valueFrom, textIn, termIn, propertyIn, categoryOf, heldOf, categoriesIn, valuesIn, decodeProperty, decodePage, decode}
+use Rattle.register_form.specs.Dictionary.{PageRow, Dictionary, nameOf, groupOf, termCode, isCategory, valueFrom, textIn, termIn, propertyIn, categoryOf, heldOf, categoriesIn, valuesIn, decodeProperty, decodePage, decode}
 use Rattle.register_form.specs.Encoding.{placeAmong}
 use Rattle.register_form.specs.Tests.{termUses, keepsTerm, keepsProperty, keepsPage, countedBytes, keepsRules}
 use Rattle.register_form.proofs.Truths.{each, all-mapped}
@@ -104,7 +104,7 @@ module _ (d : Dictionary) (c : Canon d) where
         kind-placed (decode d .properties) (nameOf (textIn d (propertyIn d i .name))) undeclared (rw at (r .1))
         ∙ ap (λ (n : ℕ). some (getD (decode d .properties) n undeclared .kind)) at
         ∙ ap (λ (p : Property). some (p .kind)) (r .2) in
-        rw kind (kind-told (d .texts) (propertyIn d i .kind) (codeOf t))
+        rw kind (kind-told (d .texts) (propertyIn d i .kind) (termCode t))
 
     kinds-kept : kindsHold (decode d) ≡ true
     unfolding kindsHold decode decodePage

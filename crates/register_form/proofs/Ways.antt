@@ -8,7 +8,7 @@ use lib.Seq.{drop-drop, take-all}
 use Rattle.text.specs.Bytes.{Bytes, part}
 use Rattle.values.specs.declared.Kind.{Kind}
 use Rattle.buffer.specs.Numbers.{twoAt, eightAt}
-use Rattle.register_form.specs.Dictionary.{spaceOf, nameOf, groupOf, codeOf}
+use Rattle.register_form.specs.Dictionary.{spaceOf, nameOf, groupOf, termCode}
 use Rattle.register_form.specs.Form.{kindFrom, propertyAt, pageAt, formStart, formAt, termAt, textStart, textAt}
 use Rattle.buffer.proofs.Parts.{getD-part}
 
@@ -77,7 +77,7 @@ module _ (h : Bytes) where
       let t : a + 1 + 6 ≡ a + 7 = omega arith in
       rw (q, s, t, two-in a 1 (omega arith), two-in a 3 (omega arith), two-in a 5 (omega arith), two-in a 7 (omega arith))
 
-  pub code-is : (f w r : ℕ) → w ≡ f → r ≡ eightAt h (5323 + 9 * w) → r ≡ codeOf (termAt h f)
+  pub code-is : (f w r : ℕ) → w ≡ f → r ≡ eightAt h (5323 + 9 * w) → r ≡ termCode (termAt h f)
   unfolding termAt
   code-is f w r e g = g ∙ ap (eightAt h) (let y : 5323 + 9 * w ≡ 5322 + 9 * f + 1 = omega arith in y) ∙ eight-in (5322 + 9 * f)
 

@@ -51,8 +51,8 @@ termOf group code = group ∷ eightBytes code
 abbrev pub groupOf : Bytes → ℕ
 groupOf t = getD t 0 0
 
-abbrev pub codeOf : Bytes → ℕ
-codeOf t = eightAt t 1
+abbrev pub termCode : Bytes → ℕ
+termCode t = eightAt t 1
 
 abbrev pub isCategory : Bytes → Bool
 isCategory t = eqb (groupOf t) 0
@@ -83,13 +83,13 @@ module _ (d : Dictionary) where
 
   -- The category, or the value with its property, that a term is.
   unfoldable pub categoryOf : Bytes → Bytes
-  categoryOf t = nameOf (textIn (codeOf t))
+  categoryOf t = nameOf (textIn (termCode t))
 
   unfoldable pub heldOf : Bytes → Held
   heldOf t =
       record {
         property = nameOf (textIn (propertyIn (groupOf t - 1) .name));
-        value = valueFrom (d .texts) (propertyIn (groupOf t - 1) .kind) (codeOf t);
+        value = valueFrom (d .texts) (propertyIn (groupOf t - 1) .kind) (termCode t);
       }
 
   -- The categories and the values among the terms of a page.

@@ -13,7 +13,7 @@ use Rattle.language.specs.Register.{Page, Register, distinct, sameProperty}
 use Rattle.language.specs.RegisterText.{sameHeld}
 use Rattle.language.specs.Rules.{isWithinLimits}
 use Rattle.sorting.specs.Ascending.{sorted, rank}
-use Rattle.register_form.specs.Dictionary.{PropertyRow, PageRow, Dictionary, termOf, groupOf, codeOf, isCategory, textIn, termIn, propertyIn, decode}
+use Rattle.register_form.specs.Dictionary.{PropertyRow, PageRow, Dictionary, termOf, groupOf, termCode, isCategory, textIn, termIn, propertyIn, decode}
 use Rattle.register_form.specs.Form.{stored}
 use Rattle.register_form.specs.Tests.{isLabelled, isPlainNumber, isTerm, textUses, termUses, everyUsed}
 
@@ -43,7 +43,7 @@ pub record Draft (d : Dictionary) : Type 0 where
   pub termsUsed : everyUsed (length (d .terms)) (termUses d) ≡ true
   pub textsUsed : everyUsed (length (d .texts)) (textUses d) ≡ true
   pub propertiesOnce : distinct sameProperty (decode d .properties) ≡ true
-  pub shaped : (i : ℕ) → i < length (d .terms) → termOf (groupOf (termIn d i)) (codeOf (termIn d i)) ≡ termIn d i
+  pub shaped : (i : ℕ) → i < length (d .terms) → termOf (groupOf (termIn d i)) (termCode (termIn d i)) ≡ termIn d i
   -- the new number of a text is a code
   pub few : length (d .texts) < 2 ^ 64
 
@@ -68,7 +68,7 @@ module _ (d : Dictionary) where
 
   -- A term of the draft with the new number of its text.
   unfoldable pub newTerm : Bytes → Bytes
-  newTerm t = termOf (groupOf t) (cond (isCategory t) (newNumber (codeOf t)) (newCode (propertyIn d (groupOf t - 1) .kind) (codeOf t)))
+  newTerm t = termOf (groupOf t) (cond (isCategory t) (newNumber (termCode t)) (newCode (propertyIn d (groupOf t - 1) .kind) (termCode t)))
 
   unfoldable pub sortedTerms : List Bytes
   sortedTerms = sorted orderOf (map newTerm (d .terms))

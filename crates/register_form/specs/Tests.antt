@@ -13,7 +13,7 @@ use Rattle.language.specs.Register.{distinct}
 use Rattle.language.specs.Rules.{isIdentifier, isStorable, total}
 use Rattle.sorting.specs.Ascending.{ascends}
 use Rattle.buffer.specs.Tests.{allTo, zerosAt}
-use Rattle.register_form.specs.Dictionary.{PropertyRow, PageRow, Dictionary, spaceOf, nameOf, identifierOf, groupOf, codeOf, isCategory, textIn, termIn, propertyIn, categoryOf, heldOf}
+use Rattle.register_form.specs.Dictionary.{PropertyRow, PageRow, Dictionary, spaceOf, nameOf, identifierOf, groupOf, termCode, isCategory, textIn, termIn, propertyIn, categoryOf, heldOf}
 use Rattle.register_form.specs.Form.{pageCount, propertyCount, termCount, textCount, registerSize, formsOf, joined, formStart, textStart, dictionaryIn}
 
 -- A table of n numbers and one more begins with 0, does not fall, and ends at most at a number.
@@ -67,7 +67,7 @@ module _ (d : Dictionary) where
   isCode Kind.String c = isPlainNumber c
 
   unfoldable pub isTerm : Bytes → Bool
-  isTerm t = cond (isCategory t) (isPlainNumber (codeOf t)) (leb (groupOf t) (length (d .properties)) && isCode (propertyIn d (groupOf t - 1) .kind) (codeOf t))
+  isTerm t = cond (isCategory t) (isPlainNumber (termCode t)) (leb (groupOf t) (length (d .properties)) && isCode (propertyIn d (groupOf t - 1) .kind) (termCode t))
 
   unfoldable pub isPageRow : PageRow → Bool
   isPageRow p = ltb (p .identifier) (length (d .texts)) && all (λ f. ltb f (length (d .terms))) (p .forms) && inOrder false (map (termIn d) (p .forms))
@@ -80,7 +80,7 @@ module _ (d : Dictionary) where
   codeTexts Kind.String c = c ∷ []
 
   unfoldable pub termTexts : Bytes → List ℕ
-  termTexts t = cond (isCategory t) (codeOf t ∷ []) (codeTexts (propertyIn d (groupOf t - 1) .kind) (codeOf t))
+  termTexts t = cond (isCategory t) (termCode t ∷ []) (codeTexts (propertyIn d (groupOf t - 1) .kind) (termCode t))
 
   unfoldable pub textUses : List ℕ
   textUses = map (λ p. p .name) (d .properties) ++ (map (λ p. p .identifier) (d .pages) ++ flatMap termTexts (d .terms))

@@ -1,7 +1,7 @@
 // The held register: reading its rows. Every number is one of 16 bits, so that no place overflows; what lies behind the bytes is 0.
 ghost use mathlib.Core.Path.{_≡_};
 ghost use Prim.Native.Nat.{suc, _+_, _*_, _-_};
-ghost use Rattle.register_form.specs.Dictionary.{spaceOf, nameOf, groupOf, codeOf};
+ghost use Rattle.register_form.specs.Dictionary.{spaceOf, nameOf, groupOf, termCode};
 ghost use Rattle.register_form.specs.Form.{kindByte, pageCount, propertyCount, termCount, textCount, kindFrom, propertyAt, pageAt, formStart, formAt, termAt, textStart, textAt};
 
 pub mod layout; // layout.rt: where the regions begin, and how many rows they have room for
@@ -117,7 +117,7 @@ pub fn group_at(h: &[u8], f: u16) -> u8
 }
 
 pub fn code_at(h: &[u8], f: u16) -> u64
-    ensures { λ r. ⌜ r ≡ codeOf (termAt (now (h .entry)) f) ⌝ }
+    ensures { λ r. ⌜ r ≡ termCode (termAt (now (h .entry)) f) ⌝ }
 {
     eight_at(h, layout::CODES + 9 * widen(f))
 }

@@ -17,7 +17,7 @@ use Rattle.language.specs.Joining.{onlyIn, join, kindsClash}
 use Rattle.language.specs.Rules.{isRegister}
 use Rattle.language.proofs.Members.{by-test, any-found, all-of}
 use Rattle.language.proofs.Unions.{only-member}
-use Rattle.register_form.specs.Dictionary.{PropertyRow, PageRow, Dictionary, termOf, groupOf, codeOf, textIn, termIn, decode}
+use Rattle.register_form.specs.Dictionary.{PropertyRow, PageRow, Dictionary, termOf, groupOf, termCode, textIn, termIn, decode}
 use Rattle.register_form.specs.Tests.{isPlainNumber, isTerm, termTexts, textUses, termUses, everyUsed}
 use Rattle.register_form.specs.Draft.{Draft, drafted}
 use Rattle.register_form.proofs.Lists.{mem-at, mem-place, mem-flat, of-flat, used-mem, mem-used}
@@ -227,9 +227,9 @@ module _ (d e : Dictionary) (item1 item2 : ℕ → ℕ) (texts : List Bytes) (j 
   fits (TermFrom.first m f) = ap (isTerm D) f ∙ term-fits d D item1 s1 m
   fits (TermFrom.second m f) = ap (isTerm D) f ∙ term-fits e D item2 s2 m
 
-  shaped : {t : Bytes} → TermFrom t → termOf (groupOf t) (codeOf t) ≡ t
-  shaped (TermFrom.first m f) = ap (λ (t : Bytes). termOf (groupOf t) (codeOf t)) f ∙ term-shaped d D item1 s1 m ∙ sym f
-  shaped (TermFrom.second m f) = ap (λ (t : Bytes). termOf (groupOf t) (codeOf t)) f ∙ term-shaped e D item2 s2 m ∙ sym f
+  shaped : {t : Bytes} → TermFrom t → termOf (groupOf t) (termCode t) ≡ t
+  shaped (TermFrom.first m f) = ap (λ (t : Bytes). termOf (groupOf t) (termCode t)) f ∙ term-shaped d D item1 s1 m ∙ sym f
+  shaped (TermFrom.second m f) = ap (λ (t : Bytes). termOf (groupOf t) (termCode t)) f ∙ term-shaped e D item2 s2 m ∙ sym f
 
   few : length (D .texts) < 2 ^ 64
   unfolding joinDraft draftOf

@@ -13,7 +13,7 @@ use Rattle.values.specs.Values.{Value}
 use Rattle.language.specs.Register.{Held}
 use Rattle.language.proofs.Members.{and-true, both-true, all-at, by-test}
 use Rattle.buffer.specs.Numbers.{twoAt, eightAt}
-use Rattle.register_form.specs.Dictionary.{PropertyRow, Dictionary, nameOf, termOf, groupOf, codeOf, isCategory, valueFrom, textIn, propertyIn, noProperty, categoryOf, heldOf, categoriesIn, valuesIn}
+use Rattle.register_form.specs.Dictionary.{PropertyRow, Dictionary, nameOf, termOf, groupOf, termCode, isCategory, valueFrom, textIn, propertyIn, noProperty, categoryOf, heldOf, categoriesIn, valuesIn}
 use Rattle.register_form.specs.Tests.{isPlain, isPlainNumber, isCode, isTerm, codeTexts, termTexts}
 use Rattle.register_form.proofs.Lists.{mem-at}
 use Rattle.register_form.proofs.Numbers.{code-back}
@@ -31,7 +31,7 @@ pub record Source (d D : Dictionary) (item : ℕ → ℕ) : Type 0 where
   pub rows : {p : PropertyRow} → List·Memᴰ p (d .properties) → Stands (D .properties) (rowOf d item p)
 
 -- A term's code does not depend on its group.
-code-free : (g h c : ℕ) → codeOf (termOf g c) ≡ codeOf (termOf h c)
+code-free : (g h c : ℕ) → termCode (termOf g c) ≡ termCode (termOf h c)
 unfolding eightAt twoAt
 code-free g h c = refl
 
@@ -48,51 +48,51 @@ module _ (d D : Dictionary) (item : ℕ → ℕ) (s : Source d D item) where
   moved t = movedTerm d item (map nameIn (D .properties)) t
 
   -- Numbers of texts.
-  item-code : (g x : ℕ) → x < length (d .texts) → codeOf (termOf g (item x)) ≡ item x
+  item-code : (g x : ℕ) → x < length (d .texts) → termCode (termOf g (item x)) ≡ item x
   item-code g x b = code-back g (item x) (omega (arith, s .items .below x b, s .few))
 
   -- Categories.
   module _ {t : Bytes} (m : List·Memᴰ t (d .terms)) (e : isCategory t ≡ true) where
-    category-moved : moved t ≡ termOf 0 (item (codeOf t))
+    category-moved : moved t ≡ termOf 0 (item (termCode t))
     unfolding movedTerm
     category-moved = rw e
 
-    category-below : codeOf t < length (d .texts)
-    category-below = plain-below d (codeOf t) (category-fits d (s .canon .terms) m e)
+    category-below : termCode t < length (d .texts)
+    category-below = plain-below d (termCode t) (category-fits d (s .canon .terms) m e)
 
     category-group : isCategory (moved t) ≡ true
     category-group = ap isCategory category-moved
 
-    category-code : codeOf (moved t) ≡ item (codeOf t)
-    category-code = ap codeOf category-moved ∙ item-code 0 (codeOf t) category-below
+    category-code : termCode (moved t) ≡ item (termCode t)
+    category-code = ap termCode category-moved ∙ item-code 0 (termCode t) category-below
 
     category-told : categoryOf D (moved t) ≡ categoryOf d t
     category-told =
-        category-name D (moved t) ∙ ap (λ (x : ℕ). nameOf (textIn D x)) category-code ∙ ap nameOf (s .items .text (codeOf t) category-below) ∙ sym (category-name d t)
+        category-name D (moved t) ∙ ap (λ (x : ℕ). nameOf (textIn D x)) category-code ∙ ap nameOf (s .items .text (termCode t) category-below) ∙ sym (category-name d t)
 
     category-term : isTerm D (moved t) ≡ true
     unfolding isTerm
-    category-term = rw (category-group, category-code) (item-plain d D item (s .items) (codeOf t) (category-fits d (s .canon .terms) m e))
+    category-term = rw (category-group, category-code) (item-plain d D item (s .items) (termCode t) (category-fits d (s .canon .terms) m e))
 
-    category-shaped : termOf (groupOf (moved t)) (codeOf (moved t)) ≡ moved t
+    category-shaped : termOf (groupOf (moved t)) (termCode (moved t)) ≡ moved t
     category-shaped = ap₂ termOf (ap groupOf category-moved) category-code ∙ sym category-moved
 
     category-texts : {i : ℕ} → List·Memᴰ i (termTexts d t) → List·Memᴰ (item i) (termTexts D (moved t))
     unfolding termTexts
     category-texts {i} n =
-        let k : List·Memᴰ i (codeOf t ∷ []) = rw e at n in
+        let k : List·Memᴰ i (termCode t ∷ []) = rw e at n in
         rw (category-group, category-code) (List·Memᴰ·head (ap item (List·Memᴰ·eq-of-singleton k)))
 
   -- Codes of values.
-  code-kept : (g : ℕ) {t : Bytes} → List·Memᴰ t (d .terms) → codeOf (termOf g (codeOf t)) ≡ codeOf t
-  code-kept g {t} m = code-free g (groupOf t) (codeOf t) ∙ ap codeOf (s .shaped t m)
+  code-kept : (g : ℕ) {t : Bytes} → List·Memᴰ t (d .terms) → termCode (termOf g (termCode t)) ≡ termCode t
+  code-kept g {t} m = code-free g (groupOf t) (termCode t) ∙ ap termCode (s .shaped t m)
 
-  value-code : (g : ℕ) (k : Kind) {t : Bytes} → List·Memᴰ t (d .terms) → isCode d k (codeOf t) ≡ true → codeOf (termOf g (codeBy item k (codeOf t))) ≡ codeBy item k (codeOf t)
+  value-code : (g : ℕ) (k : Kind) {t : Bytes} → List·Memᴰ t (d .terms) → isCode d k (termCode t) ≡ true → termCode (termOf g (codeBy item k (termCode t))) ≡ codeBy item k (termCode t)
   unfolding codeBy isCode
-  value-code g Kind.Page {t} m h = item-code g (codeOf t) (ltb-true (codeOf t) (length (d .texts)) h)
+  value-code g Kind.Page {t} m h = item-code g (termCode t) (ltb-true (termCode t) (length (d .texts)) h)
   value-code g Kind.Number m h = code-kept g m
   value-code g Kind.Boolean m h = code-kept g m
-  value-code g Kind.String {t} m h = item-code g (codeOf t) (plain-below d (codeOf t) h)
+  value-code g Kind.String {t} m h = item-code g (termCode t) (plain-below d (termCode t) h)
 
   value-from : (k : Kind) (n : ℕ) → isCode d k n ≡ true → valueFrom (D .texts) k (codeBy item k n) ≡ valueFrom (d .texts) k n
   unfolding codeBy isCode
@@ -127,7 +127,7 @@ module _ (d D : Dictionary) (item : ℕ → ℕ) (s : Source d D item) where
     there : Stands (D .properties) (rowOf d item property)
     there = s .rows property-there
 
-    value-moved : moved t ≡ termOf (suc (there .place)) (codeBy item (property .kind) (codeOf t))
+    value-moved : moved t ≡ termOf (suc (there .place)) (codeBy item (property .kind) (termCode t))
     unfolding movedTerm
     value-moved = rw (e, there .is)
 
@@ -141,8 +141,8 @@ module _ (d D : Dictionary) (item : ℕ → ℕ) (s : Source d D item) where
     value-row =
         ap (propertyIn D) (let y : groupOf (moved t) - 1 ≡ there .place = omega (arith, value-group) in y) ∙ there .row (noProperty D)
 
-    moved-code : codeOf (moved t) ≡ codeBy item (property .kind) (codeOf t)
-    moved-code = ap codeOf value-moved ∙ value-code (suc (there .place)) (property .kind) m (value-code-fits d (s .canon .terms) m e)
+    moved-code : termCode (moved t) ≡ codeBy item (property .kind) (termCode t)
+    moved-code = ap termCode value-moved ∙ value-code (suc (there .place)) (property .kind) m (value-code-fits d (s .canon .terms) m e)
 
     name-below : property .name < length (d .texts)
     name-below = plain-below d (property .name) (all-at (λ p. isPlainNumber d (p .name)) (s .canon .names) property-there)
@@ -153,23 +153,23 @@ module _ (d D : Dictionary) (item : ℕ → ℕ) (s : Source d D item) where
         λ i.
         record {
           property = (ap (λ (r : PropertyRow). nameOf (textIn D (r .name))) value-row ∙ ap nameOf (s .items .text (property .name) name-below)) i;
-          value = (ap₂ (λ (k : Kind) (n : ℕ). valueFrom (D .texts) k n) (ap (λ (r : PropertyRow). r .kind) value-row) moved-code ∙ value-from (property .kind) (codeOf t) (value-code-fits d (s .canon .terms) m e)) i;
+          value = (ap₂ (λ (k : Kind) (n : ℕ). valueFrom (D .texts) k n) (ap (λ (r : PropertyRow). r .kind) value-row) moved-code ∙ value-from (property .kind) (termCode t) (value-code-fits d (s .canon .terms) m e)) i;
         }
 
     value-term : isTerm D (moved t) ≡ true
     unfolding isTerm
     value-term =
         rw (value-apart, value-row, moved-code)
-        (both-true (le-leb (groupOf (moved t)) (length (D .properties)) (omega (arith, value-group, there .below))) (value-is (property .kind) (codeOf t) (value-code-fits d (s .canon .terms) m e)))
+        (both-true (le-leb (groupOf (moved t)) (length (D .properties)) (omega (arith, value-group, there .below))) (value-is (property .kind) (termCode t) (value-code-fits d (s .canon .terms) m e)))
 
-    value-shaped : termOf (groupOf (moved t)) (codeOf (moved t)) ≡ moved t
+    value-shaped : termOf (groupOf (moved t)) (termCode (moved t)) ≡ moved t
     value-shaped = ap₂ termOf value-group moved-code ∙ sym value-moved
 
     value-texts : {i : ℕ} → List·Memᴰ i (termTexts d t) → List·Memᴰ (item i) (termTexts D (moved t))
     unfolding termTexts
     value-texts {i} n =
-        let k : List·Memᴰ i (codeTexts d (property .kind) (codeOf t)) = rw e at n in
-        rw (value-apart, value-row, moved-code) (value-names (property .kind) (codeOf t) k)
+        let k : List·Memᴰ i (codeTexts d (property .kind) (termCode t)) = rw e at n in
+        rw (value-apart, value-row, moved-code) (value-names (property .kind) (termCode t) k)
 
   -- Whichever it is.
   either : {A : Type 0} (t : Bytes) → (isCategory t ≡ true → A) → (isCategory t ≡ false → A) → A
@@ -178,7 +178,7 @@ module _ (d D : Dictionary) (item : ℕ → ℕ) (s : Source d D item) where
   pub term-fits : {t : Bytes} → List·Memᴰ t (d .terms) → isTerm D (moved t) ≡ true
   term-fits {t} m = either t (λ e. category-term m e) (λ e. value-term m e)
 
-  pub term-shaped : {t : Bytes} → List·Memᴰ t (d .terms) → termOf (groupOf (moved t)) (codeOf (moved t)) ≡ moved t
+  pub term-shaped : {t : Bytes} → List·Memᴰ t (d .terms) → termOf (groupOf (moved t)) (termCode (moved t)) ≡ moved t
   term-shaped {t} m = either t (λ e. category-shaped m e) (λ e. value-shaped m e)
 
   pub term-texts : {t : Bytes} {i : ℕ} → List·Memᴰ t (d .terms) → List·Memᴰ i (termTexts d t) → List·Memᴰ (item i) (termTexts D (moved t))

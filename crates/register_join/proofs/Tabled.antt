@@ -30,7 +30,7 @@ use Rattle.register_form.specs.Formed.{Formed}
 use Rattle.register_merge.specs.Merged.{Itemed, Merged}
 use Rattle.register_join.specs.Sheets.{Sheet, termsOn, numberedFrom, draftOf}
 use Rattle.register_join.specs.Joined.{sameRow, nameIn, placeIn, noPage, formsIn, rowOf, rowsOf, keyOf, keysOf, movedTerms, joinRows, joinNames, secondTerms, sheetBoth, sheetSecond, joinSheets, joinDraft}
-use Rattle.register_join.specs.Drafting.{itemsIn, Listed, noRow, Rowed, PropertiesPut, IdentifiersPut, newTerms, Written, newSheet, Ended, PagesPut, TableRoom, JoinPut}
+use Rattle.register_join.specs.Drafting.{itemsIn, Listed, noRow, Rowed, PropertiesPut, IdentifiersPut, newTerms, TermsListed, newSheet, Ended, PagesPut, TableRoom, JoinPut}
 use Rattle.register_join.proofs.Once.{behind-append, once-append, once-distinct}
 use Rattle.register_join.proofs.Texts.{eqb-likeness, key-below, keys-distinct}
 use Rattle.register_join.proofs.Rows.{Proper}

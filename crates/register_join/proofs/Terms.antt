@@ -11,7 +11,7 @@ use borrow.Author.Tests.{eqb-false}
 use Rattle.text.specs.Bytes.{Bytes}
 use Rattle.values.specs.declared.Kind.{Kind}
 use Rattle.language.proofs.Members.{map-same, by-test}
-use Rattle.register_form.specs.Dictionary.{PropertyRow, PageRow, Dictionary, termOf, groupOf, codeOf, isCategory, termIn, propertyIn}
+use Rattle.register_form.specs.Dictionary.{PropertyRow, PageRow, Dictionary, termOf, groupOf, termCode, isCategory, termIn, propertyIn}
 use Rattle.register_form.specs.Opened.{next}
 use Rattle.register_form.specs.Form.{propertyCount, propertyAt, termAt, dictionaryIn}
 use Rattle.register_form.proofs.Lists.{mem-at}
@@ -54,15 +54,15 @@ module _ (h : Bytes) (f : Formed h) (items table names : List ℕ)
   unfolding newTerm newGroup newCode movedTerm
   term-moved q b = rw (term-is h f q b) (go (subst (λ (t : Bytes). List·Memᴰ t (d .terms)) (term-is h f q b) (mem-at (d .terms) q [] b)))
     where
-      go : List·Memᴰ (termAt h q) (d .terms) → termOf (cond (eqb (groupOf (termAt h q)) 0) 0 (getD table (itemsIn items (propertyAt h (groupOf (termAt h q) - 1) .name)) 0 % 256)) (cond (eqb (groupOf (termAt h q)) 0) (itemsIn items (codeOf (termAt h q))) (codeBy (itemsIn items) (propertyAt h (groupOf (termAt h q) - 1) .kind) (codeOf (termAt h q))))
-          ≡ cond (isCategory (termAt h q)) (termOf 0 (itemsIn items (codeOf (termAt h q)))) (termOf (placeIn names (itemsIn items (propertyIn d (groupOf (termAt h q) - 1) .name))) (codeBy (itemsIn items) (propertyIn d (groupOf (termAt h q) - 1) .kind) (codeOf (termAt h q))))
+      go : List·Memᴰ (termAt h q) (d .terms) → termOf (cond (eqb (groupOf (termAt h q)) 0) 0 (getD table (itemsIn items (propertyAt h (groupOf (termAt h q) - 1) .name)) 0 % 256)) (cond (eqb (groupOf (termAt h q)) 0) (itemsIn items (termCode (termAt h q))) (codeBy (itemsIn items) (propertyAt h (groupOf (termAt h q) - 1) .kind) (termCode (termAt h q))))
+          ≡ cond (isCategory (termAt h q)) (termOf 0 (itemsIn items (termCode (termAt h q)))) (termOf (placeIn names (itemsIn items (propertyIn d (groupOf (termAt h q) - 1) .name))) (codeBy (itemsIn items) (propertyIn d (groupOf (termAt h q) - 1) .kind) (termCode (termAt h q))))
       go m =
           by-test (isCategory (termAt h q))
           (λ e. rw e)
           (λ e.
           let some = eqb-false (groupOf (termAt h q)) 0 e in
           let most = value-group-fits d (held-canon h f .terms) m e in
-          rw e (ap₂ termOf (group-is (groupOf (termAt h q)) some most) (ap (λ (k : Kind). codeBy (itemsIn items) k (codeOf (termAt h q))) (kind-is (groupOf (termAt h q)) some most))))
+          rw e (ap₂ termOf (group-is (groupOf (termAt h q)) some most) (ap (λ (k : Kind). codeBy (itemsIn items) k (termCode (termAt h q))) (kind-is (groupOf (termAt h q)) some most))))
 
   pub terms-moved : (forms : List ℕ) → ((q : ℕ) → List·Memᴰ q forms → q < length (d .terms)) → newTerms h items table forms ≡ movedTerms d (itemsIn items) names forms
   unfolding newTerms movedTerms

@@ -14,7 +14,7 @@ use Rattle.language.specs.Rules.{isRegister}
 use Rattle.language.specs.Joining.{join, kindsClash}
 use Rattle.sorting.specs.Ascending.{rank}
 use Rattle.dictionary.specs.Items.{textAt as itemAt}
-use Rattle.register_form.specs.Dictionary.{Dictionary, termOf, groupOf, codeOf, decode}
+use Rattle.register_form.specs.Dictionary.{Dictionary, termOf, groupOf, termCode, decode}
 use Rattle.register_form.specs.Encoding.{categoryTerm, valueTerm, pageTerms, termsOf, encode}
 use Rattle.register_form.specs.Form.{dictionaryIn, registerIn}
 use Rattle.register_form.specs.Draft.{Draft, drafted}
@@ -43,11 +43,11 @@ module _ (R : Register) (h : isRegister R ≡ true) where
   w : Limits R
   w = within R (k .limits)
 
-  category-shaped : {p : Page} {x : Bytes} → List·Memᴰ p (R .pages) → List·Memᴰ x (p .categories) → termOf (groupOf (categoryTerm R x)) (codeOf (categoryTerm R x)) ≡ categoryTerm R x
+  category-shaped : {p : Page} {x : Bytes} → List·Memᴰ p (R .pages) → List·Memᴰ x (p .categories) → termOf (groupOf (categoryTerm R x)) (termCode (categoryTerm R x)) ≡ categoryTerm R x
   unfolding categoryTerm
   category-shaped m n = ap (termOf 0) (category-code R k w m n)
 
-  value-shaped : {p : Page} {v : Held} → List·Memᴰ p (R .pages) → List·Memᴰ v (p .values) → termOf (groupOf (valueTerm R v)) (codeOf (valueTerm R v)) ≡ valueTerm R v
+  value-shaped : {p : Page} {v : Held} → List·Memᴰ p (R .pages) → List·Memᴰ v (p .values) → termOf (groupOf (valueTerm R v)) (termCode (valueTerm R v)) ≡ valueTerm R v
   unfolding valueTerm
   value-shaped {p} {v} m n = ap (termOf _) (value-code R k w m n)
 
@@ -55,9 +55,9 @@ module _ (R : Register) (h : isRegister R ≡ true) where
   unfolding encode termsOf
   shaped t m = let q = of-flat (pageTerms R) (R .pages) (of-sorted (flatMap (pageTerms R) (R .pages)) m) in go (q .1) (term-from R (q .0) (q .2))
     where
-      go : {p : Page} → List·Memᴰ p (R .pages) → TermFrom R p t → termOf (groupOf t) (codeOf t) ≡ t
-      go n (TermFrom.category c e) = ap (λ (u : Bytes). termOf (groupOf u) (codeOf u)) e ∙ category-shaped n c ∙ sym e
-      go n (TermFrom.value c e) = ap (λ (u : Bytes). termOf (groupOf u) (codeOf u)) e ∙ value-shaped n c ∙ sym e
+      go : {p : Page} → List·Memᴰ p (R .pages) → TermFrom R p t → termOf (groupOf t) (termCode t) ≡ t
+      go n (TermFrom.category c e) = ap (λ (u : Bytes). termOf (groupOf u) (termCode u)) e ∙ category-shaped n c ∙ sym e
+      go n (TermFrom.value c e) = ap (λ (u : Bytes). termOf (groupOf u) (termCode u)) e ∙ value-shaped n c ∙ sym e
 
   encoded-proper : Proper (encode R)
   encoded-proper = record { canon = canon (encode R) (canonical R k w); shaped = shaped; keeps = subst Ruled (sym (decoded R k w)) k }

@@ -12,12 +12,12 @@ use lib.Seq.{getD-set-same, getD-set-other}
 use Rattle.text.specs.Bytes.{Bytes}
 use Rattle.text.specs.Table.{tabulate}
 use Rattle.text.proofs.Tables.{length-tabulate, getD-tabulate}
-use Rattle.register_form.specs.Dictionary.{PageRow, termOf, groupOf, codeOf}
+use Rattle.register_form.specs.Dictionary.{PageRow, termOf, groupOf, termCode}
 use Rattle.register_form.specs.Form.{pageCount, pageAt, formStart, formAt, termAt, dictionaryIn}
 use Rattle.buffer.proofs.Parts.{flat-more}
 use Rattle.register_join.specs.Sheets.{Sheet, termsOn}
 use Rattle.register_join.specs.Joined.{noPage, formsIn}
-use Rattle.register_join.specs.Drafting.{newGroup, newCode, newTerm, newTerms, Written, TermsPut, newSheet, Paged, PagesPut}
+use Rattle.register_join.specs.Drafting.{newGroup, newCode, newTerm, newTerms, TermsListed, TermsPut, newSheet, Paged, PagesPut}
 use Rattle.register_join.proofs.Listing.{snoc-at}
 
 module _ (groups codes : List ℕ) (n : ℕ) where
@@ -28,7 +28,7 @@ module _ (groups codes : List ℕ) (n : ℕ) where
   pub put-one : (gs cs : List ℕ) (r w v g c : ℕ) → w ≡ n → gs ≡ set groups w g → v ≡ n → cs ≡ set codes v c → r ≡ (n + 1) % 65536 → TermsPut groups codes n (termOf g c ∷ []) gs cs r
   put-one gs cs r w v g c e p f q step = record { groups-size = ap length p ∙ length-set groups w g; codes-size = ap length q ∙ length-set codes v c; written = more }
     where
-      more : (l : List Bytes) → Written groups codes n l → n + 1 ≤ length groups → n + 1 ≤ length codes → n + 1 < 65536 → Written gs cs r (l ++ (termOf g c ∷ []))
+      more : (l : List Bytes) → TermsListed groups codes n l → n + 1 ≤ length groups → n + 1 ≤ length codes → n + 1 < 65536 → TermsListed gs cs r (l ++ (termOf g c ∷ []))
       more l o a b s = record { count = step ∙ mod-eq-of-lt s ∙ omega (arith, o .count, length-append l (termOf g c ∷ [])); is = at }
         where
           group-at : (i : ℕ) → getD gs i 0 ≡ getD (set groups n g) i 0
@@ -66,11 +66,11 @@ module _ (groups codes : List ℕ) (n : ℕ) where
 
 -- A term of a register, and forms of it.
 module _ (h : Bytes) (items table : List ℕ) where
-  pub put-term : (groups codes : List ℕ) (n f g : ℕ) (gs cs : List ℕ) (r w v x c y : ℕ) → g ≡ groupOf (termAt h f) → w ≡ n → x ≡ newGroup h items table g → gs ≡ set groups w x → v ≡ n → c ≡ codeOf (termAt h f) → y ≡ newCode h items g c → cs ≡ set codes v y → r ≡ (n + 1) % 65536 → TermsPut groups codes n (newTerm h items table f ∷ []) gs cs r
+  pub put-term : (groups codes : List ℕ) (n f g : ℕ) (gs cs : List ℕ) (r w v x c y : ℕ) → g ≡ groupOf (termAt h f) → w ≡ n → x ≡ newGroup h items table g → gs ≡ set groups w x → v ≡ n → c ≡ termCode (termAt h f) → y ≡ newCode h items g c → cs ≡ set codes v y → r ≡ (n + 1) % 65536 → TermsPut groups codes n (newTerm h items table f ∷ []) gs cs r
   unfolding newTerm
   put-term groups codes n f g gs cs r w v x c y ge we xe gse ve ce ye cse step =
       let xx : x ≡ newGroup h items table (groupOf (termAt h f)) = xe ∙ ap (newGroup h items table) ge in
-      let yy : y ≡ newCode h items (groupOf (termAt h f)) (codeOf (termAt h f)) = ye ∙ ap₂ (newCode h items) ge ce in
+      let yy : y ≡ newCode h items (groupOf (termAt h f)) (termCode (termAt h f)) = ye ∙ ap₂ (newCode h items) ge ce in
       put-one groups codes n gs cs r w v _ _ we (gse ∙ ap (set groups w) xx) ve (cse ∙ ap (set codes v) yy) step
 
   forms-more : (first : ℕ) (j k : ℕ) → first ≤ j → k ≡ formAt h j → newTerms h items table (tabulate (j + 1 - first) (λ i. formAt h (first + i))) ≡ newTerms h items table (tabulate (j - first) (λ i. formAt h (first + i))) ++ (newTerm h items table k ∷ [])

@@ -10,7 +10,7 @@ use Rattle.text.specs.Table.{tabulate}
 use Rattle.values.specs.declared.Kind.{Kind}
 use Rattle.language.specs.Joining.{kindsClash}
 use Rattle.dictionary.specs.Items.{textAt as itemAt}
-use Rattle.register_form.specs.Dictionary.{PropertyRow, PageRow, Dictionary, termOf, groupOf, codeOf, noProperty}
+use Rattle.register_form.specs.Dictionary.{PropertyRow, PageRow, Dictionary, termOf, groupOf, termCode, noProperty}
 use Rattle.register_form.specs.Form.{kindByte, pageCount, propertyCount, kindFrom, propertyAt, pageAt, formAt, termAt, dictionaryIn, registerIn}
 use Rattle.register_form.specs.Draft.{onceBehind}
 use Rattle.register_form.specs.Tables.{tablesOf, draftIn}
@@ -69,13 +69,13 @@ unfoldable pub newCode : Bytes → List ℕ → ℕ → ℕ → ℕ
 newCode h items g c = cond (eqb g 0) (itemsIn items c) (codeBy (itemsIn items) (propertyAt h (g - 1) .kind) c)
 
 unfoldable pub newTerm : Bytes → List ℕ → List ℕ → ℕ → Bytes
-newTerm h items table f = termOf (newGroup h items table (groupOf (termAt h f))) (newCode h items (groupOf (termAt h f)) (codeOf (termAt h f)))
+newTerm h items table f = termOf (newGroup h items table (groupOf (termAt h f))) (newCode h items (groupOf (termAt h f)) (termCode (termAt h f)))
 
 unfoldable pub newTerms : Bytes → List ℕ → List ℕ → List ℕ → List Bytes
 newTerms h items table forms = map (newTerm h items table) forms
 
 -- The first n terms in tables of groups and codes.
-pub record Written (groups codes : List ℕ) (n : ℕ) (l : List Bytes) : Type 0 where
+pub record TermsListed (groups codes : List ℕ) (n : ℕ) (l : List Bytes) : Type 0 where
   pub count : n ≡ length l
   pub is : (i : ℕ) → i < length l → termOf (getD groups i 0) (getD codes i 0) ≡ getD l i []
 
@@ -83,7 +83,7 @@ pub record Written (groups codes : List ℕ) (n : ℕ) (l : List Bytes) : Type 0
 pub record TermsPut (groups codes : List ℕ) (n : ℕ) (more : List Bytes) (gs cs : List ℕ) (r : ℕ) : Type 0 where
   pub groups-size : length gs ≡ length groups
   pub codes-size : length cs ≡ length codes
-  pub written : (l : List Bytes) → Written groups codes n l → n + length more ≤ length groups → n + length more ≤ length codes → n + length more < 65536 → Written gs cs r (l ++ more)
+  pub written : (l : List Bytes) → TermsListed groups codes n l → n + length more ≤ length groups → n + length more ≤ length codes → n + length more < 65536 → TermsListed gs cs r (l ++ more)
 
 -- Page i of the draft: its forms in the first register, and those of the page of the second that a table tells.
 abbrev pub newSheet : Bytes → Bytes → List ℕ → List ℕ → List ℕ → List ℕ → List ℕ → ℕ → Sheet
@@ -95,12 +95,12 @@ newSheet h g items1 items2 names pages identifiers i =
 
 -- The first i of some pages are put: their terms, and where the forms of each begin.
 pub record Paged (sheets : ℕ → Sheet) (i : ℕ) (firsts groups codes : List ℕ) (n : ℕ) : Type 0 where
-  pub written : Written groups codes n (flatMap termsOn (tabulate i sheets))
+  pub written : TermsListed groups codes n (flatMap termsOn (tabulate i sheets))
   pub starts : (k : ℕ) → k < i → getD firsts k 0 ≡ length (flatMap termsOn (tabulate k sheets))
 
 -- All m are, and firsts has where the last ends, where there was room.
 pub record Ended (sheets : ℕ → Sheet) (m : ℕ) (firsts groups codes : List ℕ) (n : ℕ) : Type 0 where
-  pub written : Written groups codes n (flatMap termsOn (tabulate m sheets))
+  pub written : TermsListed groups codes n (flatMap termsOn (tabulate m sheets))
   pub starts : (k : ℕ) → k ≤ m → getD firsts k 0 ≡ length (flatMap termsOn (tabulate k sheets))
 
 pub record PagesPut (sheets : ℕ → Sheet) (m : ℕ) (firsts groups codes fs gs cs : List ℕ) (n : ℕ) : Type 0 where

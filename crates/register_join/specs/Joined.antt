@@ -8,7 +8,7 @@ use lib.ListN.{getD}
 use Rattle.text.specs.Bytes.{Bytes}
 use Rattle.values.specs.declared.Kind.{Kind}
 use Rattle.language.specs.Joining.{onlyIn}
-use Rattle.register_form.specs.Dictionary.{PropertyRow, PageRow, Dictionary, termOf, groupOf, codeOf, isCategory, termIn, propertyIn}
+use Rattle.register_form.specs.Dictionary.{PropertyRow, PageRow, Dictionary, termOf, groupOf, termCode, isCategory, termIn, propertyIn}
 use Rattle.register_form.specs.Opened.{next}
 use Rattle.register_form.specs.Draft.{once}
 use Rattle.register_join.specs.Sheets.{Sheet, draftOf}
@@ -56,8 +56,8 @@ module _ (d : Dictionary) (item : ℕ → ℕ) where
   -- A value's group is the place of its property's name among the names.
   unfoldable pub movedTerm : List ℕ → Bytes → Bytes
   movedTerm names t =
-      cond (isCategory t) (termOf 0 (item (codeOf t)))
-      (termOf (placeIn names (item (propertyIn d (groupOf t - 1) .name))) (codeBy item (propertyIn d (groupOf t - 1) .kind) (codeOf t)))
+      cond (isCategory t) (termOf 0 (item (termCode t)))
+      (termOf (placeIn names (item (propertyIn d (groupOf t - 1) .name))) (codeBy item (propertyIn d (groupOf t - 1) .kind) (termCode t)))
 
   unfoldable pub movedTerms : List ℕ → List ℕ → List Bytes
   movedTerms names forms = map (λ f. movedTerm names (termIn d f)) forms

@@ -17,7 +17,7 @@ use Rattle.values.specs.Spelling.{spellNumber, spellBoolean, spellIdentifier, s
 use Rattle.values.proofs.Spelled.{name-keeps, value-short}
 use Rattle.language.specs.Rules.{isIdentifier, magnitude, isStorable}
 use Rattle.sorting.proofs.Canonical.{same-truth, left-of, right-of, both}
-use Rattle.register_form.specs.Dictionary.{nameOf, identifierOf, groupOf, codeOf, numberFrom, valueFrom, textIn, propertyIn, categoryOf, heldOf}
+use Rattle.register_form.specs.Dictionary.{nameOf, identifierOf, groupOf, termCode, numberFrom, valueFrom, textIn, propertyIn, categoryOf, heldOf}
 use Rattle.register_form.specs.Form.{propertyCount, textCount, propertyAt, termAt, textAt, dictionaryIn}
 use Rattle.register_form.specs.Tests.{isLabelled, isPlain, isPlainNumber, isCode, isTerm, codeTexts, termTexts, keepsTerm, termBytes}
 use Rattle.register_form.proofs.Laying.{Laid}
@@ -142,13 +142,13 @@ module _
         go false e = rw e (right-none (codeTexts (dictionaryIn h) (propertyIn (dictionaryIn h) (g - 1) .kind) c) (length (spelling (valueFrom (dictionaryIn h .texts) (propertyIn (dictionaryIn h) (g - 1) .kind) c))) 0)
 
     -- a term by its group and its code
-    right-group : (t : Bytes) → Right (judgedGroup h classes (groupOf t) (codeOf t)) (isTerm (dictionaryIn h) t && keepsTerm (dictionaryIn h) t) (termTexts (dictionaryIn h) t) (termBytes (dictionaryIn h) t)
+    right-group : (t : Bytes) → Right (judgedGroup h classes (groupOf t) (termCode t)) (isTerm (dictionaryIn h) t && keepsTerm (dictionaryIn h) t) (termTexts (dictionaryIn h) t) (termBytes (dictionaryIn h) t)
     unfolding judgedGroup isTerm keepsTerm termTexts termBytes categoryOf heldOf
     right-group t = go (eqb (groupOf t) 0) refl
       where
-        go : (b : Bool) → eqb (groupOf t) 0 ≡ b → Right (judgedGroup h classes (groupOf t) (codeOf t)) (isTerm (dictionaryIn h) t && keepsTerm (dictionaryIn h) t) (termTexts (dictionaryIn h) t) (termBytes (dictionaryIn h) t)
-        go true e = rw e (right-name 2 2 isName class-category (λ s n. name-keeps s n .short) (codeOf t))
-        go false e = rw e (right-property (groupOf t) (codeOf t) (eqb-false (groupOf t) 0 e))
+        go : (b : Bool) → eqb (groupOf t) 0 ≡ b → Right (judgedGroup h classes (groupOf t) (termCode t)) (isTerm (dictionaryIn h) t && keepsTerm (dictionaryIn h) t) (termTexts (dictionaryIn h) t) (termBytes (dictionaryIn h) t)
+        go true e = rw e (right-name 2 2 isName class-category (λ s n. name-keeps s n .short) (termCode t))
+        go false e = rw e (right-property (groupOf t) (termCode t) (eqb-false (groupOf t) 0 e))
 
     pub right-term : (f : ℕ) → Right (judgedTerm h classes f) (isTerm (dictionaryIn h) (termAt h f) && keepsTerm (dictionaryIn h) (termAt h f)) (termTexts (dictionaryIn h) (termAt h f)) (termBytes (dictionaryIn h) (termAt h f))
     unfolding judgedTerm

@@ -14,7 +14,7 @@ use Rattle.text.proofs.Keys.{Small, part-small, key-take, key-order}
 use Rattle.values.specs.declared.Kind.{Kind}
 use Rattle.values.specs.Spelling.{spellNumber}
 use Rattle.sorting.specs.Ascending.{isLess}
-use Rattle.register_form.specs.Dictionary.{groupOf, codeOf, numberFrom}
+use Rattle.register_form.specs.Dictionary.{groupOf, termCode, numberFrom}
 use Rattle.register_form.specs.Form.{propertyCount, textCount, propertyAt, termAt}
 use Rattle.buffer.specs.Tests.{allTo}
 use Rattle.register_test.specs.Loops.{climbs}
@@ -116,7 +116,7 @@ module _ (h : Bytes) where
       unfolding judgedGroup
       group-none n e f l j = j ∙ rw (ne-eqb g 0 e, lt-leb g (propertyCount h) (rw (← f) l))
 
-    pub term-is : (f g w c : ℕ) (r : Judged) → g ≡ groupOf (termAt h f) → w ≡ g → c ≡ codeOf (termAt h f) → r ≡ judgedGroup h classes w c → r ≡ judgedTerm h classes f
+    pub term-is : (f g w c : ℕ) (r : Judged) → g ≡ groupOf (termAt h f) → w ≡ g → c ≡ termCode (termAt h f) → r ≡ judgedGroup h classes w c → r ≡ judgedTerm h classes f
     unfolding judgedTerm
     term-is f g w c r e i j k = k ∙ rw (i, e, j)
 

@@ -13,7 +13,7 @@ use Rattle.values.specs.ByteRules.{nameClass}
 use Rattle.values.specs.Spelling.{spellNumber}
 use Rattle.language.specs.Rules.{isIdentifier}
 use Rattle.buffer.specs.Numbers.{twoAt}
-use Rattle.register_form.specs.Dictionary.{nameOf, identifierOf, groupOf, codeOf, isCategory, numberFrom}
+use Rattle.register_form.specs.Dictionary.{nameOf, identifierOf, groupOf, termCode, isCategory, numberFrom}
 use Rattle.register_form.specs.Form.{pageCount, propertyCount, termCount, textCount, propertyAt, pageAt, formStart, formAt, termAt, textStart, textAt}
 use Rattle.register_form.specs.Tests.{isLabelled, isPlain}
 use Rattle.buffer.specs.Tests.{allTo, zerosAt}
@@ -118,7 +118,7 @@ module _ (h : Bytes) where
     judgedGroup g c = cond (eqb g 0) (judgedText 2 2 c) (cond (leb g (propertyCount h)) (judgedValue (propertyAt h (g - 1) .kind) c) (noText false 0))
 
     unfoldable pub judgedTerm : ℕ → Judged
-    judgedTerm f = judgedGroup (groupOf (termAt h f)) (codeOf (termAt h f))
+    judgedTerm f = judgedGroup (groupOf (termAt h f)) (termCode (termAt h f))
 
     unfoldable pub termTest : ℕ → Bool
     termTest f = judgedTerm f .ok && climbs (termAt h) f

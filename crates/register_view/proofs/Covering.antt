@@ -20,7 +20,7 @@ use Rattle.sorting.specs.Ascending.{isLess, rank}
 use Rattle.sorting.proofs.Canonical.{same-truth}
 use Rattle.sorting.proofs.Orders.{bytes-total}
 use Rattle.sorting.proofs.Ranks.{rank-most, rank-above, rank-below}
-use Rattle.register_form.specs.Dictionary.{nameOf, groupOf, codeOf, termOf}
+use Rattle.register_form.specs.Dictionary.{nameOf, groupOf, termCode, termOf}
 use Rattle.register_form.specs.Encoding.{plainText, textsOf, placeAmong, categoryTerm, valueTerm, pageTerms, termsOf}
 use Rattle.register_form.proofs.Lists.{mem-at, of-flat, of-sorted, number-at, number-back, number-small}
 use Rattle.register_form.proofs.Numbers.{code-back}
@@ -191,7 +191,7 @@ module _ (R : Register) where
 
         same-name : (p : Page) (y : Bytes) → List·Memᴰ p (R .pages) → List·Memᴰ y (p .categories) → termNumber R (categoryTerm R y) ≡ f → x ≡ y
         same-name p y m n e =
-            let number : rank orderOf (plainText y) (textsOf R) ≡ c = sym (category-code R k w m n) ∙ ap codeOf (rank-is (categoryTerm R y) (category-in m n) e) ∙ code-back 0 c (omega (arith, texts-few R w)) in
+            let number : rank orderOf (plainText y) (textsOf R) ≡ c = sym (category-code R k w m n) ∙ ap termCode (rank-is (categoryTerm R y) (category-in m n) e) ∙ code-back 0 c (omega (arith, texts-few R w)) in
             let text : plainText x ≡ plainText y = sym name ∙ ap (λ (j : ℕ). getD (textsOf R) j []) (sym number) ∙ number-back (textsOf R) (texts-up R) (plainText y) (category-text R m n) in
             sym (name-back [] x) ∙ ap nameOf text ∙ name-back [] y
 

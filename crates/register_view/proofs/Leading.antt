@@ -26,7 +26,7 @@ use Rattle.nodes.specs.declared.Constant.{Constant}
 use Rattle.sorting.specs.Ascending.{rank}
 use Rattle.sorting.proofs.Canonical.{same-truth}
 use Rattle.buffer.specs.Numbers.{twoAt, eightAt}
-use Rattle.register_form.specs.Dictionary.{Dictionary, nameOf, identifierOf, codeOf, numberFrom}
+use Rattle.register_form.specs.Dictionary.{Dictionary, nameOf, identifierOf, termCode, numberFrom}
 use Rattle.register_form.specs.Encoding.{plainText, identifierText, valueTexts, textsOf, valueCode, valueTerm, termsOf, encodePage, encode}
 use Rattle.register_form.specs.Form.{termAt, textAt, dictionaryIn}
 use Rattle.register_form.specs.Opened.{pageIn, next, placeOf, Places, Opened}
@@ -42,7 +42,7 @@ use Rattle.register_view.proofs.Ordering.{name-order}
 use Rattle.register_view.proofs.Covering.{value-in}
 
 -- A code below 65,536 is its two low bytes.
-low-bytes : (t : Bytes) → codeOf t < 65536 → twoAt t 1 ≡ codeOf t
+low-bytes : (t : Bytes) → termCode t < 65536 → twoAt t 1 ≡ termCode t
 unfolding eightAt
 low-bytes t l = omega arith
 
@@ -58,10 +58,10 @@ module _ {h : Bytes} {R : Register} (d : Known h R) {p : Page} {v : Held} (m : L
   abbrev pub form : ℕ
   form = termNumber R (valueTerm R v)
 
-  code-there : codeOf (termAt h form) ≡ valueCode (textsOf R) (v .value)
+  code-there : termCode (termAt h form) ≡ valueCode (textsOf R) (v .value)
   code-there =
       let inside = value-in R m n in
-      ap codeOf (term-row d form (number-small (termsOf R) (terms-up R) (valueTerm R v) inside) ∙ number-back (termsOf R) (terms-up R) (valueTerm R v) inside)
+      ap termCode (term-row d form (number-small (termsOf R) (terms-up R) (valueTerm R v) inside) ∙ number-back (termsOf R) (terms-up R) (valueTerm R v) inside)
       ∙ value-code R (d .keeps) (d .limits) m n
 
   -- the text that it names
@@ -82,7 +82,7 @@ module _ {h : Bytes} {R : Register} (d : Known h R) {p : Page} {v : Held} (m : L
   unfolding valueCode valueTexts isStorable
   value-there = go (v .value) refl code-there (value-kept R (d .keeps) m n) (value-text R m n)
     where
-      go : (u : Value) → v .value ≡ u → codeOf (termAt h form) ≡ valueCode (textsOf R) u → isStorable u ≡ true → ((t : Bytes) → List·Memᴰ t (valueTexts u) → List·Memᴰ t (textsOf R)) → valueAt h (kindOf u) form ≡ u
+      go : (u : Value) → v .value ≡ u → termCode (termAt h form) ≡ valueCode (textsOf R) u → isStorable u ≡ true → ((t : Bytes) → List·Memᴰ t (valueTexts u) → List·Memᴰ t (textsOf R)) → valueAt h (kindOf u) form ≡ u
       go (plain (number z)) e c s texts = ap (λ (a : ℤ). plain (number a)) (ap numberFrom c ∙ number-of-code z (ltb-true (magnitude z) base s))
       go (plain (boolean b)) e c s texts = ap (λ (a : Bool). plain (boolean a)) (ap (λ (j : ℕ). eqb j 1) c ∙ bit-back b)
       go (plain (string s)) e c k texts =

@@ -21,7 +21,7 @@ use Rattle.language.specs.Semantics.{stands, Cv}
 use Rattle.language.specs.declared.Comparator.{Comparator}
 use Rattle.nodes.specs.declared.Constant.{Constant}
 use Rattle.buffer.specs.Numbers.{twoAt}
-use Rattle.register_form.specs.Dictionary.{nameOf, codeOf, numberFrom}
+use Rattle.register_form.specs.Dictionary.{nameOf, termCode, numberFrom}
 use Rattle.register_form.specs.Form.{termAt, textAt}
 use Rattle.register_view.specs.Ranges.{nameOrder}
 use Rattle.register_view.specs.View.{textNumber, standsAt, marked, leadsInto, formBytes, numbersIn}
@@ -59,7 +59,7 @@ module _ (h : Bytes) (f : ℕ) (k : Kind) (c : Comparator) (w : Constant) (q : B
       go (Constant.String p) = refl
 
   module _ (e : k ≡ Kind.Number) where
-    pub stands-number : (a b : ℕ) (o : Order) (r : Bool) → w ≡ Constant.Number b → a ≡ codeOf (termAt h f) → o ≡ numbers a b → r ≡ stands c o → Stands r
+    pub stands-number : (a b : ℕ) (o : Order) (r : Bool) → w ≡ Constant.Number b → a ≡ termCode (termAt h f) → o ≡ numbers a b → r ≡ stands c o → Stands r
     unfolding Cv
     stands-number a b o r v is g u = rw (e, v) (u ∙ ap (stands c) (g ∙ order-codes a b ∙ ap (λ (n : ℕ). orderNumbers (numberFrom n) (subℕ b base)) is))
 
@@ -76,7 +76,7 @@ module _ (h : Bytes) (f : ℕ) (k : Kind) (c : Comparator) (w : Constant) (q : B
     unfolding Cv
     boolean-number b v = rw (e, v)
 
-    pub stands-boolean : (a : ℕ) (b : Bool) (o : Order) (r : Bool) → w ≡ Constant.Boolean b → a ≡ codeOf (termAt h f) → o ≡ orderBooleans (eqb a 1) b → r ≡ stands c o → Stands r
+    pub stands-boolean : (a : ℕ) (b : Bool) (o : Order) (r : Bool) → w ≡ Constant.Boolean b → a ≡ termCode (termAt h f) → o ≡ orderBooleans (eqb a 1) b → r ≡ stands c o → Stands r
     unfolding Cv
     stands-boolean a b o r v is g u = rw (e, v) (u ∙ ap (stands c) (g ∙ ap (λ (n : ℕ). orderBooleans (eqb n 1) b) is))
 

@@ -109,7 +109,7 @@ module _ (h : Bytes) (index : Index) (key : Bytes) where
   unfolding Ranked
   ranked-between lo hi w k p = let z = w .are p in omega arith
 
-  -- look_up
+  -- binary_search
   module _ (m n : ℕ) (f : Ranked h index key m) (c : n ≡ length (entriesIn h index)) where
     pub located-past : n ≤ m → Located h index key Found.Nothing
     unfolding Located Ranked

@@ -18,7 +18,7 @@ use Rattle.language.specs.declared.Comparator.{Comparator}
 use Rattle.nodes.specs.Reading.{constantBy}
 use Rattle.nodes.specs.declared.Constant.{Constant}
 use Rattle.buffer.specs.Numbers.{twoAt}
-use Rattle.register_form.specs.Dictionary.{nameOf, identifierOf, codeOf, numberFrom}
+use Rattle.register_form.specs.Dictionary.{nameOf, identifierOf, termCode, numberFrom}
 use Rattle.register_form.specs.Form.{pageCount, formStart, registerIn, pageAt, termAt, textAt}
 use Rattle.register_form.specs.Opened.{pageIn}
 use Rattle.register_view.specs.Ranges.{nameOrder}
@@ -37,8 +37,8 @@ module _ (h : Bytes) where
   -- The value of a kind that term f is.
   abbrev pub valueAt : Kind → ℕ → Value
   valueAt Kind.Page f = link (identifierOf (textAt h (textNumber f)))
-  valueAt Kind.Number f = plain (number (numberFrom (codeOf (termAt h f))))
-  valueAt Kind.Boolean f = plain (boolean (eqb (codeOf (termAt h f)) 1))
+  valueAt Kind.Number f = plain (number (numberFrom (termCode (termAt h f))))
+  valueAt Kind.Boolean f = plain (boolean (eqb (termCode (termAt h f)) 1))
   valueAt Kind.String f = plain (string (nameOf (textAt h (textNumber f))))
 
 -- The value of a kind that term f is stands to a constant; a string by the rank of the constant's.

@@ -83,7 +83,7 @@ pub fn find(h: &[u8], index: Index, key: &[u8]) -> u16
 }
 
 // The number of a key in a list, which ascends.
-pub fn look_up(h: &[u8], index: Index, key: &[u8]) -> Found
+pub fn binary_search(h: &[u8], index: Index, key: &[u8]) -> Found
     ensures { λ r. ⌜ Located (now (h .entry)) index (now (key .entry)) r ⌝ }
 {
     let m = find(h, index, key);
@@ -115,14 +115,14 @@ fn category_term(h: &[u8], k: u16) -> Found
     let mut key = [0u8; 9];
     key[1] = (k % 256) as u8;
     key[2] = (k / 256) as u8;
-    look_up(h, Index::Terms, &key)
+    binary_search(h, Index::Terms, &key)
 }
 
 // The term of the category x.
 pub fn category_range(h: &[u8], x: &[u8]) -> TermRange
     ensures { λ r. ⌜ ((places : List ℕ) (R : Register) → Opened (now (h .entry)) places R → CategoryRange R (now (x .entry)) r) ⌝ }
 {
-    let text = look_up(h, Index::Names, x);
+    let text = binary_search(h, Index::Names, x);
     let Found::At(k) = text else {
         return no_terms();
     };

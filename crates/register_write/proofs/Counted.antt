@@ -19,7 +19,7 @@ use Rattle.sorting.proofs.Listings.{getD-listed}
 use Rattle.sorting.proofs.Numbers.{numbered-below, numbered-names}
 use Rattle.sorting.proofs.Orders.{bytes-total}
 use Rattle.dictionary.specs.Items.{textAt}
-use Rattle.register_form.specs.Dictionary.{PropertyRow, spaceOf, nameOf, termOf, codeOf, valueFrom, textIn, termIn, propertyIn, noProperty, categoryOf, heldOf}
+use Rattle.register_form.specs.Dictionary.{PropertyRow, spaceOf, nameOf, termOf, termCode, valueFrom, textIn, termIn, propertyIn, noProperty, categoryOf, heldOf}
 use Rattle.register_form.specs.Form.{formsOf, joined, kindFrom}
 use Rattle.register_form.specs.Tests.{isLabelled, isPlain, isCode, termUses, termBytes, countedBytes}
 use Rattle.register_form.specs.Draft.{onceBehind}
@@ -29,7 +29,7 @@ use Rattle.buffer.proofs.Parts.{flat-map, map-tabulate}
 use Rattle.register_bytes.specs.Writing.{rowOf, rowsOf, firstOf}
 use Rattle.register_form.specs.Tables.{Tables, formsAt, draftIn}
 use Rattle.register_assembly.specs.Terms.{codeFor, codeBy, termBy}
-use Rattle.register_assembly.specs.Keeping.{wants, passed, keptBy, keptOn, keptUpTo}
+use Rattle.register_assembly.specs.Keeping.{ofPass, passed, keptBy, keptOn, keptUpTo}
 use Rattle.register_assembly.specs.Counting.{textBytes, linkBytes, valueBytes, formBytes, termBytesBy}
 use Rattle.register_write.specs.Writer.{Capacity, Found, pageBy, tabled, keptAll, countedBy}
 use Rattle.register_write.proofs.Renumbered.{text-count, text-in, page-below, string-below, category-text, value-property, value-code}
@@ -115,8 +115,8 @@ module _ (t : Tables) (v : Found) (r : Renumbering t v) (c : Capacity t) where
         go : (y : Bool)
             → eqb (getD (t .groups) f 0) 0 ≡ y
             → cond y
-            (length (nameOf (textIn (tabled t v) (codeOf (termOf (getD (t .groups) f 0) (cond y (getD (v .numbers) (getD (t .codes) f 0) 0) (codeFor (kindFrom (getD (t .kinds) (getD (t .groups) f 0 - 1) 0)) (v .numbers) (getD (t .codes) f 0))))))))
-            (length (spelling (valueFrom (tabled t v .texts) (propertyIn (tabled t v) (getD (t .groups) f 0 - 1) .kind) (codeOf (termOf (getD (t .groups) f 0) (cond y (getD (v .numbers) (getD (t .codes) f 0) 0) (codeFor (kindFrom (getD (t .kinds) (getD (t .groups) f 0 - 1) 0)) (v .numbers) (getD (t .codes) f 0))))))))
+            (length (nameOf (textIn (tabled t v) (termCode (termOf (getD (t .groups) f 0) (cond y (getD (v .numbers) (getD (t .codes) f 0) 0) (codeFor (kindFrom (getD (t .kinds) (getD (t .groups) f 0 - 1) 0)) (v .numbers) (getD (t .codes) f 0))))))))
+            (length (spelling (valueFrom (tabled t v .texts) (propertyIn (tabled t v) (getD (t .groups) f 0 - 1) .kind) (termCode (termOf (getD (t .groups) f 0) (cond y (getD (v .numbers) (getD (t .codes) f 0) 0) (codeFor (kindFrom (getD (t .kinds) (getD (t .groups) f 0 - 1) 0)) (v .numbers) (getD (t .codes) f 0))))))))
             ≡ cond y (textBytes (t .s) (t .starts) (t .lens) (getD (t .codes) f 0 % 65536)) (valueBytes (t .s) (t .starts) (t .lens) (kindFrom (getD (t .kinds) (getD (t .groups) f 0 - 1) 0)) (getD (t .codes) f 0))
         go true e =
             let x = getD (t .codes) f 0 in
@@ -140,7 +140,7 @@ module _ (t : Tables) (v : Found) (r : Renumbering t v) (c : Capacity t) where
   unfolding passed
   passed-below first i u b m =
       let q = Memᴰ·of-map (λ f. getD (v .termNumbers) f 0) (passed first (t .groups) (formsAt (t .firsts) i)) m in
-      let k = number-below t v r (q .0) (form-below t v r i (q .0) b (filtered-mem (λ f. wants first (getD (t .groups) f 0)) (formsAt (t .firsts) i) (q .1))) in
+      let k = number-below t v r (q .0) (form-below t v r i (q .0) b (filtered-mem (λ f. ofPass first (getD (t .groups) f 0)) (formsAt (t .firsts) i) (q .1))) in
       omega (arith, q .2)
 
   kept-below : (i u : ℕ) → i < t .ng → List·Memᴰ u (keptOn (t .groups) (v .termNumbers) (t .firsts) i) → u < v .nt

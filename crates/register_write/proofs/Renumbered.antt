@@ -15,7 +15,7 @@ use Rattle.language.proofs.Members.{and-true, all-at}
 use Rattle.sorting.specs.Ascending.{sorted, rank}
 use Rattle.sorting.specs.Listing.{listed, Numbered}
 use Rattle.dictionary.specs.Items.{textAt}
-use Rattle.register_form.specs.Dictionary.{PropertyRow, termOf, groupOf, codeOf, textIn, termIn, propertyIn, noProperty}
+use Rattle.register_form.specs.Dictionary.{PropertyRow, termOf, groupOf, termCode, textIn, termIn, propertyIn, noProperty}
 use Rattle.register_form.specs.Form.{kindFrom}
 use Rattle.register_form.specs.Tests.{isPlain, isPlainNumber, isCode, isTerm}
 use Rattle.register_form.specs.Draft.{Draft, sortedTexts, newNumber, newCode, newTerm, sortedTerms, newForm}
@@ -81,8 +81,8 @@ module _ (t : Tables) where
     abbrev kindAt : Kind
     kindAt = kindFrom (getD (t .kinds) (getD (t .groups) f 0 - 1) 0)
 
-    pub code-in : codeOf (termIn (draftIn t) f) ≡ getD (t .codes) f 0
-    code-in = ap codeOf (term-in f b) ∙ code-back (getD (t .groups) f 0) (getD (t .codes) f 0) (small f)
+    pub code-in : termCode (termIn (draftIn t) f) ≡ getD (t .codes) f 0
+    code-in = ap termCode (term-in f b) ∙ code-back (getD (t .groups) f 0) (getD (t .codes) f 0) (small f)
 
     pub group-in : groupOf (termIn (draftIn t) f) ≡ getD (t .groups) f 0
     group-in = ap groupOf (term-in f b)

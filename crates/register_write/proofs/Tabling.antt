@@ -25,7 +25,7 @@ use Rattle.buffer.proofs.Parts.{map-tabulate}
 use Rattle.register_bytes.specs.Writing.{rowOf, rowsOf}
 use Rattle.register_form.specs.Tables.{Tables, range, formsAt, draftIn}
 use Rattle.register_assembly.specs.Terms.{termBy}
-use Rattle.register_assembly.specs.Keeping.{wants, passed, keptBy, keptOn, Within}
+use Rattle.register_assembly.specs.Keeping.{ofPass, passed, keptBy, keptOn, Within}
 use Rattle.register_assembly.proofs.Keepings.{once-append}
 use Rattle.register_write.specs.Writer.{Found, pageBy, tabled}
 use Rattle.register_write.proofs.Renumbered.{text-count, term-count, plain-below, group-in, texts-are, number-is, terms-are, form-is}
@@ -92,14 +92,14 @@ module _ (t : Tables) (v : Found) (r : Renumbering t v) where
 
   -- The forms that a page keeps.
   module _ (i : ℕ) (b : i < t .ng) where
-    category-same : (f : ℕ) → List·Memᴰ f (formsAt (t .firsts) i) → isCategory (termIn (draftIn t) f) ≡ wants true (getD (t .groups) f 0)
+    category-same : (f : ℕ) → List·Memᴰ f (formsAt (t .firsts) i) → isCategory (termIn (draftIn t) f) ≡ ofPass true (getD (t .groups) f 0)
     category-same f m = ap (λ (g : ℕ). eqb g 0) (group-in t (r .draft) (r .small) f (form-below i f b m))
 
     number-same : (first : Bool) (f : ℕ) → List·Memᴰ f (passed first (t .groups) (formsAt (t .firsts) i)) → newForm (draftIn t) f ≡ getD (v .termNumbers) f 0
     unfolding passed
     number-same first f m =
         form-is t (v .refs) (v .nx) (v .numbers) (r .texts) (r .draft) (r .small) (textAt (v .table) (v .termStarts) (v .termLens)) (r .same) (v .termRefs) (v .nt) (v .termNumbers) (r .terms) f
-        (form-below i f b (filtered-mem (λ q. wants first (getD (t .groups) q 0)) (formsAt (t .firsts) i) m))
+        (form-below i f b (filtered-mem (λ q. ofPass first (getD (t .groups) q 0)) (formsAt (t .firsts) i) m))
 
     pub forms-kept : newForms (draftIn t) (formsAt (t .firsts) i) ≡ keptOn (t .groups) (v .termNumbers) (t .firsts) i
     unfolding newForms keptOn keptBy passed
@@ -107,8 +107,8 @@ module _ (t : Tables) (v : Found) (r : Renumbering t v) where
         let l = formsAt (t .firsts) i in
         let one = passed true (t .groups) l in
         let two = passed false (t .groups) l in
-        let cats : filtered (λ f. isCategory (termIn (draftIn t) f)) l ≡ one = filtered-same (λ f. isCategory (termIn (draftIn t) f)) (λ f. wants true (getD (t .groups) f 0)) l category-same in
-        let vals : filtered (λ f. not (isCategory (termIn (draftIn t) f))) l ≡ two = filtered-same (λ f. not (isCategory (termIn (draftIn t) f))) (λ f. wants false (getD (t .groups) f 0)) l (λ f m. ap not (category-same f m)) in
+        let cats : filtered (λ f. isCategory (termIn (draftIn t) f)) l ≡ one = filtered-same (λ f. isCategory (termIn (draftIn t) f)) (λ f. ofPass true (getD (t .groups) f 0)) l category-same in
+        let vals : filtered (λ f. not (isCategory (termIn (draftIn t) f))) l ≡ two = filtered-same (λ f. not (isCategory (termIn (draftIn t) f))) (λ f. ofPass false (getD (t .groups) f 0)) l (λ f m. ap not (category-same f m)) in
         ap₂ (λ (x y : List ℕ). onceBehind eqb [] (map (newForm (draftIn t)) (x ++ y))) cats vals
         ∙ ap (onceBehind eqb [])
         (map-append (newForm (draftIn t)) one two

@@ -24,7 +24,7 @@ use Rattle.entries.specs.Items.{entryIn}
 use Rattle.entries.specs.Table.{entryAt}
 use Rattle.entries.specs.declared.Tag.{Tag}
 use Rattle.entries.specs.declared.Item.{Item}
-use Rattle.rows.specs.Names.{Closed, declared, isPlain, Joins, Tells, Pieces, Names}
+use Rattle.rows.specs.Names.{Closed, declared, isPlain, Joins, TellsName, Pieces, Names}
 use Rattle.rows.specs.declared.Piece.{Piece}
 
 -- The bytes that a scan passes pass its test.
@@ -114,7 +114,7 @@ module _ (s : Bytes) (t rows : List ℕ) (m : ℕ) (o l starts lens : List ℕ) 
         let two = or-false (ltb 65535 (length s)) (ltb (length o) m) (all .0) in
         (ltb-false 65535 (length s) (two .0), omega (arith, ltb-false (length o) m (two .1), old .sizes .0), omega (arith, ltb-false (length l) m (all .1), old .sizes .1))
 
-    told : Tells s (entryAt s t (getD rows k 0)) a
+    told : TellsName s (entryAt s t (getD rows k 0)) a
     told = rw (f s ∙ ap (entryAt s t) e, h) at g
 
     start-is : getD u k 0 ≡ a .start

@@ -44,13 +44,13 @@ Joins s a b (Piece.At p) = Joined s a b p
 Joins s a b Piece.Nothing = Unit {0}
 
 -- The part p says what an entry declares.
-pub record Tells (s : Bytes) (e : Entry) (p : Span) : Type 0 where
+pub record TellsName (s : Bytes) (e : Entry) (p : Span) : Type 0 where
   pub plain : isPlain e ≡ true
   pub is : partOf s p ≡ declared e
   pub within : Within s p
 
 abbrev pub Pieces : Bytes → Entry → Piece → Type 0
-Pieces s e (Piece.At p) = Tells s e p
+Pieces s e (Piece.At p) = TellsName s e p
 Pieces s e Piece.Nothing = Unit {0}
 
 -- The tables have for each of the first m of a list of rows the part that says what it declares.

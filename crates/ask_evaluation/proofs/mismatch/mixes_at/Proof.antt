@@ -3,8 +3,8 @@ use borrow.Author.Needs.{needs}
 use Rattle.ask_evaluation.proofs.mismatch.mixes_at.Statement.{statement}
 use Rattle.ask_evaluation.proofs.mismatch.mixes_at.Tie as tie
 
-wants-at-requires : tie.Need-wants-at-requires
-wants-at-requires c κs = search needs
+expects-kind-at-requires : tie.Need-expects-kind-at-requires
+expects-kind-at-requires c κs = search needs
 
 returns : tie.Need-returns
 returns c = search (mixing, needs)
@@ -21,11 +21,11 @@ enum-told c = search needs
 returns-2 : tie.Need-returns-2
 returns-2 c = search (mixing, needs)
 
-wanted-by-requires : tie.Need-wanted-by-requires
-wanted-by-requires c κs = search needs
+expected-by-requires : tie.Need-expected-by-requires
+expected-by-requires c κs = search needs
 
-enum-known-wanted : tie.Need-enum-known-wanted
-enum-known-wanted c = search needs
+enum-known-expected : tie.Need-enum-known-expected
+enum-known-expected c = search needs
 
 enum-told-2 : tie.Need-enum-told-2
 enum-told-2 c = search needs
@@ -49,14 +49,14 @@ pub mixes-at-spec : {M : Type 1} → statement M
 mixes-at-spec =
     tie.close
     (tie.spec
-    wants-at-requires
+    expects-kind-at-requires
     returns
     node-at-requires
     enum-known-read
     enum-told
     returns-2
-    wanted-by-requires
-    enum-known-wanted
+    expected-by-requires
+    enum-known-expected
     enum-told-2
     returns-3
     query-heap-requires

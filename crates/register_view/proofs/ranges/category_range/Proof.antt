@@ -8,8 +8,8 @@ use borrow.Author.Needs.{needs}
 use Rattle.register_view.proofs.ranges.category_range.Statement.{statement}
 use Rattle.register_view.proofs.ranges.category_range.Tie as tie
 
-look-up-requires : tie.Need-look-up-requires
-look-up-requires c κs = search needs
+binary-search-requires : tie.Need-binary-search-requires
+binary-search-requires c κs = search needs
 
 enum-known-text : tie.Need-enum-known-text
 enum-known-text c = search needs
@@ -21,7 +21,7 @@ no-terms-requires : tie.Need-no-terms-requires
 no-terms-requires c κs = search needs
 
 returns : tie.Need-returns
-returns c = range-no-text _ _ _ (c .before .before .before .look-up .ensures) _ (c .before .enum-told .given .1) (c .no-terms .ensures)
+returns c = range-no-text _ _ _ (c .before .before .before .binary-search .ensures) _ (c .before .enum-told .given .1) (c .no-terms .ensures)
 
 category-term-requires : tie.Need-category-term-requires
 category-term-requires c κs = search needs
@@ -36,7 +36,7 @@ no-terms-requires-2 : tie.Need-no-terms-requires-2
 no-terms-requires-2 c κs = search needs
 
 returns-2 : tie.Need-returns-2
-returns-2 c = range-no-term _ _ _ (c .before .before .before .before .before .before .before .look-up .ensures) _ (c .before .before .before .before .before .text .given .1) _ (c .before .before .before .category-term .ensures) _ (c .before .enum-told2 .given .1) (c .no-terms2 .ensures)
+returns-2 c = range-no-term _ _ _ (c .before .before .before .before .before .before .before .binary-search .ensures) _ (c .before .before .before .before .before .text .given .1) _ (c .before .before .before .category-term .ensures) _ (c .before .enum-told2 .given .1) (c .no-terms2 .ensures)
 
 add-t8 : tie.Need-add-t8
 add-t8 c =
@@ -44,13 +44,13 @@ add-t8 c =
     omega (arith, place-small _ _ _ _ bytes (c .before .before .before .category-term .ensures) (c .before .term .given .1))
 
 returns-3 : tie.Need-returns-3
-returns-3 c = range-category _ _ _ (c .before .before .before .before .before .before .before .look-up .ensures) _ (c .before .before .before .before .before .text .given .1) _ (c .before .before .before .category-term .ensures) _ _ (c .before .term .given .1) refl refl
+returns-3 c = range-category _ _ _ (c .before .before .before .before .before .before .before .binary-search .ensures) _ (c .before .before .before .before .before .text .given .1) _ (c .before .before .before .category-term .ensures) _ _ (c .before .term .given .1) refl refl
 
 pub category-range-spec : {M : Type 1} → statement M
 category-range-spec =
     tie.close
     (tie.spec
-    look-up-requires
+    binary-search-requires
     enum-known-text
     enum-told
     no-terms-requires

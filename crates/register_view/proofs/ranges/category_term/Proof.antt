@@ -16,14 +16,14 @@ cast-key-2 c = search needs
 array-write-key-2 : tie.Need-array-write-key-2
 array-write-key-2 c = search needs
 
-slice-aggregate-look-up : tie.Need-slice-aggregate-look-up
-slice-aggregate-look-up c = search needs
+slice-aggregate-binary-search : tie.Need-slice-aggregate-binary-search
+slice-aggregate-binary-search c = search needs
 
-look-up-requires : tie.Need-look-up-requires
-look-up-requires c κs = search needs
+binary-search-requires : tie.Need-binary-search-requires
+binary-search-requires c κs = search needs
 
 returns : tie.Need-returns
-returns c = category-located _ (c .before .before .before .args .k) _ (omega arith) (c .look-up .ensures)
+returns c = category-located _ (c .before .before .before .args .k) _ (omega arith) (c .binary-search .ensures)
 
 pub category-term-spec : {M : Type 1} → statement M
 category-term-spec =
@@ -33,6 +33,6 @@ category-term-spec =
     array-write-key
     cast-key-2
     array-write-key-2
-    slice-aggregate-look-up
-    look-up-requires
+    slice-aggregate-binary-search
+    binary-search-requires
     returns)

@@ -1,7 +1,7 @@
-use Rattle.ask_evaluation.proofs.Mixing.{wanting}
+use Rattle.ask_evaluation.proofs.Mixing.{expecting}
 use borrow.Author.Needs.{needs}
-use Rattle.ask_evaluation.proofs.mismatch.wanted_by.Statement.{statement}
-use Rattle.ask_evaluation.proofs.mismatch.wanted_by.Tie as tie
+use Rattle.ask_evaluation.proofs.mismatch.expected_by.Statement.{statement}
+use Rattle.ask_evaluation.proofs.mismatch.expected_by.Tie as tie
 
 enum-told : tie.Need-enum-told
 enum-told c = search needs
@@ -55,22 +55,22 @@ returns-5 : tie.Need-returns-5
 returns-5 c = search needs
 
 returns-6 : tie.Need-returns-6
-returns-6 c = search (wanting, needs)
+returns-6 c = search (expecting, needs)
 
 returns-7 : tie.Need-returns-7
 returns-7 c = search needs
 
 returns-8 : tie.Need-returns-8
-returns-8 c = search (wanting, needs)
+returns-8 c = search (expecting, needs)
 
 returns-9 : tie.Need-returns-9
-returns-9 c = search (wanting, needs)
+returns-9 c = search (expecting, needs)
 
 returns-10 : tie.Need-returns-10
-returns-10 c = search (wanting, needs)
+returns-10 c = search (expecting, needs)
 
-pub wanted-by-spec : {M : Type 1} → statement M
-wanted-by-spec =
+pub expected-by-spec : {M : Type 1} → statement M
+expected-by-spec =
     tie.close
     (tie.spec
     enum-told

@@ -1,7 +1,7 @@
 use Rattle.register_view.proofs.Searching.{searching}
 use borrow.Author.Needs.{needs}
-use Rattle.register_view.proofs.ranges.look_up.Statement.{statement}
-use Rattle.register_view.proofs.ranges.look_up.Tie as tie
+use Rattle.register_view.proofs.ranges.binary_search.Statement.{statement}
+use Rattle.register_view.proofs.ranges.binary_search.Tie as tie
 
 find-requires : tie.Need-find-requires
 find-requires c κs = search needs
@@ -24,8 +24,8 @@ returns-2 c = search (searching, needs)
 returns-3 : tie.Need-returns-3
 returns-3 c = search (searching, needs)
 
-pub look-up-spec : {M : Type 1} → statement M
-look-up-spec =
+pub binary-search-spec : {M : Type 1} → statement M
+binary-search-spec =
     tie.close
     (tie.spec
     find-requires
