@@ -20,18 +20,18 @@ use Rattle.language.specs.Core.{Core}
 use Rattle.language.specs.Core as Core
 use Rattle.language.specs.Register.{Page, Register, holds}
 use Rattle.language.specs.Semantics.{S, Q, follows, noMixed}
-use Rattle.nodes.specs.Held.{heapIn, nodeIn}
-use Rattle.nodes.specs.Postfix.{Node, stepped}
-use Rattle.nodes.specs.Reading.{constantBy, joinedBy, nodeBy, readBy, ReadsNode}
-use Rattle.nodes.specs.Stack.{stackAt}
-use Rattle.nodes.specs.declared.Selector.{Selector}
-use Rattle.nodes.specs.declared.Connective.{Connective}
-use Rattle.nodes.specs.declared.Node.{Node as DeclaredNode}
-use Rattle.nodes.specs.declared.NodeRead.{NodeRead}
-use Rattle.nodes.proofs.Stacks.{stack-zero, stack-suc, stack-step}
+use Rattle.query_core.specs.Held.{heapIn, nodeIn}
+use Rattle.query_core.specs.Postfix.{Node, stepped}
+use Rattle.query_core.specs.Reading.{constantBy, joinedBy, nodeBy, readBy, ReadsNode}
+use Rattle.query_core.specs.Stack.{stackAt}
+use Rattle.query_core.specs.declared.Selector.{Selector}
+use Rattle.query_core.specs.declared.Connective.{Connective}
+use Rattle.query_core.specs.declared.Node.{Node as DeclaredNode}
+use Rattle.query_core.specs.declared.NodeRead.{NodeRead}
+use Rattle.query_core.proofs.Stacks.{stack-zero, stack-suc, stack-step}
 use Rattle.register_form.specs.Opened.{pageIn}
-use Rattle.register_view.specs.View.{Agrees}
-use Rattle.register_view.proofs.Opening.{known}
+use Rattle.register_form_view.specs.View.{Agrees}
+use Rattle.register_form_view.proofs.Opening.{known}
 use Rattle.ask_evaluation.specs.Meaning.{nameSpan, isSubquery, isSelection, matches, Selects, Links, pagesOf, Joined, marksOf, Means, Evaluates, stackWith}
 use Rattle.ask_evaluation.specs.declared.Evaluated.{Evaluated}
 

@@ -18,16 +18,16 @@ use Rattle.language.specs.Core as Selectors
 use Rattle.language.specs.Register.{Register}
 use Rattle.language.specs.Semantics.{someOther, mismatch, mismatchIn}
 use Rattle.language.specs.declared.Comparator.{Comparator}
-use Rattle.nodes.specs.Held.{countIn, heapIn, nodeIn}
-use Rattle.nodes.specs.Postfix.{Node, stepped}
-use Rattle.nodes.specs.Reading.{joinedBy, ReadsNode, expectsKind, TestsNode}
-use Rattle.nodes.specs.Stack.{stackAt}
-use Rattle.nodes.specs.declared.Constant.{Constant}
-use Rattle.nodes.specs.declared.Selector.{Selector}
-use Rattle.nodes.specs.declared.Connective.{Connective}
-use Rattle.nodes.specs.declared.Node.{Node as DeclaredNode}
-use Rattle.nodes.specs.declared.NodeRead.{NodeRead}
-use Rattle.nodes.proofs.Stacks.{stack-zero, stack-suc}
+use Rattle.query_core.specs.Held.{countIn, heapIn, nodeIn}
+use Rattle.query_core.specs.Postfix.{Node, stepped}
+use Rattle.query_core.specs.Reading.{joinedBy, ReadsNode, expectsKind, TestsNode}
+use Rattle.query_core.specs.Stack.{stackAt}
+use Rattle.query_core.specs.declared.Constant.{Constant}
+use Rattle.query_core.specs.declared.Selector.{Selector}
+use Rattle.query_core.specs.declared.Connective.{Connective}
+use Rattle.query_core.specs.declared.Node.{Node as DeclaredNode}
+use Rattle.query_core.specs.declared.NodeRead.{NodeRead}
+use Rattle.query_core.proofs.Stacks.{stack-zero, stack-suc}
 use Rattle.register_form.specs.Opened.{Opened}
 use Rattle.ask_evaluation.specs.Mixing.{anyTo, expectedIn, mixes, mixesIn, Mixes, SomeMixes, Mismatches}
 use Rattle.ask_evaluation.specs.declared.Expected.{Expected}

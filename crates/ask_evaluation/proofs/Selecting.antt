@@ -13,12 +13,12 @@ use Rattle.pageset.proofs.Laws.{tabulate-none}
 use Rattle.language.specs.Register.{Page, Register, holds}
 use Rattle.language.specs.Semantics.{Cv, noMixed}
 use Rattle.language.specs.declared.Comparator.{Comparator}
-use Rattle.nodes.specs.Reading.{constantBy}
-use Rattle.nodes.specs.declared.Selector.{Selector}
-use Rattle.nodes.specs.declared.Constant.{Constant}
+use Rattle.query_core.specs.Reading.{constantBy}
+use Rattle.query_core.specs.declared.Selector.{Selector}
+use Rattle.query_core.specs.declared.Constant.{Constant}
 use Rattle.register_form.specs.Opened.{Opened}
-use Rattle.register_view.specs.View.{namePasses, marksIn}
-use Rattle.register_view.specs.declared.NameTest.{NameTest}
+use Rattle.register_form_view.specs.View.{namePasses, marksIn}
+use Rattle.register_form_view.specs.declared.NameTest.{NameTest}
 use Rattle.ask_evaluation.specs.Meaning.{nameSpan, Selects}
 
 module _ (h q : Bytes) (selector : Selector) (marks : List Bool) (x : Bytes) (s : Span) (name : s ≡ nameSpan selector) (lies : x ≡ partOf q s) where

@@ -14,14 +14,14 @@ use Rattle.language.specs.Answer.{_>>=_}
 use Rattle.language.specs.Core.{Core}
 use Rattle.language.specs.Register.{Page, Register, holds}
 use Rattle.language.specs.Semantics.{Ca, Cv, follows, noMixed, selects}
-use Rattle.nodes.specs.Stack.{stackAt}
-use Rattle.nodes.specs.Held.{heapIn}
-use Rattle.nodes.specs.Postfix.{stepped}
-use Rattle.nodes.specs.Reading.{constantBy, selectorBy}
-use Rattle.nodes.specs.declared.Selector.{Selector}
-use Rattle.nodes.specs.declared.Connective.{Connective}
+use Rattle.query_core.specs.Stack.{stackAt}
+use Rattle.query_core.specs.Held.{heapIn}
+use Rattle.query_core.specs.Postfix.{stepped}
+use Rattle.query_core.specs.Reading.{constantBy, selectorBy}
+use Rattle.query_core.specs.declared.Selector.{Selector}
+use Rattle.query_core.specs.declared.Connective.{Connective}
 use Rattle.register_form.specs.Opened.{pageIn, Opened}
-use Rattle.register_view.specs.View.{marksIn, Agrees}
+use Rattle.register_form_view.specs.View.{marksIn, Agrees}
 use Rattle.ask_evaluation.specs.declared.Evaluated.{Evaluated}
 
 -- A number of pages, as far as a page set has places.

@@ -10,12 +10,12 @@ use Rattle.language.specs.Answer.{found}
 use Rattle.language.specs.Core.{Core}
 use Rattle.language.specs.Register.{Register}
 use Rattle.language.specs.Semantics.{someOther, mismatch}
-use Rattle.nodes.specs.Held.{nodeIn}
-use Rattle.nodes.specs.Postfix.{Node}
-use Rattle.nodes.specs.Stack.{HoldsCore}
-use Rattle.nodes.specs.declared.Constant.{Constant}
-use Rattle.nodes.specs.declared.Selector.{Selector}
-use Rattle.nodes.specs.declared.Connective.{Connective}
+use Rattle.query_core.specs.Held.{nodeIn}
+use Rattle.query_core.specs.Postfix.{Node}
+use Rattle.query_core.specs.Stack.{HoldsCore}
+use Rattle.query_core.specs.declared.Constant.{Constant}
+use Rattle.query_core.specs.declared.Selector.{Selector}
+use Rattle.query_core.specs.declared.Connective.{Connective}
 use Rattle.register_form.specs.Opened.{Opened}
 use Rattle.ask_evaluation.specs.declared.Expected.{Expected}
 

@@ -2,24 +2,24 @@
 ghost use mathlib.Core.Path.{_≡_};
 ghost use Prim.Native.Nat.{suc};
 ghost use Rattle.text.specs.Parts.{partOf};
-ghost use Rattle.nodes.specs.Held.{heapIn};
-ghost use Rattle.nodes.specs.Stack.{stackAt};
+ghost use Rattle.query_core.specs.Held.{heapIn};
+ghost use Rattle.query_core.specs.Stack.{stackAt};
 ghost use Rattle.ask_evaluation.specs.Meaning.{Capped, nameSpan, isSubquery, isSelection, Selects, Joined, Evaluates, stackWith};
 
 pub mod mismatch; // mismatch.rt: number 23's test
 
 pub use mismatch::has_mismatch;
-use nodes::Connective;
-use nodes::NodeRead;
-use nodes::Selector;
-use nodes::node_at;
 use pageset::PageSet;
-use register_view::NameTest;
-use register_view::pages_in_category;
-use register_view::pages_named;
-use register_view::pages_with_link;
-use register_view::pages_with_property;
-use register_view::pages_with_value;
+use query_core::Connective;
+use query_core::NodeRead;
+use query_core::Selector;
+use query_core::node_at;
+use register_form_view::NameTest;
+use register_form_view::pages_in_category;
+use register_form_view::pages_named;
+use register_form_view::pages_with_link;
+use register_form_view::pages_with_property;
+use register_form_view::pages_with_value;
 use text::Span;
 use text::part;
 use values::Kind;

@@ -1,9 +1,9 @@
 // Lists the pages that the query in query.txt selects from the register in register.txt.
-use files::Read;
-use files::read_file;
 use libc::STDOUT_FILENO;
-use listing::ANSWER_BYTES;
-use listing::answer;
+use program_files::Read;
+use program_files::read_file;
+use program_listing::ANSWER_BYTES;
+use program_listing::answer;
 use text::part;
 
 // Writes the answer in one piece: no answer is longer than the buffer (`asklist-most` in listing).

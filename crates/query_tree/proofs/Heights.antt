@@ -12,7 +12,7 @@ use Rattle.text.specs.Bytes.{Bytes}
 use Rattle.language.specs.Answer.{_>>=_, onlyIf}
 use Rattle.language.specs.Surface.{Chain, single, chain, Categories, Identifiers, Alternatives, Query}
 use Rattle.language.proofs.Members.{and-true}
-use Rattle.query_spelling.specs.Spelled.{isOneIdentifier, isOneAlternative, isDisjunction, isJoined, spelledCategories, spelledIdentifiers, spelledChain, spelledIn, isSpelled, under, deepIn, deep}
+use Rattle.query_tree_spelling.specs.Spelled.{isOneIdentifier, isOneAlternative, isDisjunction, isJoined, spelledCategories, spelledIdentifiers, spelledChain, spelledIn, isSpelled, under, deepIn, deep}
 use Rattle.query_tree.specs.Nodes.{Node, joinBy, treeCategories, treeIdentifiers, treeChain, treeIn, tree}
 use Rattle.query_tree.specs.Pass.{within}
 use Rattle.query_tree.specs.Building.{Part, sized, barCategories, barIdentifiers, barAlternatives, barParts, joinParts, subqueryPart, propertyPart, linkPart, step}

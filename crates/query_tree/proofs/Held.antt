@@ -19,7 +19,7 @@ use Rattle.buffer.proofs.Regions.{length-padded}
 use Rattle.language.specs.Answer.{_>>=_, found, onlyIf}
 use Rattle.language.specs.Surface.{Query}
 use Rattle.language.proofs.Members.{and-true, both-true}
-use Rattle.query_spelling.specs.Spelled.{isSpelled, hasText}
+use Rattle.query_tree_spelling.specs.Spelled.{isSpelled, hasText}
 use Rattle.query_tree.specs.Nodes.{Node, tree, strings}
 use Rattle.query_tree.specs.Pass.{isTree}
 use Rattle.query_tree.specs.Building.{built}

@@ -14,7 +14,7 @@ use Rattle.values.specs.Values.{mapOption}
 use Rattle.language.specs.Answer.{_>>=_, onlyIf}
 use Rattle.language.specs.Surface.{Chain, single, chain, Categories, Identifiers, Alternatives, Query}
 use Rattle.language.specs.QueryText.{namesIn, breaksNames}
-use Rattle.query_spelling.specs.Spelled.{isOneCategory, isOneIdentifier, isOneAlternative, isDisjunction, isJoined, spelledCategories, spelledIdentifiers, readsAsCategory, spelledChain, spelledIn, isSpelled, costCategories, costIdentifiers, costChain, wrapped, under, costIn, cost, deepIn, deep, hasText}
+use Rattle.query_tree_spelling.specs.Spelled.{isOneCategory, isOneIdentifier, isOneAlternative, isDisjunction, isJoined, spelledCategories, spelledIdentifiers, readsAsCategory, spelledChain, spelledIn, isSpelled, costCategories, costIdentifiers, costChain, wrapped, under, costIn, cost, deepIn, deep, hasText}
 use Rattle.query_tree.specs.Nodes.{Node, joinBy, treeCategories, treeIdentifiers, treeChain, treeIn, tree}
 use Rattle.query_tree.specs.Pass.{isQuery, isOr, isTwo, fullBytes, isGood, upToBytes, upToLevels, itemOf, leafItem, subqueryItem, propertyItem, linkItem, barItem, orItem, andItem, onOne, onTwo, itemStep, isWhole}
 use Rattle.query_tree.specs.declared.Shape.{Shape}

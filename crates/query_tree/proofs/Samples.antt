@@ -11,8 +11,8 @@ use Rattle.language.specs.Surface.{Query}
 use Rattle.language.specs.RawQuery.{token, comparator, pieceAt, headLength, splitDots, trimNames, piecesWithin, readPieces, plainBody, closedInner, closedGroup, closedBody, nextTerm, queryWithin, readQuery, readWhole}
 use Rattle.language.specs.QueryText.{namesIn, depth, longest, breaksNames, breaks, breaksValue, categoriesFrom, identifiersFrom, surface, readText}
 use Rattle.language.specs.declared.SurfaceComparator.{SurfaceComparator}
-use Rattle.query_spelling.specs.Spelled.{spelledCategories, spelledIdentifiers, readsAsCategory, spelledValue, spelledChain, isSpelled, costCategories, costReference, costIdentifiers, costChain, cost, deep, hasText}
-use Rattle.query_spelling.specs.Spelling.{plain, compared, referenceText, rawCategories, rawIdentifiers, raw, unreadPiece, unreadPieces, unreadChain, unread, spell}
+use Rattle.query_tree_spelling.specs.Spelled.{spelledCategories, spelledIdentifiers, readsAsCategory, spelledValue, spelledChain, isSpelled, costCategories, costReference, costIdentifiers, costChain, cost, deep, hasText}
+use Rattle.query_tree_spelling.specs.Spelling.{plain, compared, referenceText, rawCategories, rawIdentifiers, raw, unreadPiece, unreadPieces, unreadChain, unread, spell}
 use Rattle.query_tree.specs.Nodes.{Node, treeCategories, treeIdentifiers, treeChain, tree}
 use Rattle.query_tree.specs.Pass.{leafItem, subqueryItem, propertyItem, linkItem, barItem, orItem, andItem, itemRun, isTree}
 

@@ -15,10 +15,10 @@ use Rattle.language.specs.Answer.{Answer, accepted, _>>=_, found, onlyIf}
 use Rattle.language.specs.Surface.{Query}
 use Rattle.language.specs.QueryText.{readText}
 use Rattle.language.proofs.Members.{and-true}
-use Rattle.query_spelling.specs.Spelled.{isSpelled, cost, deep, hasText}
-use Rattle.query_spelling.specs.Spelling.{spell}
-use Rattle.query_spelling.proofs.Spells.{round-trip}
-use Rattle.query_spelling.proofs.Some.{accepted-has-text}
+use Rattle.query_tree_spelling.specs.Spelled.{isSpelled, cost, deep, hasText}
+use Rattle.query_tree_spelling.specs.Spelling.{spell}
+use Rattle.query_tree_spelling.proofs.Spells.{round-trip}
+use Rattle.query_tree_spelling.proofs.Some.{accepted-has-text}
 use Rattle.query_tree.specs.Nodes.{Node, tree}
 use Rattle.query_tree.specs.Pass.{itemStep, within, itemRun, isWhole, isTree}
 use Rattle.query_tree.specs.declared.Item.{Item}

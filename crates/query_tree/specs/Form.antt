@@ -12,7 +12,7 @@ use Rattle.values.specs.Names.{Reference, bare, qualified}
 use Rattle.language.specs.Answer.{_>>=_, onlyIf}
 use Rattle.language.specs.Surface.{Query}
 use Rattle.language.specs.declared.SurfaceComparator.{SurfaceComparator}
-use Rattle.query_spelling.specs.Spelled.{hasText}
+use Rattle.query_tree_spelling.specs.Spelled.{hasText}
 use Rattle.query_tree.specs.Nodes.{Node, tree, stringOf, strings}
 use Rattle.query_tree.specs.Building.{built}
 use Rattle.query_tree.specs.declared.Row.{Row}

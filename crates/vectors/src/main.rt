@@ -8,14 +8,14 @@ ghost use Prim.Native.Nat.{ℕ, _≤_};
 
 mod steps; // steps.rt: the script, taken apart
 
-use ask::Asked;
-use ask::ask;
-use files::Read;
-use files::read_file;
+use call_ask::Asked;
+use call_ask::ask;
+use call_query::query;
+use call_register::register;
 use libc::STDOUT_FILENO;
-use nodes::QUERY_BYTES;
-use query::query;
-use register::register;
+use program_files::Read;
+use program_files::read_file;
+use query_core::QUERY_BYTES;
 use register_form::REGISTER_BYTES;
 use register_form::page_count;
 use steps::step_at;

@@ -21,12 +21,12 @@ use Rattle.language.specs.Semantics.{selects, run}
 use Rattle.language.proofs.Rules.{register-rules}
 use Rattle.register_form.proofs.Forms.{held-is}
 use Rattle.register_form.proofs.Rules.{within}
-use Rattle.ask.specs.Call.{asked, Asks}
-use Rattle.ask.specs.declared.Asked.{Asked}
-use Rattle.calls.specs.Calls.{registerCall, joinCall, queryCall, readCall, fitCall, askCall, marked, marksIn, returned, RegisterCall, JoinCall, QueryCall, ReadCall, FitCall, AskCall}
-use Rattle.calls.specs.Demands.{lowest, rises, registerTable, queryTable, readTable, askTable}
-use Rattle.calls.proofs.Tables.{refusalOf, register-refuses, register-rises, query-refuses, query-rises, read-refuses, read-rises, ask-refuses, ask-rises, lowest-between, join-few, fit-few}
-use Rattle.calls.proofs.First.{run-is, Ran, ran}
+use Rattle.call_ask.specs.Call.{asked, Asks}
+use Rattle.call_ask.specs.declared.Asked.{Asked}
+use Rattle.call_answers.specs.Calls.{registerCall, joinCall, queryCall, readCall, fitCall, askCall, marked, marksIn, returned, RegisterCall, JoinCall, QueryCall, ReadCall, FitCall, AskCall}
+use Rattle.call_answers.specs.Demands.{lowest, rises, registerTable, queryTable, readTable, askTable}
+use Rattle.call_answers.proofs.Tables.{refusalOf, register-refuses, register-rises, query-refuses, query-rises, read-refuses, read-rises, ask-refuses, ask-rises, lowest-between, join-few, fit-few}
+use Rattle.call_answers.proofs.First.{run-is, Ran, ran}
 
 -- a small number as 32 bits with a sign
 module _ (n : ℕ) (h : n ≤ 256) where

@@ -2,9 +2,9 @@
 ghost use mathlib.Core.Path.{_≡_};
 ghost use Prim.Native.Nat.{ℕ, _≤_};
 ghost use lib.IntN.{pos, negℤ};
-ghost use Rattle.calls.specs.Calls.{RegisterCall, JoinCall, QueryCall, ReadCall, FitCall, AskCall};
-use ask::Asked;
-use ask::ask;
+ghost use Rattle.call_answers.specs.Calls.{RegisterCall, JoinCall, QueryCall, ReadCall, FitCall, AskCall};
+use call_ask::Asked;
+use call_ask::ask;
 
 // How many pages are marked, at most 256.
 fn count_of(n: usize) -> i32
@@ -26,7 +26,7 @@ fn negative(n: usize) -> i32
 pub extern "C" fn vetxarno_register(text: &[u8], held: &mut [u8]) -> i32
     ensures { λ r. ⌜ RegisterCall (now (text .entry)) (now (held .entry)) (now (held .exit)) r ⌝ }
 {
-    let number = register::register(text, held);
+    let number = call_register::register(text, held);
     negative(number)
 }
 
@@ -35,7 +35,7 @@ pub extern "C" fn vetxarno_register(text: &[u8], held: &mut [u8]) -> i32
 pub extern "C" fn vetxarno_join<'a>(first: &'a [u8], second: &'a [u8], held: &mut [u8]) -> i32
     ensures { λ r. ⌜ JoinCall (now (first .entry)) (now (second .entry)) (now (held .entry)) (now (held .exit)) r ⌝ }
 {
-    let refused = join::join(first, second, held);
+    let refused = call_join::join(first, second, held);
     negative(refused)
 }
 
@@ -44,7 +44,7 @@ pub extern "C" fn vetxarno_join<'a>(first: &'a [u8], second: &'a [u8], held: &mu
 pub extern "C" fn vetxarno_query(register: &[u8], text: &[u8], held: &mut [u8]) -> i32
     ensures { λ r. ⌜ QueryCall (now (register .entry)) (now (text .entry)) (now (held .entry)) (now (held .exit)) r ⌝ }
 {
-    let refusal = query::query(register, text, held);
+    let refusal = call_query::query(register, text, held);
     negative(refusal)
 }
 
@@ -53,7 +53,7 @@ pub extern "C" fn vetxarno_query(register: &[u8], text: &[u8], held: &mut [u8]) 
 pub extern "C" fn vetxarno_read(text: &[u8], tree: &mut [u8]) -> i32
     ensures { λ r. ⌜ ReadCall (now (text .entry)) (now (tree .entry)) (now (tree .exit)) r ⌝ }
 {
-    let unread = query::read(text, tree);
+    let unread = call_query::read(text, tree);
     negative(unread)
 }
 
@@ -62,7 +62,7 @@ pub extern "C" fn vetxarno_read(text: &[u8], tree: &mut [u8]) -> i32
 pub extern "C" fn vetxarno_fit(tree: &[u8], register: &[u8], held: &mut [u8]) -> i32
     ensures { λ r. ⌜ FitCall (now (tree .entry)) (now (register .entry)) (now (held .entry)) (now (held .exit)) r ⌝ }
 {
-    let unfit = query::fit(tree, register, held);
+    let unfit = call_query::fit(tree, register, held);
     negative(unfit)
 }
 

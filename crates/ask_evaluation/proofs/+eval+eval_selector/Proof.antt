@@ -18,8 +18,8 @@ use Rattle.ask_evaluation.proofs.name_of.Reads as name-of-reads
 use Rattle.ask_evaluation.proofs.nothing.Reads as nothing-reads
 use Rattle.ask_evaluation.proofs.select.Reads as select-reads
 use Rattle.ask_evaluation.proofs.string_at.Reads as string-at-reads
-use Rattle.nodes.proofs.node_at.Reads as node-at-reads
-use Rattle.register_view.proofs.pages_with_link.Reads as pages-with-link-reads
+use Rattle.query_core.proofs.node_at.Reads as node-at-reads
+use Rattle.register_form_view.proofs.pages_with_link.Reads as pages-with-link-reads
 use Rattle.ask_evaluation.proofs.+eval+eval_selector.{statement}
 use Rattle.ask_evaluation.proofs.+eval+eval_selector.Tie.{close}
 

@@ -1,0 +1,69 @@
+// The register call: judges a register text, and writes the held register.
+ghost use Rattle.language.specs.Answer.{Answered};
+ghost use Rattle.call_answers.specs.Calls.{registerCall};
+ghost use Rattle.call_register.specs.Writing.{Writes};
+use register_form::layout;
+use register_form_write::write_draft;
+use register_text_draft::draft_text;
+use register_text_verdict::judge;
+
+// Writes the register of an accepted text: 0, or 8 where the buffer is too short.
+fn write_text(text: &[u8], t: &[u16], n: usize, props: &[u16], np: usize, held: &mut [u8]) -> usize
+    ensures { λ r. ⌜ Writes (now (text .entry)) (now (t .entry)) (now (props .entry)) n np (now (held .entry)) r (now (held .exit)) ⌝ }
+{
+    let mut heap = [0u8; layout::TEXT_BYTES];
+    let mut starts = [0u32; layout::TEXT_ROOM];
+    let mut lens = [0u16; layout::TEXT_ROOM];
+    let mut kinds = [0u8; layout::PROPERTY_ROOM];
+    let mut names = [0u16; layout::PROPERTY_ROOM];
+    let mut identifiers = [0u16; layout::PAGE_ROOM];
+    let mut firsts = [0u16; layout::PAGE_START_ROOM];
+    let mut groups = [0u8; layout::FORM_ROOM];
+    let mut codes = [0u64; layout::FORM_ROOM];
+    let c = draft_text(
+        text,
+        t,
+        n,
+        props,
+        np,
+        &mut heap,
+        &mut starts,
+        &mut lens,
+        &mut kinds,
+        &mut names,
+        &mut identifiers,
+        &mut firsts,
+        &mut groups,
+        &mut codes,
+    );
+    write_draft(
+        &heap,
+        &starts,
+        &lens,
+        c.texts,
+        &kinds,
+        &names,
+        c.properties,
+        &identifiers,
+        &firsts,
+        c.pages,
+        &groups,
+        &codes,
+        c.forms,
+        held,
+    )
+}
+
+// The register call: writes the held register of a text, or answers the number that refuses it.
+pub fn register(text: &[u8], held: &mut [u8]) -> usize
+    ensures { λ r. ⌜ Answered (registerCall (now (text .entry)) (now (held .entry))) (now (held .entry)) r (now (held .exit)) ⌝ }
+{
+    let mut t = [0u16; 27500];
+    let mut props = [0u16; 5500];
+    let mut pages = [0u16; 5500];
+    let judged = judge(text, &mut t, &mut props, &mut pages);
+    if judged.number != 0 {
+        return judged.number;
+    }
+    write_text(text, &t, judged.rows, &props, judged.props, held)
+}

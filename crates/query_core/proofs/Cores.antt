@@ -1,0 +1,144 @@
+-- What bytes hold keeps the rules for core queries.
+use Prim.Native.Nat.{ℕ, zero, suc, _*_, _-_, _<_}
+use mathlib.Core.Path.{_≡_, refl, sym, ap, subst, _∙_}
+use mathlib.Core.Bool.{Bool, true, false, cond, _&&_}
+use mathlib.Core.List.{List, [], _∷_, _++_, append-assoc, append-nil}
+use mathlib.Core.Option.{some, none}
+use native.Mathlib.Omega.{arith}
+use lib.Dec.{leb, ltb, eqb}
+use lib.IntN.{pos, negsuc, subℕ}
+use lib.ListN.{length, length-append}
+use lib.Seq.{append-snoc}
+use borrow.Author.Tests.{ltb-true, ltb-false, lt-ltb}
+use Rattle.text.specs.Bytes.{Bytes, all}
+use Rattle.text.specs.Parts.{partOf}
+use Rattle.text.proofs.Laws.{all-append}
+use Rattle.values.specs.Names.{isValue}
+use Rattle.values.specs.Values.{number, boolean, string, Constant}
+use Rattle.values.specs.Answers.{base}
+use Rattle.language.specs.Answer.{_>>=_, onlyIf}
+use Rattle.language.specs.Core.{Core, nodes}
+use Rattle.language.proofs.Members.{and-true, both-true}
+use Rattle.language.proofs.Options.{OnSome, on-bind, on-weaker}
+use Rattle.query_core.specs.declared.Slot.{Slot}
+use Rattle.query_core.specs.Postfix.{Node, post, stepped, runs, only, readBack}
+use Rattle.query_core.specs.Held.{querySize, countIn, heapIn, numberFrom, constantFrom, constantOf, nodeOf, slotIn, nodeIn, nodesTo, hasSizes, heldQuery}
+use Rattle.query_core.specs.Form.{isBounded, isConstant, isNode, isCore}
+use Rattle.query_core.proofs.Nodewise.{on-cond, on-only, on-node}
+use Rattle.query_core.proofs.Postfix.{length-post}
+
+-- Constants.
+abbrev KeptConstant : Constant → Type 0
+KeptConstant v = isConstant v ≡ true
+
+in-range : (n : ℕ) → (ltb 0 n && ltb n (2 * base)) ≡ true → isBounded (subℕ n base) ≡ true
+in-range n h = go (ltb n base) refl
+  where
+    low : 0 < n
+    low = ltb-true 0 n (and-true (ltb 0 n) (ltb n (2 * base)) h .0)
+
+    high : n < 2 * base
+    high = ltb-true n (2 * base) (and-true (ltb 0 n) (ltb n (2 * base)) h .1)
+
+    go : (b : Bool) → ltb n base ≡ b → isBounded (cond b (negsuc (base - suc n)) (pos (n - base))) ≡ true
+    go true e = let l = ltb-true n base e in lt-ltb (suc (base - suc n)) base (omega (arith, low, l))
+    go false e = let l = ltb-false n base e in lt-ltb (n - base) base (omega (arith, high, l))
+
+constant-kept : (s : Bytes) (x : Slot) → OnSome KeptConstant (constantOf s x)
+unfolding constantOf constantFrom numberFrom
+constant-kept s x =
+    on-cond KeptConstant (eqb (x .kind) 0) _ _ (λ e. numbers)
+    (on-cond KeptConstant (eqb (x .kind) 1) _ _
+    (λ e. on-cond KeptConstant (eqb (x .truth) 0) (some (boolean false)) _ (λ f. refl) (on-cond KeptConstant (eqb (x .truth) 1) (some (boolean true)) none (λ f. refl) tt))
+    (on-cond KeptConstant (eqb (x .kind) 2) _ none (λ e. on-only KeptConstant (isValue (partOf s (x .second))) (some (string (partOf s (x .second)))) (λ h. h)) tt))
+  where
+    numbers : OnSome KeptConstant (onlyIf (ltb 0 (x .number) && ltb (x .number) (2 * base)) (some (subℕ (x .number) base)) >>= λ z. some (number z))
+    numbers =
+        on-bind (λ z. isBounded z ≡ true) KeptConstant (onlyIf (ltb 0 (x .number) && ltb (x .number) (2 * base)) (some (subℕ (x .number) base))) (λ z. some (number z))
+        (on-only (λ z. isBounded z ≡ true) (ltb 0 (x .number) && ltb (x .number) (2 * base)) (some (subℕ (x .number) base)) (in-range (x .number)))
+        (λ z h. h)
+
+-- Nodes.
+abbrev KeptNode : Node → Type 0
+KeptNode m = isNode m ≡ true
+
+node-kept : (s : Bytes) (tag : ℕ) (x : Slot) → OnSome KeptNode (nodeOf s tag x)
+unfolding nodeOf isNode
+node-kept s tag x =
+    on-node KeptNode KeptConstant tag (x .comparator) (constantOf s x) (partOf s (x .first)) (partOf s (x .second)) (constant-kept s x)
+    (λ e. refl) (λ e. refl) (λ e h. h) (λ e h. h) (λ e h. h) (λ e h. h) (λ e h d. h) (λ e h d w k. both-true h k)
+
+-- The nodes that were read.
+pub record NodesRead (n : ℕ) (l : List Node) : Type 0 where
+  pub count : length l ≡ n
+  pub rules : all isNode l ≡ true
+
+nodes-kept : (h : Bytes) (n : ℕ) → OnSome (NodesRead n) (nodesTo h n)
+unfolding nodesTo all nodeIn
+nodes-kept h zero = record { count = refl; rules = refl }
+nodes-kept h (suc n) =
+    on-bind (NodesRead n) (NodesRead (suc n)) (nodesTo h n) (λ l. nodeIn h n >>= λ m. some (l ++ (m ∷ []))) (nodes-kept h n)
+    (λ l k. on-bind KeptNode (NodesRead (suc n)) (nodeIn h n) (λ m. some (l ++ (m ∷ []))) (node-kept (heapIn h) (slotIn h n .tag) (slotIn h n))
+    (λ m j. record { count = omega (arith, length-append l (m ∷ []), k .count); rules = all-append isNode l (m ∷ []) ∙ both-true (k .rules) (both-true j refl) }))
+
+-- The nodes of the queries on a stack, the last one first.
+unfoldable codes : List Core → List Node
+codes [] = []
+codes (q ∷ st) = codes st ++ post q
+
+-- A node goes behind them.
+abbrev Codes : List Node → List Core → Type 0
+Codes l st = codes st ≡ l
+
+joined-codes : (k a b : List Node) (x : Node) → k ++ (a ++ b ++ (x ∷ [])) ≡ k ++ a ++ b ++ (x ∷ [])
+joined-codes k a b x = sym (append-assoc k (a ++ b) (x ∷ [])) ∙ ap (λ (r : List Node). r ++ (x ∷ [])) (sym (append-assoc k a b))
+
+stepped-codes : (m : Node) (st : List Core) → OnSome (Codes (codes st ++ (m ∷ []))) (stepped m st)
+unfolding stepped codes post
+stepped-codes Node.conjunction [] = tt
+stepped-codes Node.conjunction (b ∷ []) = tt
+stepped-codes Node.conjunction (b ∷ a ∷ st) = joined-codes (codes st) (post a) (post b) Node.conjunction
+stepped-codes Node.disjunction [] = tt
+stepped-codes Node.disjunction (b ∷ []) = tt
+stepped-codes Node.disjunction (b ∷ a ∷ st) = joined-codes (codes st) (post a) (post b) Node.disjunction
+stepped-codes (Node.category x) st = refl
+stepped-codes (Node.namespace x) st = refl
+stepped-codes (Node.existence x) st = refl
+stepped-codes (Node.subquery x) [] = tt
+stepped-codes (Node.subquery x) (a ∷ st) = sym (append-assoc (codes st) (post a) (Node.subquery x ∷ []))
+stepped-codes (Node.article c x) st = refl
+stepped-codes (Node.value x c v) st = refl
+
+runs-codes : (l : List Node) (st : List Core) → OnSome (Codes (codes st ++ l)) (runs l st)
+unfolding runs
+runs-codes [] st = sym (append-nil (codes st))
+runs-codes (m ∷ l) st =
+    on-bind (Codes (codes st ++ (m ∷ []))) (Codes (codes st ++ (m ∷ l))) (stepped m st) (runs l) (stepped-codes m st)
+    (λ t e. on-weaker (Codes (codes t ++ l)) (Codes (codes st ++ (m ∷ l))) (runs l t) (runs-codes l t) (λ u f. f ∙ ap (λ (r : List Node). r ++ l) e ∙ append-snoc (codes st) m l))
+
+-- Code that reads back as a query is the code of that query.
+pub post-back : (l : List Node) → OnSome (λ c. post c ≡ l) (readBack l)
+unfolding readBack codes
+post-back l = on-bind (Codes l) (λ c. post c ≡ l) (runs l []) only (runs-codes l []) one
+  where
+    one : (st : List Core) → Codes l st → OnSome (λ c. post c ≡ l) (only st)
+    one [] e = tt
+    one (q ∷ []) e = e
+    one (q ∷ r ∷ st) e = tt
+
+-- What bytes hold has 1 to 256 nodes, which keep their rules.
+on-held : (h : Bytes) → OnSome (λ c. isCore c ≡ true) (heldQuery h)
+unfolding heldQuery isCore
+on-held h =
+    on-only (λ c. isCore c ≡ true) (hasSizes h) (nodesTo h (countIn h) >>= readBack)
+    (λ s.
+    let a = and-true (leb querySize (length h) && leb 1 (countIn h)) (leb (countIn h) 256) s in
+    let b = and-true (leb querySize (length h)) (leb 1 (countIn h)) (a .0) in
+    on-bind (NodesRead (countIn h)) (λ c. isCore c ≡ true) (nodesTo h (countIn h)) readBack (nodes-kept h (countIn h))
+    (λ l k. on-weaker (λ c. post c ≡ l) (λ c. isCore c ≡ true) (readBack l) (post-back l)
+    (λ c e.
+    let n : nodes c ≡ countIn h = sym (length-post c) ∙ ap length e ∙ k .count in
+    rw (n, e, b .1, a .1, k .rules))))
+
+pub held-core : (h : Bytes) (c : Core) → heldQuery h ≡ some c → isCore c ≡ true
+held-core h c e = subst (OnSome (λ c. isCore c ≡ true)) e (on-held h)

@@ -1,0 +1,261 @@
+-- What the rules keep of a surface query, elaboration keeps of its core query: it has a form.
+use Prim.Native.Nat.{ℕ, _≤_}
+use mathlib.Core.Path.{_≡_, refl, sym, subst, _∙_}
+use mathlib.Core.Bool.{Bool, true, false, cond, not, _&&_, _||_}
+use mathlib.Core.List.{List, [], _∷_, _++_}
+use mathlib.Core.Option.{Option, some, none}
+use lib.IntN.{ℤ, pos, negsuc}
+use native.Mathlib.Omega.{arith}
+use borrow.Author.Tests.{lt-ltb, ltb-false, le-leb}
+use lib.Dec.{ltb, leb}
+use Rattle.text.specs.Bytes.{Bytes, all, any}
+use Rattle.text.proofs.Laws.{all-append}
+use Rattle.values.specs.declared.Kind.{Kind}
+use Rattle.values.specs.Names.{Reference, bare, qualified, reference, isName, isNamespace, isPropertyName, isReference, isValue}
+use Rattle.values.specs.Values.{Constant, number, boolean, string, mapOption, readNumber, readBoolean, readConstant}
+use Rattle.values.specs.Answers.{base}
+use Rattle.values.proofs.Numbers.{Small, read-small}
+use Rattle.language.specs.Answer.{refused, accepted, found, _>>=_}
+use Rattle.language.specs.Register.{Typing}
+use Rattle.language.specs.Surface.{Chain, single, chain, Categories, Identifiers, Alternatives, Query, propertiesOf}
+use Rattle.language.specs.QueryText.{breaksNames}
+use Rattle.language.specs.Core.{Core, nodes}
+use Rattle.language.specs.Core as Core
+use Rattle.language.specs.Elaboration.{compared, elaborateReference, elaborateIdentifiers, elaborateCategories, elaborateConstant, elaborateValue, inside, joined, along, elaborateIn, elaborate, isUndeclared, fit}
+use Rattle.language.specs.declared.Comparator.{Comparator}
+use Rattle.language.specs.declared.SurfaceComparator.{SurfaceComparator}
+use Rattle.language.proofs.Members.{and-true, both-true, or-false}
+use Rattle.query_core.specs.Postfix.{Node, post}
+use Rattle.query_core.specs.Form.{isBounded, isConstant, isNode, isCore}
+use Rattle.query_core.proofs.Postfix.{length-post}
+use Rattle.query_tree_spelling.specs.Spelled.{isOneCategory, isOneIdentifier, isOneAlternative, spelledCategories, spelledIdentifiers, readsAsCategory, spelledValue, spelledChain, spelledIn, isSpelled}
+use Rattle.query_tree_spelling.proofs.Texts.{not-not}
+
+-- A core query whose names and constants keep the rules.
+unfoldable pub Keeps : Core → Type 0
+Keeps c = all isNode (post c) ≡ true
+
+abbrev KeepsSome : Option Core → Type 0
+KeepsSome none = Unit {0}
+KeepsSome (some c) = Keeps c
+
+one-keeps : (n : Node) → isNode n ≡ true → all isNode (n ∷ []) ≡ true
+unfolding all
+one-keeps n h = both-true h refl
+
+behind-keeps : (l : List Node) (n : Node) → all isNode l ≡ true → isNode n ≡ true → all isNode (l ++ (n ∷ [])) ≡ true
+behind-keeps l n h k = all-append isNode l (n ∷ []) ∙ both-true h (one-keeps n k)
+
+or-keeps : (a b : Core) → Keeps a → Keeps b → Keeps (Core.disjunction a b)
+unfolding Keeps post isNode
+or-keeps a b h k = behind-keeps (post a ++ post b) Node.disjunction (all-append isNode (post a) (post b) ∙ both-true h k) refl
+
+and-keeps : (a b : Core) → Keeps a → Keeps b → Keeps (Core.conjunction a b)
+unfolding Keeps post isNode
+and-keeps a b h k = behind-keeps (post a ++ post b) Node.conjunction (all-append isNode (post a) (post b) ∙ both-true h k) refl
+
+subquery-keeps : (x : Bytes) (c : Core) → isPropertyName x ≡ true → Keeps c → Keeps (Core.select (Core.subquery x c))
+unfolding Keeps post isNode
+subquery-keeps x c h k = behind-keeps (post c) (Node.subquery x) k h
+
+compared-keeps : (f : Comparator → Core) (c : SurfaceComparator) → ((d : Comparator) → Keeps (f d)) → Keeps (compared f c)
+unfolding compared
+compared-keeps f SurfaceComparator.Equal h = h Comparator.Equal
+compared-keeps f SurfaceComparator.Unequal h = h Comparator.Unequal
+compared-keeps f SurfaceComparator.Greater h = h Comparator.Greater
+compared-keeps f SurfaceComparator.Less h = h Comparator.Less
+compared-keeps f SurfaceComparator.AtLeast h = or-keeps (f Comparator.Greater) (f Comparator.Equal) (h Comparator.Greater) (h Comparator.Equal)
+compared-keeps f SurfaceComparator.AtMost h = or-keeps (f Comparator.Less) (f Comparator.Equal) (h Comparator.Less) (h Comparator.Equal)
+
+-- One selector.
+article-keeps : (x : Bytes) (d : Comparator) → isName x ≡ true → Keeps (Core.select (Core.article d x))
+unfolding Keeps post isNode
+article-keeps x d h = one-keeps (Node.article d x) h
+
+namespace-keeps : (n : Bytes) → isNamespace n ≡ true → Keeps (Core.select (Core.namespace n))
+unfolding Keeps post isNode
+namespace-keeps n h = one-keeps (Node.namespace n) h
+
+category-keeps : (x : Bytes) → isName x ≡ true → Keeps (Core.select (Core.category x))
+unfolding Keeps post isNode
+category-keeps x h = one-keeps (Node.category x) h
+
+existence-keeps : (x : Bytes) → isPropertyName x ≡ true → Keeps (Core.select (Core.existence x))
+unfolding Keeps post isNode
+existence-keeps x h = one-keeps (Node.existence x) h
+
+value-keeps : (x : Bytes) (d : Comparator) (v : Constant) → isPropertyName x ≡ true → isConstant v ≡ true → Keeps (Core.select (Core.value x d v))
+unfolding Keeps post isNode
+value-keeps x d v h k = one-keeps (Node.value x d v) (both-true h k)
+
+-- References.
+stands-keeps : (x : Bytes) (c : SurfaceComparator) → isName x ≡ true → Keeps (compared (λ d. Core.select (Core.article d x)) c)
+stands-keeps x c h = compared-keeps (λ d. Core.select (Core.article d x)) c (λ d. article-keeps x d h)
+
+within-keeps : (n x : Bytes) (c : SurfaceComparator) → isNamespace n ≡ true → isName x ≡ true → Keeps (Core.conjunction (Core.select (Core.namespace n)) (compared (λ d. Core.select (Core.article d x)) c))
+within-keeps n x c h k = and-keeps (Core.select (Core.namespace n)) (compared (λ d. Core.select (Core.article d x)) c) (namespace-keeps n h) (stands-keeps x c k)
+
+main-name : isNamespace [] ≡ true
+unfolding isNamespace
+main-name = refl
+
+reference-keeps : (c : SurfaceComparator) (r : Reference) → isReference r ≡ true → Keeps (elaborateReference c r)
+unfolding elaborateReference
+reference-keeps SurfaceComparator.Equal (bare x) h = within-keeps [] x SurfaceComparator.Equal main-name h
+reference-keeps SurfaceComparator.Unequal (bare x) h = stands-keeps x SurfaceComparator.Unequal h
+reference-keeps SurfaceComparator.Greater (bare x) h = stands-keeps x SurfaceComparator.Greater h
+reference-keeps SurfaceComparator.Less (bare x) h = stands-keeps x SurfaceComparator.Less h
+reference-keeps SurfaceComparator.AtLeast (bare x) h = stands-keeps x SurfaceComparator.AtLeast h
+reference-keeps SurfaceComparator.AtMost (bare x) h = stands-keeps x SurfaceComparator.AtMost h
+reference-keeps SurfaceComparator.Unequal (qualified n x) h = stands-keeps x SurfaceComparator.Unequal (and-true (isNamespace n) (isName x) h .1)
+reference-keeps SurfaceComparator.Equal (qualified n x) h = let k = and-true (isNamespace n) (isName x) h in within-keeps n x SurfaceComparator.Equal (k .0) (k .1)
+reference-keeps SurfaceComparator.Greater (qualified n x) h = let k = and-true (isNamespace n) (isName x) h in within-keeps n x SurfaceComparator.Greater (k .0) (k .1)
+reference-keeps SurfaceComparator.Less (qualified n x) h = let k = and-true (isNamespace n) (isName x) h in within-keeps n x SurfaceComparator.Less (k .0) (k .1)
+reference-keeps SurfaceComparator.AtLeast (qualified n x) h = let k = and-true (isNamespace n) (isName x) h in within-keeps n x SurfaceComparator.AtLeast (k .0) (k .1)
+reference-keeps SurfaceComparator.AtMost (qualified n x) h = let k = and-true (isNamespace n) (isName x) h in within-keeps n x SurfaceComparator.AtMost (k .0) (k .1)
+
+-- Constants that are read.
+bounded : (z : ℤ) → Small z → isBounded z ≡ true
+bounded (pos n) h = lt-ltb n base h
+bounded (negsuc n) h = lt-ltb _ base h
+
+abbrev ReadKeeps : Option Constant → Type 0
+ReadKeeps none = Unit {0}
+ReadKeeps (some v) = isConstant v ≡ true
+
+read-keeps : (k : Kind) (v : Bytes) → isValue v ≡ true → ReadKeeps (readConstant k v)
+read-keeps Kind.Page v h = tt
+read-keeps Kind.Number v h = go (readNumber v) refl
+  where
+    go : (o : Option ℤ) → readNumber v ≡ o → ReadKeeps (mapOption number o)
+    go none e = tt
+    go (some z) e = bounded z (read-small v z e)
+read-keeps Kind.Boolean v h = go (readBoolean v)
+  where
+    go : (o : Option Bool) → ReadKeeps (mapOption boolean o)
+    go none = tt
+    go (some b) = refl
+read-keeps Kind.String v h = h
+
+constant-keeps : (x : Bytes) (c : SurfaceComparator) (o : Option Constant) → isPropertyName x ≡ true → ReadKeeps o → KeepsSome (mapOption (elaborateConstant x c) o)
+unfolding elaborateConstant
+constant-keeps x c none h k = tt
+constant-keeps x c (some v) h k = compared-keeps (λ d. Core.select (Core.value x d v)) c (λ d. value-keeps x d v h k)
+
+piece-keeps : (x : Bytes) (c : SurfaceComparator) (v : Bytes) (k : Kind) → isPropertyName x ≡ true → isValue v ≡ true → KeepsSome (elaborateValue x c v k)
+unfolding elaborateValue
+piece-keeps x c v Kind.Page h j = go (isReference (reference v)) refl
+  where
+    go : (b : Bool) → isReference (reference v) ≡ b → KeepsSome (cond b (some (Core.select (Core.subquery x (elaborateReference c (reference v))))) none)
+    go false e = tt
+    go true e = subquery-keeps x (elaborateReference c (reference v)) h (reference-keeps c (reference v) e)
+piece-keeps x c v Kind.Number h j = constant-keeps x c (readConstant Kind.Number v) h (read-keeps Kind.Number v j)
+piece-keeps x c v Kind.Boolean h j = constant-keeps x c (readConstant Kind.Boolean v) h (read-keeps Kind.Boolean v j)
+piece-keeps x c v Kind.String h j = constant-keeps x c (readConstant Kind.String v) h (read-keeps Kind.String v j)
+
+-- Options.
+joined-keeps : (f : Core → Core → Core) → ((a b : Core) → Keeps a → Keeps b → Keeps (f a b)) → (a b : Option Core) → KeepsSome a → KeepsSome b → KeepsSome (joined f a b)
+unfolding joined
+joined-keeps f law none b h k = tt
+joined-keeps f law (some a) none h k = tt
+joined-keeps f law (some a) (some b) h k = law a b h k
+
+inside-keeps : (x : Bytes) (k : Option Kind) (o : Option Core) → isPropertyName x ≡ true → KeepsSome o → KeepsSome (inside x k o)
+unfolding inside
+inside-keeps x none o h j = tt
+inside-keeps x (some Kind.Page) none h j = tt
+inside-keeps x (some Kind.Page) (some c) h j = subquery-keeps x c h j
+inside-keeps x (some Kind.Number) o h j = tt
+inside-keeps x (some Kind.Boolean) o h j = tt
+inside-keeps x (some Kind.String) o h j = tt
+
+kind-keeps : (k : Option Kind) (f : Kind → Option Core) → ((a : Kind) → KeepsSome (f a)) → KeepsSome (k >>= f)
+kind-keeps none f h = tt
+kind-keeps (some a) f h = h a
+
+-- Queries.
+categories-keep : (c : Categories) → spelledCategories c ≡ true → Keeps (elaborateCategories c)
+unfolding spelledCategories elaborateCategories
+categories-keep (Categories.one x) h = category-keeps x h
+categories-keep (Categories.either a b) h =
+    let k = and-true (spelledCategories a) (isOneCategory b && spelledCategories b) h in
+    or-keeps (elaborateCategories a) (elaborateCategories b) (categories-keep a (k .0)) (categories-keep b (and-true (isOneCategory b) (spelledCategories b) (k .1) .1))
+
+identifiers-keep : (i : Identifiers) → spelledIdentifiers i ≡ true → Keeps (elaborateIdentifiers i)
+unfolding spelledIdentifiers elaborateIdentifiers
+identifiers-keep (Identifiers.namespace n) h = namespace-keeps n h
+identifiers-keep (Identifiers.reference c r) h = reference-keeps c r h
+identifiers-keep (Identifiers.either a b) h =
+    let k = and-true (spelledIdentifiers a) (isOneIdentifier b && spelledIdentifiers b) h in
+    or-keeps (elaborateIdentifiers a) (elaborateIdentifiers b) (identifiers-keep a (k .0)) (identifiers-keep b (and-true (isOneIdentifier b) (spelledIdentifiers b) (k .1) .1))
+
+is-name : (x : Bytes) → not (isPropertyName x) ≡ false → isPropertyName x ≡ true
+is-name x h = go (isPropertyName x) h
+  where
+    go : (b : Bool) → not b ≡ false → b ≡ true
+    go true e = refl
+    go false e = sym e
+
+along-keeps : (Γ : Typing) (p : Chain) (f : Bytes → Option Core) → breaksNames p ≡ false → ((x : Bytes) → isPropertyName x ≡ true → KeepsSome (f x)) → KeepsSome (along Γ p f)
+unfolding along breaksNames
+along-keeps Γ (single x) f h k = k x (is-name x h)
+along-keeps Γ (chain x p) f h k =
+    let e = or-false (not (isPropertyName x)) (breaksNames p) h in
+    inside-keeps x (Γ x) (along Γ p f) (is-name x (e .0)) (along-keeps Γ p f (e .1) k)
+
+module _ (Γ : Typing) where
+  mutual
+    unfolding elaborate isSpelled spelledValue spelledChain
+
+    in-keeps : (a : Alternatives) (x : Bytes) → isPropertyName x ≡ true → spelledIn a ≡ true → KeepsSome (elaborateIn a Γ x)
+    in-keeps Alternatives.existence x n h = existence-keeps x n
+    in-keeps (Alternatives.value c v) x n h = kind-keeps (Γ x) (elaborateValue x c v) (λ k. piece-keeps x c v k n (and-true (isValue v) _ h .0))
+    in-keeps (Alternatives.subquery q) x n h = inside-keeps x (Γ x) (elaborate q Γ) n (query-keeps q h)
+    in-keeps (Alternatives.either a b) x n h =
+        let k = and-true (spelledIn a) (isOneAlternative b && spelledIn b) h in
+        joined-keeps Core.disjunction or-keeps (elaborateIn a Γ x) (elaborateIn b Γ x) (in-keeps a x n (k .0)) (in-keeps b x n (and-true (isOneAlternative b) (spelledIn b) (k .1) .1))
+
+    query-keeps : (q : Query) → isSpelled q ≡ true → KeepsSome (elaborate q Γ)
+    query-keeps (Query.category c) h = categories-keep c h
+    query-keeps (Query.identifier i) h = identifiers-keep i (and-true (spelledIdentifiers i) (not (readsAsCategory i)) h .0)
+    query-keeps (Query.property p a) h =
+        let k = and-true (spelledChain p) (spelledIn a) h in
+        along-keeps Γ p (λ x. elaborateIn a Γ x) (not-not (breaksNames p) (and-true (not (breaksNames p)) _ (k .0) .0)) (λ x n. in-keeps a x n (k .1))
+    query-keeps (Query.disjunction a b) h =
+        let k = and-true (isSpelled a) (isSpelled b) h in
+        joined-keeps Core.disjunction or-keeps (elaborate a Γ) (elaborate b Γ) (query-keeps a (k .0)) (query-keeps b (k .1))
+    query-keeps (Query.conjunction a b) h =
+        let k = and-true (isSpelled a) (isSpelled b) h in
+        joined-keeps Core.conjunction and-keeps (elaborate a Γ) (elaborate b Γ) (query-keeps a (k .0)) (query-keeps b (k .1))
+
+  pub elaborated-keeps : (q : Query) (c : Core) → isSpelled q ≡ true → elaborate q Γ ≡ some c → all isNode (post c) ≡ true
+  unfolding Keeps
+  elaborated-keeps q c h e = subst KeepsSome e (query-keeps q h)
+
+-- A core query has a node.
+some-node : (c : Core) → 1 ≤ nodes c
+unfolding nodes
+some-node (Core.select (Core.category x)) = omega arith
+some-node (Core.select (Core.namespace x)) = omega arith
+some-node (Core.select (Core.existence x)) = omega arith
+some-node (Core.select (Core.subquery x q)) = omega arith
+some-node (Core.select (Core.article c x)) = omega arith
+some-node (Core.select (Core.value x c v)) = omega arith
+some-node (Core.disjunction a b) = omega arith
+some-node (Core.conjunction a b) = omega arith
+
+-- What fitting accepts is a core query that has a form.
+pub fitted-core : (Γ : Typing) (q : Query) (c : Core) → isSpelled q ≡ true → fit Γ q ≡ accepted c → isCore c ≡ true
+unfolding fit isCore
+fitted-core Γ q c h e = go (any (isUndeclared Γ) (propertiesOf q)) (elaborate q Γ) refl e
+  where
+    go : (u : Bool) (o : Option Core) → elaborate q Γ ≡ o → cond u (refused 17) (found o (λ d. cond (ltb 256 (nodes d)) (refused 19) (accepted d)) (refused 18)) ≡ accepted c → isCore c ≡ true
+    go true o f g = absurd (let y : _≡_ {A = ℕ} 0 1 = cc in omega arith)
+    go false none f g = absurd (let y : _≡_ {A = ℕ} 0 1 = cc in omega arith)
+    go false (some d) f g = few (ltb 256 (nodes d)) refl g
+      where
+        few : (m : Bool) → ltb 256 (nodes d) ≡ m → cond m (refused 19) (accepted d) ≡ accepted c → isCore c ≡ true
+        few true i j = absurd (let y : _≡_ {A = ℕ} 0 1 = cc in omega arith)
+        few false i j =
+            let same : d ≡ c = cc in
+            rw (← same) (both-true (both-true (le-leb 1 (nodes d) (some-node d)) (le-leb (nodes d) 256 (ltb-false 256 (nodes d) i))) (elaborated-keeps Γ q d h f))

@@ -1,0 +1,62 @@
+-- What the tag of a node tells of it.
+use Prim.Native.Nat.{ℕ}
+use mathlib.Core.Path.{_≡_, refl, ap, subst, _∙_}
+use mathlib.Core.Bool.{Bool, _||_}
+use mathlib.Core.Option.{Option}
+use lib.Dec.{eqb}
+use Rattle.text.specs.Bytes.{Bytes}
+use Rattle.values.specs.Values.{Constant}
+use Rattle.language.proofs.Options.{OnSome}
+use Rattle.query_core.specs.Postfix.{Node}
+use Rattle.query_core.specs.Held.{nodeFrom, nodeOf, nodeIn, slotIn}
+use Rattle.query_core.specs.Reading.{followsLinks, expectsKind, TestsNode}
+use Rattle.query_core.proofs.Nodewise.{on-any, on-node}
+
+abbrev tagOf : Node → ℕ
+tagOf Node.conjunction = 0
+tagOf Node.disjunction = 1
+tagOf (Node.category x) = 2
+tagOf (Node.namespace x) = 3
+tagOf (Node.existence x) = 4
+tagOf (Node.subquery x) = 5
+tagOf (Node.article c x) = 6
+tagOf (Node.value x c v) = 7
+
+-- the node, where there is one, has the tag
+abbrev Any : Constant → Type 0
+Any v = Unit {0}
+
+tagged : (tag c : ℕ) (v : Option Constant) (x y : Bytes) → OnSome (λ m. tag ≡ tagOf m) (nodeFrom tag c v x y)
+tagged tag c v x y =
+    on-node (λ m. tag ≡ tagOf m) Any tag c v x y (on-any Any v (λ w. tt)) (λ e. e) (λ e. e) (λ e h. e) (λ e h. e) (λ e h. e) (λ e h. e) (λ e h d. e) (λ e h d w u. e)
+
+-- what is tested of the tag is told of the node
+tag-tells : (f : Node → Bool) (test : ℕ → Bool) → ((m : Node) → test (tagOf m) ≡ f m) → (h : Bytes) (i : ℕ) (r : Bool) → r ≡ test (slotIn h i .tag) → TestsNode f (nodeIn h i) r
+unfolding TestsNode nodeIn nodeOf
+tag-tells f test same h i r e m g = e ∙ ap test (subst (OnSome (λ n. slotIn h i .tag ≡ tagOf n)) g (tagged (slotIn h i .tag) _ _ _ _)) ∙ same m
+
+pub tag-follows : (h : Bytes) (i t : ℕ) → t ≡ slotIn h i .tag → TestsNode followsLinks (nodeIn h i) (eqb t 5)
+tag-follows h i t e = tag-tells followsLinks (λ n. eqb n 5) same h i (eqb t 5) (rw e)
+  where
+    same : (m : Node) → eqb (tagOf m) 5 ≡ followsLinks m
+    same Node.conjunction = refl
+    same Node.disjunction = refl
+    same (Node.category x) = refl
+    same (Node.namespace x) = refl
+    same (Node.existence x) = refl
+    same (Node.subquery x) = refl
+    same (Node.article c x) = refl
+    same (Node.value x c v) = refl
+
+pub tag-expects : (h : Bytes) (i t : ℕ) → t ≡ slotIn h i .tag → TestsNode expectsKind (nodeIn h i) (eqb t 5 || eqb t 7)
+tag-expects h i t e = tag-tells expectsKind (λ n. eqb n 5 || eqb n 7) same h i (eqb t 5 || eqb t 7) (rw e)
+  where
+    same : (m : Node) → (eqb (tagOf m) 5 || eqb (tagOf m) 7) ≡ expectsKind m
+    same Node.conjunction = refl
+    same Node.disjunction = refl
+    same (Node.category x) = refl
+    same (Node.namespace x) = refl
+    same (Node.existence x) = refl
+    same (Node.subquery x) = refl
+    same (Node.article c x) = refl
+    same (Node.value x c v) = refl

@@ -1,0 +1,19 @@
+use Rattle.query_core.proofs.Laying.{rooms}
+use borrow.Author.Needs.{needs}
+use Rattle.query_core.proofs.writing.has_room.Statement.{statement}
+use Rattle.query_core.proofs.writing.has_room.Tie as tie
+
+returns : tie.Need-returns
+returns c = search rooms
+
+returns-2 : tie.Need-returns-2
+returns-2 c = search rooms
+
+sub-result : tie.Need-sub-result
+sub-result c = search needs
+
+returns-3 : tie.Need-returns-3
+returns-3 c = search rooms
+
+pub has-room-spec : {M : Type 1} → statement M
+has-room-spec = tie.close (tie.spec returns returns-2 sub-result returns-3)

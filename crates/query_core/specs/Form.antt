@@ -1,0 +1,127 @@
+-- The form of a core query: its nodes in postfix order, and their names and string constants, one behind the other. docs/LAYOUT.md has
+-- the table.
+use Prim.Native.Nat.{ℕ, suc, _+_}
+use mathlib.Core.Bool.{Bool, true, _&&_}
+use mathlib.Core.List.{List, [], _∷_, _++_}
+use lib.Dec.{leb, ltb}
+use lib.IntN.{ℤ, pos, negsuc}
+use lib.ListN.{length}
+use Rattle.text.specs.Bytes.{Bytes, all}
+use Rattle.text.specs.Table.{bit}
+use Rattle.text.specs.declared.Span.{Span}
+use Rattle.buffer.specs.Numbers.{twoBytes, eightBytes, padded}
+use Rattle.values.specs.Names.{isName, isPropertyName, isNamespace, isValue}
+use Rattle.values.specs.Values.{Constant, number, boolean, string}
+use Rattle.values.specs.Answers.{base, biased}
+use Rattle.language.specs.Core.{Core, nodes}
+use Rattle.language.specs.declared.Comparator.{Comparator}
+use Rattle.query_core.specs.declared.Slot.{Slot}
+use Rattle.query_core.specs.Postfix.{Node, post}
+
+-- The names and string constants of nodes, in the order of the nodes.
+abbrev pub constantString : Constant → Bytes
+constantString (number z) = []
+constantString (boolean b) = []
+constantString (string s) = s
+
+unfoldable pub stringOf : Node → Bytes
+stringOf Node.conjunction = []
+stringOf Node.disjunction = []
+stringOf (Node.category x) = x
+stringOf (Node.namespace x) = x
+stringOf (Node.existence x) = x
+stringOf (Node.subquery x) = x
+stringOf (Node.article c x) = x
+stringOf (Node.value x c v) = x ++ constantString v
+
+unfoldable pub strings : List Node → Bytes
+strings [] = []
+strings (x ∷ l) = stringOf x ++ strings l
+
+-- The numbers of a node whose string begins at a place. What a node does not use is 0.
+abbrev pub comparatorCode : Comparator → ℕ
+comparatorCode Comparator.Equal = 0
+comparatorCode Comparator.Unequal = 1
+comparatorCode Comparator.Greater = 2
+comparatorCode Comparator.Less = 3
+
+abbrev pub spanAt : ℕ → ℕ → Span
+spanAt at n = record { start = at; len = n }
+
+abbrev pub noSpan : Span
+noSpan = spanAt 0 0
+
+abbrev pub tagged : ℕ → ℕ → Span → Span → Slot
+tagged t c p q = record { tag = t; comparator = c; kind = 0; truth = 0; first = p; second = q; number = 0 }
+
+-- A value comparison by its constant; a number is held with 10^15 added.
+abbrev pub numberSlot : Span → ℕ → ℕ → Slot
+numberSlot p c n = record { tag = 7; comparator = c; kind = 0; truth = 0; first = p; second = noSpan; number = n }
+
+abbrev pub truthSlot : Span → ℕ → Bool → Slot
+truthSlot p c b = record { tag = 7; comparator = c; kind = 1; truth = bit b; first = p; second = noSpan; number = 0 }
+
+abbrev pub stringSlot : Span → ℕ → Span → Slot
+stringSlot p c q = record { tag = 7; comparator = c; kind = 2; truth = 0; first = p; second = q; number = 0 }
+
+abbrev pub valueSlot : ℕ → Bytes → Comparator → Constant → Slot
+valueSlot at x c (number z) = numberSlot (spanAt at (length x)) (comparatorCode c) (biased z)
+valueSlot at x c (boolean b) = truthSlot (spanAt at (length x)) (comparatorCode c) b
+valueSlot at x c (string s) = stringSlot (spanAt at (length x)) (comparatorCode c) (spanAt (at + length x) (length s))
+
+abbrev pub slotAt : ℕ → Node → Slot
+slotAt at Node.conjunction = tagged 0 0 noSpan noSpan
+slotAt at Node.disjunction = tagged 1 0 noSpan noSpan
+slotAt at (Node.category x) = tagged 2 0 (spanAt at (length x)) noSpan
+slotAt at (Node.namespace x) = tagged 3 0 (spanAt at (length x)) noSpan
+slotAt at (Node.existence x) = tagged 4 0 (spanAt at (length x)) noSpan
+slotAt at (Node.subquery x) = tagged 5 0 (spanAt at (length x)) noSpan
+slotAt at (Node.article c x) = tagged 6 (comparatorCode c) noSpan (spanAt at (length x))
+slotAt at (Node.value x c v) = valueSlot at x c v
+
+-- A slot's 20 bytes: what `slotFrom` reads.
+abbrev pub headBytes : Slot → Bytes
+headBytes x = x .tag ∷ x .comparator ∷ x .kind ∷ x .truth ∷ []
+
+abbrev pub spanBytes : Span → Bytes
+spanBytes p = twoBytes (p .start) ++ twoBytes (p .len)
+
+unfoldable pub slotBytes : Slot → Bytes
+slotBytes x = headBytes x ++ spanBytes (x .first) ++ spanBytes (x .second) ++ eightBytes (x .number)
+
+-- The slots of nodes whose strings begin at a place, one behind the other.
+unfoldable pub slotsFrom : ℕ → List Node → Bytes
+slotsFrom at [] = []
+slotsFrom at (x ∷ l) = slotBytes (slotAt at x) ++ slotsFrom (at + length (stringOf x)) l
+
+-- How many nodes, the nodes, their names and string constants.
+unfoldable pub queryBytes : List Node → Bytes
+queryBytes l = twoBytes (length l) ++ (padded 5120 (slotsFrom 0 l) ++ padded 16448 (strings l))
+
+-- The form of a core query.
+unfoldable pub queryOf : Core → Bytes
+queryOf c = queryBytes (post c)
+
+-- The rules for names and constants. A number is strictly between -10^15 and 10^15.
+abbrev pub isBounded : ℤ → Bool
+isBounded (pos n) = ltb n base
+isBounded (negsuc n) = ltb (suc n) base
+
+abbrev pub isConstant : Constant → Bool
+isConstant (number z) = isBounded z
+isConstant (boolean b) = true
+isConstant (string s) = isValue s
+
+unfoldable pub isNode : Node → Bool
+isNode Node.conjunction = true
+isNode Node.disjunction = true
+isNode (Node.category x) = isName x
+isNode (Node.namespace x) = isNamespace x
+isNode (Node.existence x) = isPropertyName x
+isNode (Node.subquery x) = isPropertyName x
+isNode (Node.article c x) = isName x
+isNode (Node.value x c v) = isPropertyName x && isConstant v
+
+-- "1 to 256 nodes", whose names and constants keep the rules.
+unfoldable pub isCore : Core → Bool
+isCore c = leb 1 (nodes c) && leb (nodes c) 256 && all isNode (post c)

@@ -1,0 +1,103 @@
+-- The held query: 21,570 bytes. Two bytes with the number of nodes (low byte first), 256 nodes of 20 bytes in postfix order, then a
+-- heap of 16,448 bytes with their names and string constants. docs/LAYOUT.md has it byte by byte.
+use Prim.Native.Nat.{ℕ, zero, suc, _+_, _*_}
+use mathlib.Core.Bool.{Bool, true, false, cond, _&&_}
+use mathlib.Core.List.{List, [], _∷_, _++_}
+use mathlib.Core.Option.{Option, some, none}
+use lib.Dec.{ltb, leb, eqb}
+use lib.ListN.{length, getD}
+use lib.IntN.{ℤ, subℕ}
+use Rattle.text.specs.Bytes.{Bytes, part}
+use Rattle.text.specs.Parts.{partOf}
+use Rattle.buffer.specs.Numbers.{twoAt, eightAt}
+use Rattle.values.specs.Names.{isName, isPropertyName, isNamespace, isValue}
+use Rattle.values.specs.Values.{Constant, number, boolean, string}
+use Rattle.values.specs.Answers.{base}
+use Rattle.language.specs.Answer.{_>>=_, onlyIf}
+use Rattle.language.specs.Core.{Core}
+use Rattle.language.specs.declared.Comparator.{Comparator}
+use Rattle.query_core.specs.declared.Slot.{Slot}
+use Rattle.query_core.specs.Postfix.{Node, readBack}
+
+abbrev pub querySize : ℕ
+querySize = 21570
+
+-- The number of nodes, and the names and string constants that are held.
+abbrev pub countIn : Bytes → ℕ
+countIn h = twoAt h 0
+
+abbrev pub slot : ℕ → ℕ
+slot i = 2 + 20 * i
+
+abbrev pub heapIn : Bytes → Bytes
+heapIn h = part h 5122 16448
+
+-- The numbers in a node's 20 bytes: the tag, the comparator, the constant's kind, its truth value, start and length of two
+-- strings within the heap, a number.
+unfoldable pub slotFrom : Bytes → Slot
+slotFrom b =
+    record {
+      tag = getD b 0 0;
+      comparator = getD b 1 0;
+      kind = getD b 2 0;
+      truth = getD b 3 0;
+      first = record { start = twoAt b 4; len = twoAt b 6 };
+      second = record { start = twoAt b 8; len = twoAt b 10 };
+      number = eightAt b 12;
+    }
+
+unfoldable pub comparatorFrom : ℕ → Option Comparator
+comparatorFrom c =
+    cond (eqb c 0) (some Comparator.Equal)
+    (cond (eqb c 1) (some Comparator.Unequal)
+    (cond (eqb c 2) (some Comparator.Greater)
+    (cond (eqb c 3) (some Comparator.Less) none)))
+
+-- A number is held with 10^15 added, and is strictly between -10^15 and 10^15.
+unfoldable pub numberFrom : ℕ → Option ℤ
+numberFrom n = onlyIf (ltb 0 n && ltb n (2 * base)) (some (subℕ n base))
+
+-- A constant by its kind: 0 a number, 1 a truth value, 2 a string, the slot's second one.
+unfoldable pub constantFrom : ℕ → ℕ → ℕ → Bytes → Option Constant
+constantFrom kind b n s =
+    cond (eqb kind 0) (numberFrom n >>= λ z. some (number z))
+    (cond (eqb kind 1) (cond (eqb b 0) (some (boolean false)) (cond (eqb b 1) (some (boolean true)) none))
+    (cond (eqb kind 2) (onlyIf (isValue s) (some (string s))) none))
+
+-- A node by its tag; its names and constants keep their rules.
+unfoldable pub nodeFrom : ℕ → ℕ → Option Constant → Bytes → Bytes → Option Node
+nodeFrom tag c v x y =
+    cond (eqb tag 0) (some Node.conjunction)
+    (cond (eqb tag 1) (some Node.disjunction)
+    (cond (eqb tag 2) (onlyIf (isName x) (some (Node.category x)))
+    (cond (eqb tag 3) (onlyIf (isNamespace x) (some (Node.namespace x)))
+    (cond (eqb tag 4) (onlyIf (isPropertyName x) (some (Node.existence x)))
+    (cond (eqb tag 5) (onlyIf (isPropertyName x) (some (Node.subquery x)))
+    (cond (eqb tag 6) (onlyIf (isName y) (comparatorFrom c >>= λ d. some (Node.article d y)))
+    (cond (eqb tag 7) (onlyIf (isPropertyName x) (comparatorFrom c >>= λ d. v >>= λ w. some (Node.value x d w))) none)))))))
+
+-- The constant of a slot, and the node that it is by a tag; their strings lie in s.
+unfoldable pub constantOf : Bytes → Slot → Option Constant
+constantOf s x = constantFrom (x .kind) (x .truth) (x .number) (partOf s (x .second))
+
+unfoldable pub nodeOf : Bytes → ℕ → Slot → Option Node
+nodeOf s tag x = nodeFrom tag (x .comparator) (constantOf s x) (partOf s (x .first)) (partOf s (x .second))
+
+-- The slot in place i, and its node.
+abbrev pub slotIn : Bytes → ℕ → Slot
+slotIn h i = slotFrom (part h (slot i) 20)
+
+unfoldable pub nodeIn : Bytes → ℕ → Option Node
+nodeIn h i = nodeOf (heapIn h) (slotIn h i .tag) (slotIn h i)
+
+-- The first n nodes, if each is one.
+unfoldable pub nodesTo : Bytes → ℕ → Option (List Node)
+nodesTo h zero = some []
+nodesTo h (suc n) = nodesTo h n >>= λ l. nodeIn h n >>= λ m. some (l ++ (m ∷ []))
+
+-- The core query that bytes hold, if they are the form of one of 1 to 256 nodes.
+abbrev pub hasSizes : Bytes → Bool
+hasSizes h = leb querySize (length h) && leb 1 (countIn h) && leb (countIn h) 256
+
+unfoldable pub heldQuery : Bytes → Option Core
+heldQuery h = onlyIf (hasSizes h) (nodesTo h (countIn h) >>= readBack)

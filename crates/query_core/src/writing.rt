@@ -1,0 +1,286 @@
+// Nodes into a held query: each in its 20 bytes, its strings in the heap behind those before it.
+use crate::Connective;
+use crate::Constant;
+use crate::Node;
+use crate::Place;
+use crate::Selector;
+use crate::Slot;
+use crate::Strings;
+use crate::layout;
+use buffer::put_byte;
+use buffer::put_bytes;
+use buffer::put_eight;
+use buffer::put_two;
+use language::Comparator;
+use text::Span;
+use text::part;
+ghost use mathlib.Core.Path.{_≡_};
+ghost use Rattle.buffer.specs.Writing.{written};
+ghost use Rattle.query_core.specs.Form.{comparatorCode, tagged, headBytes, spanBytes, slotBytes};
+ghost use Rattle.query_core.specs.Writing.{constantStrings, selectorStrings, nodeStrings, constantSlot, selectorSlot, slotOf, hasRoom, countOf, Puts, Finishes};
+
+// The code of a comparator.
+fn code_of(c: Comparator) -> u8
+    ensures { λ r. ⌜ r ≡ comparatorCode c ⌝ }
+{
+    match c {
+        Comparator::Equal => layout::EQUAL,
+        Comparator::Unequal => layout::UNEQUAL,
+        Comparator::Greater => layout::GREATER,
+        Comparator::Less => layout::LESS,
+    }
+}
+
+// A slot with no constant.
+fn tagged_slot(tag: u8, comparator: u8, first: Span, second: Span) -> Slot
+    ensures { λ r. ⌜ r ≡ tagged tag comparator first second ⌝ }
+{
+    Slot {
+        tag,
+        comparator,
+        kind: 0,
+        truth: 0,
+        first,
+        second,
+        number: 0,
+    }
+}
+
+// Where the strings of a value comparison lie.
+fn constant_strings(first: Span, k: Constant) -> Strings
+    ensures { λ r. ⌜ r ≡ constantStrings first k ⌝ }
+{
+    let none = Span { start: 0, len: 0 };
+    match k {
+        Constant::Number(_) => Strings {
+            first,
+            second: none,
+        },
+        Constant::Boolean(_) => Strings {
+            first,
+            second: none,
+        },
+        Constant::String(second) => Strings { first, second },
+    }
+}
+
+// Where the strings of a selector lie.
+fn selector_strings(s: Selector) -> Strings
+    ensures { λ r. ⌜ r ≡ selectorStrings s ⌝ }
+{
+    let none = Span { start: 0, len: 0 };
+    match s {
+        Selector::Category(p) => Strings {
+            first: p,
+            second: none,
+        },
+        Selector::Namespace(p) => Strings {
+            first: p,
+            second: none,
+        },
+        Selector::Existence(p) => Strings {
+            first: p,
+            second: none,
+        },
+        Selector::Subquery(p) => Strings {
+            first: p,
+            second: none,
+        },
+        Selector::Article(_, p) => Strings {
+            first: none,
+            second: p,
+        },
+        Selector::Value(p, _, k) => constant_strings(p, k),
+    }
+}
+
+// Where the strings of a node lie.
+fn strings_of(node: Node) -> Strings
+    ensures { λ r. ⌜ r ≡ nodeStrings node ⌝ }
+{
+    let connective = node.connective;
+    let selector = node.selector;
+    let none = Span { start: 0, len: 0 };
+    match connective {
+        Connective::And => Strings {
+            first: none,
+            second: none,
+        },
+        Connective::Or => Strings {
+            first: none,
+            second: none,
+        },
+        Connective::Select => selector_strings(selector),
+    }
+}
+
+// The slot of a value comparison whose strings lie at p and q.
+fn constant_slot(code: u8, k: Constant, p: Span, q: Span) -> Slot
+    ensures { λ r. ⌜ r ≡ constantSlot code k p q ⌝ }
+{
+    let none = Span { start: 0, len: 0 };
+    match k {
+        Constant::Number(n) => Slot {
+            tag: layout::VALUE,
+            comparator: code,
+            kind: layout::NUMBER,
+            truth: 0,
+            first: p,
+            second: none,
+            number: n,
+        },
+        Constant::Boolean(b) => {
+            let truth: u8 = if b { 1 } else { 0 };
+            Slot {
+                tag: layout::VALUE,
+                comparator: code,
+                kind: layout::BOOLEAN,
+                truth,
+                first: p,
+                second: none,
+                number: 0,
+            }
+        }
+        Constant::String(_) => Slot {
+            tag: layout::VALUE,
+            comparator: code,
+            kind: layout::STRING,
+            truth: 0,
+            first: p,
+            second: q,
+            number: 0,
+        },
+    }
+}
+
+// The slot of a selector whose strings lie at p and q.
+fn selector_slot(s: Selector, p: Span, q: Span) -> Slot
+    ensures { λ r. ⌜ r ≡ selectorSlot s p q ⌝ }
+{
+    let none = Span { start: 0, len: 0 };
+    match s {
+        Selector::Category(_) => tagged_slot(layout::CATEGORY, 0, p, none),
+        Selector::Namespace(_) => tagged_slot(layout::NAMESPACE, 0, p, none),
+        Selector::Existence(_) => tagged_slot(layout::EXISTENCE, 0, p, none),
+        Selector::Subquery(_) => tagged_slot(layout::SUBQUERY, 0, p, none),
+        Selector::Article(c, _) => tagged_slot(layout::ARTICLE, code_of(c), none, q),
+        Selector::Value(_, c, k) => constant_slot(code_of(c), k, p, q),
+    }
+}
+
+// The slot of a node whose strings lie at p and q.
+fn slot_of(node: Node, p: Span, q: Span) -> Slot
+    ensures { λ r. ⌜ r ≡ slotOf node p q ⌝ }
+{
+    let connective = node.connective;
+    let selector = node.selector;
+    let none = Span { start: 0, len: 0 };
+    match connective {
+        Connective::And => tagged_slot(layout::AND, 0, none, none),
+        Connective::Or => tagged_slot(layout::OR, 0, none, none),
+        Connective::Select => selector_slot(selector, p, q),
+    }
+}
+
+// Writes a slot's first four numbers, a byte each, as far as there is room.
+fn put_head(h: &mut [u8], at: usize, x: Slot)
+    ensures { λ _. ⌜ now (h .exit) ≡ written (now (h .entry)) at (headBytes x) ⌝ }
+{
+    if h.len() <= at {
+        return;
+    }
+    put_byte(h, at, x.tag);
+    put_byte(h, at + 1, x.comparator);
+    put_byte(h, at + 2, x.kind);
+    put_byte(h, at + 3, x.truth);
+}
+
+// Writes a place, two bytes a number, as far as there is room.
+fn put_span(h: &mut [u8], at: usize, p: Span)
+    ensures { λ _. ⌜ now (h .exit) ≡ written (now (h .entry)) at (spanBytes p) ⌝ }
+{
+    if h.len() <= at {
+        return;
+    }
+    put_two(h, at, p.start);
+    put_two(h, at + 2, p.len);
+}
+
+// Writes a slot's 20 bytes, as far as there is room.
+fn put_slot(h: &mut [u8], at: usize, x: Slot)
+    ensures { λ _. ⌜ now (h .exit) ≡ written (now (h .entry)) at (slotBytes x) ⌝ }
+{
+    if h.len() <= at {
+        return;
+    }
+    let first = x.first;
+    let second = x.second;
+    put_head(h, at, x);
+    put_span(h, at + 4, first);
+    put_span(h, at + 8, second);
+    put_eight(h, at + 12, x.number);
+}
+
+// Whether strings of so many bytes have room in the heap behind others.
+fn has_room(end: usize, first: usize, second: usize) -> bool
+    ensures { λ r. ⌜ r ≡ hasRoom end first second ⌝ }
+{
+    if layout::HEAP_BYTES < end {
+        return false;
+    }
+    if layout::HEAP_BYTES - end < first {
+        return false;
+    }
+    second <= layout::HEAP_BYTES - end - first
+}
+
+// How many nodes there are before a place.
+pub fn count_of(at: Place) -> usize
+    ensures { λ r. ⌜ r ≡ countOf at ⌝ }
+{
+    at.code % 512
+}
+
+// Lays a node behind others, where there is room for it; its strings lie in s.
+pub fn put_node(s: &[u8], held: &mut [u8], at: Place, node: Node) -> Place
+    ensures { λ r. ⌜ Puts (now (s .entry)) node (now (held .entry)) at (now (held .exit)) r ⌝ }
+{
+    let count = at.code % 512;
+    let end = at.code / 512;
+    if layout::MOST_NODES <= count {
+        return Place {
+            code: at.code - count + 257,
+        };
+    }
+    let strings = strings_of(node);
+    let p = strings.first;
+    let q = strings.second;
+    let first = part(s, p.start, p.len);
+    let second = part(s, q.start, q.len);
+    let a = first.len();
+    let b = second.len();
+    if !has_room(end, a, b) {
+        return Place { code: at.code + 1 };
+    }
+    let slot = slot_of(
+        node,
+        Span { start: end, len: a },
+        Span {
+            start: end + a,
+            len: b,
+        },
+    );
+    put_slot(held, layout::NODES + layout::NODE_BYTES * count, slot);
+    put_bytes(held, layout::HEAP + end, first);
+    put_bytes(held, layout::HEAP + end + a, second);
+    Place {
+        code: count + 1 + 512 * (end + a + b),
+    }
+}
+
+// Writes how many nodes there are.
+pub fn finish(held: &mut [u8], at: Place)
+    ensures { λ _. ⌜ Finishes (now (held .entry)) at (now (held .exit)) ⌝ }
+{
+    put_two(held, 0, count_of(at));
+}

@@ -1,0 +1,163 @@
+-- The core queries of comparisons, references and values, put.
+use mathlib.Core.Path.{_≡_, refl, sym, ap, _∙_}
+use mathlib.Core.Bool.{Bool, true, false, not}
+use mathlib.Core.List.{List, [], _∷_, _++_}
+use mathlib.Core.Option.{Option, some, none}
+use borrow.Author.Tests.{not-true, not-false}
+use Rattle.text.specs.Bytes.{Bytes}
+use Rattle.text.specs.Parts.{partOf}
+use Rattle.text.specs.declared.Span.{Span}
+use Rattle.values.specs.declared.Kind.{Kind}
+use Rattle.values.specs.declared.Split.{Split}
+use Rattle.values.specs.Names.{reference, isReference}
+use Rattle.values.specs.Values.{mapOption, readConstant}
+use Rattle.values.specs.Answers.{splitOf}
+use Rattle.language.specs.Core.{Core}
+use Rattle.language.specs.Core as Core
+use Rattle.language.specs.Elaboration.{compared, elaborateReference, elaborateConstant, elaborateValue}
+use Rattle.language.specs.declared.Comparator.{Comparator}
+use Rattle.language.specs.declared.SurfaceComparator.{SurfaceComparator}
+use Rattle.query_text_pieces.specs.Places.{SplitsAt}
+use Rattle.query_core.specs.declared.Selector.{Selector}
+use Rattle.query_core.specs.declared.Constant.{Constant}
+use Rattle.query_core.specs.declared.ConstantRead.{ConstantRead}
+use Rattle.query_core.specs.declared.Place.{Place}
+use Rattle.query_core.specs.Postfix.{Node, post}
+use Rattle.query_core.specs.Reading.{selectorBy}
+use Rattle.query_core_emit.specs.Emission.{Adds, Emits, connectiveNode, selectorOf, comparing, strictOrEqual, writtenScope, scopeOf, constantIn}
+use Rattle.query_core_emit.specs.declared.Comparison.{Comparison}
+use Rattle.query_core_emit.specs.declared.Scope.{Scope}
+use Rattle.query_core_emit.specs.declared.Emitted.{Emitted}
+use Rattle.query_core_emit.proofs.Adding.{adds-then, conjunction-adds}
+use Rattle.query_core_emit.proofs.Constants.{constant-is}
+
+-- Selectors and scopes.
+module _ (w : Comparison) (c : Comparator) where
+  pub article-selector : (p : Span) → w ≡ Comparison.Article p → Selector.Article c p ≡ selectorOf w c
+  article-selector p e = rw e
+
+  pub value-selector : (p : Span) (k : Constant) → w ≡ Comparison.Value p k → Selector.Value p c k ≡ selectorOf w c
+  value-selector p k e = rw e
+
+pub scope-written : (r : Split) (o : Scope) → r .qualified ≡ true → Scope.Within (r .namespace) ≡ writtenScope r o
+scope-written r o e = rw e
+
+pub scope-by : (c d : SurfaceComparator) (r : Split) (k : Scope) → c ≡ d → k ≡ scopeOf d r → k ≡ scopeOf c r
+scope-by c d r k e h = rw e h
+
+pub ruleset selectors = (article-selector, value-selector, scope-written, scope-by)
+
+-- A comparison as written, by its comparator.
+module _ (s : Bytes) (w : Comparison) (c : SurfaceComparator) (h h′ : Bytes) (p p′ : Place) where
+  abbrev Compared : Type 0
+  Compared = Adds (post (compared (comparing s w) c)) h p h′ p′
+
+  pub equal-is : c ≡ SurfaceComparator.Equal → Adds (post (comparing s w Comparator.Equal)) h p h′ p′ → Compared
+  unfolding compared
+  equal-is e d = rw e d
+
+  pub unequal-is : c ≡ SurfaceComparator.Unequal → Adds (post (comparing s w Comparator.Unequal)) h p h′ p′ → Compared
+  unfolding compared
+  unequal-is e d = rw e d
+
+  pub greater-is : c ≡ SurfaceComparator.Greater → Adds (post (comparing s w Comparator.Greater)) h p h′ p′ → Compared
+  unfolding compared
+  greater-is e d = rw e d
+
+  pub less-is : c ≡ SurfaceComparator.Less → Adds (post (comparing s w Comparator.Less)) h p h′ p′ → Compared
+  unfolding compared
+  less-is e d = rw e d
+
+  pub at-least-is : c ≡ SurfaceComparator.AtLeast → Adds (post (strictOrEqual (comparing s w) Comparator.Greater)) h p h′ p′ → Compared
+  unfolding compared
+  at-least-is e d = rw e d
+
+  pub at-most-is : c ≡ SurfaceComparator.AtMost → Adds (post (strictOrEqual (comparing s w) Comparator.Less)) h p h′ p′ → Compared
+  unfolding compared
+  at-most-is e d = rw e d
+
+pub ruleset comparisons = (equal-is, unequal-is, greater-is, less-is, at-least-is, at-most-is)
+
+-- Definition 5.3.1, by the scope of a reference.
+module _ (s : Bytes) where
+  abbrev scoped : Scope → Core → Core
+  scoped Scope.Any q = q
+  scoped (Scope.Within n) q = Core.conjunction (Core.select (Core.namespace (partOf s n))) q
+
+  reference-says : (c : SurfaceComparator) (q : Bool) (n a : Span) → elaborateReference c (splitOf s (record { qualified = q; namespace = n; article = a })) ≡ scoped (scopeOf c (record { qualified = q; namespace = n; article = a })) (compared (comparing s (Comparison.Article a)) c)
+  unfolding elaborateReference compared
+  reference-says SurfaceComparator.Equal true n a = refl
+  reference-says SurfaceComparator.Equal false n a = refl
+  reference-says SurfaceComparator.Unequal true n a = refl
+  reference-says SurfaceComparator.Unequal false n a = refl
+  reference-says SurfaceComparator.Greater true n a = refl
+  reference-says SurfaceComparator.Greater false n a = refl
+  reference-says SurfaceComparator.Less true n a = refl
+  reference-says SurfaceComparator.Less false n a = refl
+  reference-says SurfaceComparator.AtLeast true n a = refl
+  reference-says SurfaceComparator.AtLeast false n a = refl
+  reference-says SurfaceComparator.AtMost true n a = refl
+  reference-says SurfaceComparator.AtMost false n a = refl
+
+  module _ (c : SurfaceComparator) (r : Split) (k : Scope) (is : k ≡ scopeOf c r) (h : Bytes) (p : Place) where
+    reference-is : elaborateReference c (splitOf s r) ≡ scoped k (compared (comparing s (Comparison.Article (r .article))) c)
+    reference-is = reference-says c (r .qualified) (r .namespace) (r .article) ∙ ap (λ (x : Scope). scoped x (compared (comparing s (Comparison.Article (r .article))) c)) (sym is)
+
+    pub any-adds : (h′ : Bytes) (p′ : Place) → k ≡ Scope.Any → Adds (post (compared (comparing s (Comparison.Article (r .article))) c)) h p h′ p′ → Adds (post (elaborateReference c (splitOf s r))) h p h′ p′
+    any-adds h′ p′ e d = rw (reference-is, e) d
+
+    pub within-adds : (n : Span) (h₁ h₂ h₃ : Bytes) (p₁ p₂ p₃ : Place) → k ≡ Scope.Within n → Adds (selectorBy s (Selector.Namespace n) ∷ []) h p h₁ p₁ → Adds (post (compared (comparing s (Comparison.Article (r .article))) c)) h₁ p₁ h₂ p₂ → Adds (connectiveNode false ∷ []) h₂ p₂ h₃ p₃ → Adds (post (elaborateReference c (splitOf s r))) h p h₃ p₃
+    unfolding post
+    within-adds n h₁ h₂ h₃ p₁ p₂ p₃ e f g d = rw (reference-is, e) (conjunction-adds (Core.select (Core.namespace (partOf s n))) (compared (comparing s (Comparison.Article (r .article))) c) f g d)
+
+pub ruleset references = (any-adds, within-adds)
+
+-- A property's piece.
+module _ (s : Bytes) (x p : Span) (c : SurfaceComparator) (h : Bytes) (at : Place) where
+  abbrev Valued : Kind → Emitted → Bytes → Type 0
+  Valued k r h′ = Emits (elaborateValue (partOf s x) c (partOf s p) k) h at r h′
+
+  abbrev Read : Kind → Emitted → Bytes → Type 0
+  Read k r h′ = Emits (mapOption (elaborateConstant (partOf s x) c) (readConstant k (partOf s p))) h at r h′
+
+  module _ (t : Bytes) (q : Bool) (e : t ≡ partOf s p) (f : q ≡ isReference (reference t)) where
+    pub link-unfit : not q ≡ true → Valued Kind.Page Emitted.Unfit h
+    unfolding Emits elaborateValue
+    link-unfit g = rw (← e, ← f, not-true q g)
+
+    pub link-emits : (r : Split) (h₁ h₂ : Bytes) (p₁ p₂ : Place) → not q ≡ false → SplitsAt s p r → Adds (post (elaborateReference c (splitOf s r))) h at h₁ p₁ → Adds (selectorBy s (Selector.Subquery x) ∷ []) h₁ p₁ h₂ p₂ → Valued Kind.Page (Emitted.At p₂) h₂
+    unfolding Emits elaborateValue post
+    link-emits r h₁ h₂ p₁ p₂ g d a b =
+        let yes : isReference (reference (partOf s p)) ≡ true = rw (← e, ← f) (not-false q g) in
+        let there : Adds (post (elaborateReference c (reference (partOf s p)))) h at h₁ p₁ = rw (← d .is) a in
+        (Core.select (Core.subquery (partOf s x) (elaborateReference c (reference (partOf s p)))), rw yes, adds-then (post (elaborateReference c (reference (partOf s p)))) (Node.subquery (partOf s x) ∷ []) there b)
+
+  -- a constant of a kind
+  module _ (kind : Kind) (r : ConstantRead) (e : r ≡ constantIn s p kind) where
+    pub constant-unfit : r ≡ ConstantRead.Nothing → Read kind Emitted.Unfit h
+    unfolding Emits
+    constant-unfit f = rw (constant-is s p kind, ← e, f)
+
+    pub constant-emits : (k : Constant) (h′ : Bytes) (p′ : Place) → r ≡ ConstantRead.Is k → Adds (post (compared (comparing s (Comparison.Value x k)) c)) h at h′ p′ → Read kind (Emitted.At p′) h′
+    unfolding Emits elaborateConstant
+    constant-emits k h′ p′ f a = (compared (comparing s (Comparison.Value x k)) c, rw (constant-is s p kind, ← e, f), a)
+
+  -- by the kind
+  module _ (k : Kind) (r : Emitted) (h′ : Bytes) where
+    pub page-value : k ≡ Kind.Page → Valued Kind.Page r h′ → Valued k r h′
+    page-value e d = rw e d
+
+    module _ (d : Read k r h′) where
+      pub number-value : k ≡ Kind.Number → Valued k r h′
+      unfolding elaborateValue
+      number-value e = rw e (rw e at d)
+
+      pub boolean-value : k ≡ Kind.Boolean → Valued k r h′
+      unfolding elaborateValue
+      boolean-value e = rw e (rw e at d)
+
+      pub string-value : k ≡ Kind.String → Valued k r h′
+      unfolding elaborateValue
+      string-value e = rw e (rw e at d)
+
+pub ruleset emission = (link-unfit, link-emits, constant-unfit, constant-emits, page-value, number-value, boolean-value, string-value)

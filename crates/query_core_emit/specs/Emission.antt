@@ -1,0 +1,83 @@
+-- Working definitions: nodes put behind those that a held query has, and the core queries of references and values.
+use Prim.Native.Nat.{ℕ}
+use mathlib.Core.Path.{_≡_}
+use mathlib.Core.Bool.{Bool, true, false, cond}
+use mathlib.Core.List.{List, _++_}
+use mathlib.Core.Option.{Option, some, none}
+use lib.IntN.{ℤ}
+use Rattle.text.specs.Bytes.{Bytes}
+use Rattle.text.specs.Parts.{partOf}
+use Rattle.text.specs.declared.Span.{Span}
+use Rattle.values.specs.declared.Kind.{Kind}
+use Rattle.values.specs.declared.Split.{Split}
+use Rattle.values.specs.Values.{readNumber, readBoolean}
+use Rattle.values.specs.Answers.{biased}
+use Rattle.language.specs.Core.{Core}
+use Rattle.language.specs.Core as Core
+use Rattle.language.specs.declared.Comparator.{Comparator}
+use Rattle.language.specs.declared.SurfaceComparator.{SurfaceComparator}
+use Rattle.query_core.specs.declared.Selector.{Selector}
+use Rattle.query_core.specs.declared.Constant.{Constant}
+use Rattle.query_core.specs.declared.ConstantRead.{ConstantRead}
+use Rattle.query_core.specs.declared.Place.{Place}
+use Rattle.query_core.specs.Postfix.{Node, post}
+use Rattle.query_core.specs.Form.{noSpan}
+use Rattle.query_core.specs.Reading.{constantBy}
+use Rattle.query_core.specs.Writing.{Laid}
+use Rattle.query_core_emit.specs.declared.Comparison.{Comparison}
+use Rattle.query_core_emit.specs.declared.Scope.{Scope}
+use Rattle.query_core_emit.specs.declared.Emitted.{Emitted}
+
+-- A held query's buffer and the place behind its nodes, the same after nodes were put.
+pub record Adds (k : List Node) (h : Bytes) (p : Place) (h′ : Bytes) (p′ : Place) : Type 0 where
+  pub laid : (l : List Node) → Laid h p l → Laid h′ p′ (l ++ k)
+
+-- What emission answers, where o is the core query that is meant, if there is one.
+unfoldable pub Emits : Option Core → Bytes → Place → Emitted → Bytes → Type 0
+Emits o h p Emitted.Unfit h′ = o ≡ none
+Emits o h p (Emitted.At p′) h′ = (c : Core) × (o ≡ some c) × Adds (post c) h p h′ p′
+
+-- The node of OR, and of AND.
+abbrev pub connectiveNode : Bool → Node
+connectiveNode true = Node.disjunction
+connectiveNode false = Node.conjunction
+
+-- The selector of a comparison, and the core query that it is; s is the text.
+abbrev pub selectorOf : Comparison → Comparator → Selector
+selectorOf (Comparison.Article p) c = Selector.Article c p
+selectorOf (Comparison.Value p k) c = Selector.Value p c k
+
+abbrev pub comparing : Bytes → Comparison → Comparator → Core
+comparing s (Comparison.Article p) c = Core.select (Core.article c (partOf s p))
+comparing s (Comparison.Value p k) c = Core.select (Core.value (partOf s p) c (constantBy s k))
+
+-- "strict OR equal"
+abbrev pub strictOrEqual : (Comparator → Core) → Comparator → Core
+strictOrEqual f c = Core.disjunction (f c) (f Comparator.Equal)
+
+-- Where a reference is looked for: definition 5.3.1.
+abbrev pub writtenScope : Split → Scope → Scope
+writtenScope r o = cond (r .qualified) (Scope.Within (r .namespace)) o
+
+abbrev pub scopeOf : SurfaceComparator → Split → Scope
+scopeOf SurfaceComparator.Equal r = writtenScope r (Scope.Within noSpan)
+scopeOf SurfaceComparator.Unequal r = Scope.Any
+scopeOf SurfaceComparator.Greater r = writtenScope r Scope.Any
+scopeOf SurfaceComparator.Less r = writtenScope r Scope.Any
+scopeOf SurfaceComparator.AtLeast r = writtenScope r Scope.Any
+scopeOf SurfaceComparator.AtMost r = writtenScope r Scope.Any
+
+-- The constant that the piece at p writes in a kind.
+abbrev pub numberConstant : Option ℤ → ConstantRead
+numberConstant none = ConstantRead.Nothing
+numberConstant (some z) = ConstantRead.Is (Constant.Number (biased z))
+
+abbrev pub booleanConstant : Option Bool → ConstantRead
+booleanConstant none = ConstantRead.Nothing
+booleanConstant (some b) = ConstantRead.Is (Constant.Boolean b)
+
+unfoldable pub constantIn : Bytes → Span → Kind → ConstantRead
+constantIn s p Kind.Page = ConstantRead.Nothing
+constantIn s p Kind.Number = numberConstant (readNumber (partOf s p))
+constantIn s p Kind.Boolean = booleanConstant (readBoolean (partOf s p))
+constantIn s p Kind.String = ConstantRead.Is (Constant.String p)

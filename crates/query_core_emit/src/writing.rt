@@ -1,0 +1,218 @@
+// Nodes into a held query, each behind those that are there. Names and strings lie in s.
+ghost use mathlib.Core.List.{[], _∷_};
+ghost use mathlib.Core.Path.{_≡_};
+ghost use Rattle.text.specs.Parts.{partOf};
+ghost use Rattle.values.specs.declared.Kind.the-variants.{Page};
+ghost use Rattle.values.specs.Answers.{splitOf};
+ghost use Rattle.values.specs.Values.{mapOption, readConstant};
+ghost use Rattle.language.specs.Core.{Core};
+ghost use Rattle.language.specs.Elaboration.{compared, elaborateReference, elaborateConstant, elaborateValue};
+ghost use Rattle.query_core.specs.Postfix.{post};
+ghost use Rattle.query_core.specs.Reading.{selectorBy, joinedBy};
+ghost use Rattle.query_core_emit.specs.Emission.{comparing, selectorOf, strictOrEqual, writtenScope, scopeOf, Adds, Emits, connectiveNode};
+use crate::Comparison;
+use crate::Emitted;
+use crate::Scope;
+use crate::terms::constant_of;
+use language::Comparator;
+use language::SurfaceComparator;
+use query_core::Connective;
+use query_core::ConstantRead;
+use query_core::Node;
+use query_core::Place;
+use query_core::Selector;
+use query_core::put_node;
+use query_text_pieces::split_at;
+use text::Span;
+use text::part;
+use values::Kind;
+use values::Split;
+use values::is_reference;
+
+// A selector.
+pub fn put_select(s: &[u8], held: &mut [u8], at: Place, selector: Selector) -> Place
+    ensures { λ r. ⌜ Adds (selectorBy (now (s .entry)) selector ∷ []) (now (held .entry)) at (now (held .exit)) r ⌝ }
+{
+    let connective = Connective::Select;
+    let node = Node {
+        connective,
+        selector,
+    };
+    put_node(s, held, at, node)
+}
+
+// AND or OR behind its two sides.
+pub fn put_join(held: &mut [u8], at: Place, or: bool) -> Place
+    ensures { λ r. ⌜ Adds (connectiveNode or ∷ []) (now (held .entry)) at (now (held .exit)) r ⌝ }
+{
+    let p = Span { start: 0, len: 0 };
+    let selector = Selector::Category(p);
+    if or {
+        let node = Node {
+            connective: Connective::Or,
+            selector,
+        };
+        return put_node(b"", held, at, node);
+    }
+    let node = Node {
+        connective: Connective::And,
+        selector,
+    };
+    put_node(b"", held, at, node)
+}
+
+// The selector of a comparison.
+fn selector_of(what: Comparison, c: Comparator) -> Selector
+    ensures { λ r. ⌜ r ≡ selectorOf what c ⌝ }
+{
+    match what {
+        Comparison::Article(p) => Selector::Article(c, p),
+        Comparison::Value(p, k) => Selector::Value(p, c, k),
+    }
+}
+
+// One comparison.
+fn put_one(s: &[u8], held: &mut [u8], at: Place, what: Comparison, c: Comparator) -> Place
+    ensures { λ r. ⌜ Adds (post (comparing (now (s .entry)) what c)) (now (held .entry)) at (now (held .exit)) r ⌝ }
+{
+    put_select(s, held, at, selector_of(what, c))
+}
+
+// Strict OR equal.
+fn put_either(s: &[u8], held: &mut [u8], at: Place, what: Comparison, strict: Comparator) -> Place
+    ensures { λ r. ⌜ Adds (post (strictOrEqual (comparing (now (s .entry)) what) strict)) (now (held .entry)) at (now (held .exit)) r ⌝ }
+{
+    let one = put_one(s, held, at, what, strict);
+    let two = put_one(s, held, one, what, Comparator::Equal);
+    put_join(held, two, true)
+}
+
+// A comparison as written.
+fn put_compared(
+    s: &[u8],
+    held: &mut [u8],
+    at: Place,
+    what: Comparison,
+    c: SurfaceComparator,
+) -> Place
+    ensures { λ r. ⌜ Adds (post (compared (comparing (now (s .entry)) what) c)) (now (held .entry)) at (now (held .exit)) r ⌝ }
+{
+    match c {
+        SurfaceComparator::Equal => put_one(s, held, at, what, Comparator::Equal),
+        SurfaceComparator::Unequal => put_one(s, held, at, what, Comparator::Unequal),
+        SurfaceComparator::Greater => put_one(s, held, at, what, Comparator::Greater),
+        SurfaceComparator::Less => put_one(s, held, at, what, Comparator::Less),
+        SurfaceComparator::AtLeast => put_either(s, held, at, what, Comparator::Greater),
+        SurfaceComparator::AtMost => put_either(s, held, at, what, Comparator::Less),
+    }
+}
+
+// The namespace that is written, else another scope.
+fn written_scope(split: Split, other: Scope) -> Scope
+    ensures { λ r. ⌜ r ≡ writtenScope split other ⌝ }
+{
+    let qualified = split.qualified;
+    let namespace = split.namespace;
+    if qualified {
+        Scope::Within(namespace)
+    } else {
+        other
+    }
+}
+
+// Where a reference is looked for: definition 5.3.1.
+fn scope_of(c: SurfaceComparator, split: Split) -> Scope
+    ensures { λ r. ⌜ r ≡ scopeOf c split ⌝ }
+{
+    let main = Span { start: 0, len: 0 };
+    match c {
+        SurfaceComparator::Equal => written_scope(split, Scope::Within(main)),
+        SurfaceComparator::Unequal => Scope::Any,
+        SurfaceComparator::Greater => written_scope(split, Scope::Any),
+        SurfaceComparator::Less => written_scope(split, Scope::Any),
+        SurfaceComparator::AtLeast => written_scope(split, Scope::Any),
+        SurfaceComparator::AtMost => written_scope(split, Scope::Any),
+    }
+}
+
+// A reference, by where its two sides lie.
+pub fn put_reference(
+    s: &[u8],
+    held: &mut [u8],
+    at: Place,
+    c: SurfaceComparator,
+    split: Split,
+) -> Place
+    ensures { λ r. ⌜ Adds (post (elaborateReference c (splitOf (now (s .entry)) split))) (now (held .entry)) at (now (held .exit)) r ⌝ }
+{
+    let article = split.article;
+    let what = Comparison::Article(article);
+    match scope_of(c, split) {
+        Scope::Any => put_compared(s, held, at, what, c),
+        Scope::Within(namespace) => {
+            let one = put_select(s, held, at, Selector::Namespace(namespace));
+            let two = put_compared(s, held, one, what, c);
+            put_join(held, two, false)
+        }
+    }
+}
+
+// The piece at p of a page property: one subquery over its reference.
+fn put_link(
+    s: &[u8],
+    held: &mut [u8],
+    at: Place,
+    name: Span,
+    c: SurfaceComparator,
+    p: Span,
+) -> Emitted
+    ensures { λ r. ⌜ Emits (elaborateValue (partOf (now (s .entry)) name) c (partOf (now (s .entry)) p) Page) (now (held .entry)) at r (now (held .exit)) ⌝ }
+{
+    if !is_reference(part(s, p.start, p.len)) {
+        return Emitted::Unfit;
+    }
+    let split = split_at(s, p);
+    let one = put_reference(s, held, at, c, split);
+    let two = put_select(s, held, one, Selector::Subquery(name));
+    Emitted::At(two)
+}
+
+// A comparison with the constant that the piece at p writes.
+fn put_constant(
+    s: &[u8],
+    held: &mut [u8],
+    at: Place,
+    name: Span,
+    c: SurfaceComparator,
+    p: Span,
+    kind: Kind,
+) -> Emitted
+    ensures { λ r. ⌜ Emits (mapOption (elaborateConstant (partOf (now (s .entry)) name) c) (readConstant kind (partOf (now (s .entry)) p))) (now (held .entry)) at r (now (held .exit)) ⌝ }
+{
+    let read = constant_of(s, p, kind);
+    let ConstantRead::Is(k) = read else {
+        return Emitted::Unfit;
+    };
+    let one = put_compared(s, held, at, Comparison::Value(name, k), c);
+    Emitted::At(one)
+}
+
+// A property's piece, by the property's kind.
+pub fn put_value(
+    s: &[u8],
+    held: &mut [u8],
+    at: Place,
+    name: Span,
+    c: SurfaceComparator,
+    p: Span,
+    kind: Kind,
+) -> Emitted
+    ensures { λ r. ⌜ Emits (elaborateValue (partOf (now (s .entry)) name) c (partOf (now (s .entry)) p) kind) (now (held .entry)) at r (now (held .exit)) ⌝ }
+{
+    match kind {
+        Kind::Page => put_link(s, held, at, name, c, p),
+        Kind::Number => put_constant(s, held, at, name, c, p, kind),
+        Kind::Boolean => put_constant(s, held, at, name, c, p, kind),
+        Kind::String => put_constant(s, held, at, name, c, p, kind),
+    }
+}

@@ -1,0 +1,218 @@
+-- Laws of nodes laid into a tree's bytes, and the ways through the functions.
+use Prim.Native.Nat.{ℕ, _+_, _*_, _-_, _≤_, _<_}
+use mathlib.Core.Path.{_≡_, refl, sym, ap, ap₂, subst, _∙_}
+use mathlib.Core.Bool.{Bool, true, false, not, _&&_, false≢true}
+use mathlib.Core.List.{List, [], _∷_, _++_, append-assoc, append-nil}
+use native.Mathlib.Omega.{arith}
+use native.Mathlib.Nat.{zero-add}
+use lib.Dec.{ltb, leb}
+use lib.ListN.{length, length-append}
+use borrow.Author.Tests.{lt-ltb, le-leb, ltb-true, leb-true, not-false, not-true}
+use Rattle.text.specs.Bytes.{Bytes, all, part}
+use Rattle.text.specs.Parts.{partOf}
+use Rattle.text.proofs.Laws.{all-append}
+use Rattle.buffer.specs.Numbers.{twoBytes, zeros, padded}
+use Rattle.buffer.specs.Writing.{written}
+use Rattle.buffer.proofs.Padding.{zeros-add}
+use Rattle.buffer.proofs.Written.{written-then, written-past, length-written, next}
+use Rattle.values.specs.Names.{bare, qualified}
+use Rattle.language.proofs.Members.{and-true, both-true}
+use Rattle.query_tree.specs.Nodes.{Node, joinBy, stringOf, strings}
+use Rattle.query_tree.specs.declared.TreeNode.{TreeNode}
+use Rattle.query_tree.specs.declared.Row.{Row}
+use Rattle.query_tree.specs.Form.{treeSize, comparatorCode, rowOf, rowAt, rowBytes, rowsFrom, nodeBytes}
+use Rattle.query_tree.specs.Reading.{nodeBy}
+use Rattle.query_tree.proofs.Counts.{strings-append}
+use Rattle.query_tree.proofs.Small.{isShort, isSmall, AllSmall}
+use Rattle.query_tree.proofs.Rows.{length-rows, rows-append, Fits as FitsTree}
+use Rattle.query_tree_write.specs.declared.Place.{Place}
+use Rattle.query_tree_write.specs.declared.Entry.{Entry}
+use Rattle.query_tree_write.specs.Laying.{entryOf, hasRoom, hasShort, Fits, Laid, Adds}
+use Rattle.query_tree_write.proofs.Regions.{written-rows, written-texts, written-front}
+
+-- Nodes that fit.
+pub fits-front : (k l : List Node) → Fits (k ++ l) → Fits k
+fits-front k l f =
+    record {
+      few = omega (arith, f .few, length-append k l);
+      short = omega (arith, f .short, ap length (strings-append k l), length-append (strings k) (strings l));
+      small = and-true (all hasShort k) (all hasShort l) (sym (all-append hasShort k l) ∙ f .small) .0;
+    }
+
+short-node : (x : Node) → isSmall x ≡ true → hasShort x ≡ true
+unfolding isShort
+short-node (Node.and n) h = refl
+short-node (Node.or n) h = refl
+short-node (Node.bar n) h = refl
+short-node (Node.category x) h = h
+short-node (Node.namespace n) h = both-true h refl
+short-node (Node.reference c (bare x)) h = h
+short-node (Node.reference c (qualified n x)) h = h
+short-node Node.existence h = refl
+short-node (Node.value c v) h = h
+short-node Node.subquery h = refl
+short-node (Node.property x) h = h
+short-node (Node.link x) h = h
+
+pub fits-laid : (l : List Node) → FitsTree l → Fits l
+unfolding AllSmall all
+fits-laid l f = record { few = f .few; short = f .short; small = go l (f .small) }
+  where
+    go : (l : List Node) → all isSmall l ≡ true → all hasShort l ≡ true
+    go [] h = refl
+    go (x ∷ l) h = let k = and-true (isSmall x) (all isSmall l) h in both-true (short-node x (k .0)) (go l (k .1))
+
+-- What is put of a node is its row and its string.
+pub record Tells (s : Bytes) (end : ℕ) (x : TreeNode) (e : Entry) : Type 0 where
+  pub row : rowOf (e .tag) (comparatorCode (e .comparator)) (e .number) (length (partOf s (e .first))) (length (partOf s (e .second))) ≡ rowAt end (nodeBy s x)
+  pub short : (leb (length (partOf s (e .first))) 64 && leb (length (partOf s (e .second))) 64) ≡ hasShort (nodeBy s x)
+  pub string : partOf s (e .first) ++ partOf s (e .second) ≡ stringOf (nodeBy s x)
+
+entry-tells : (s : Bytes) (end : ℕ) (x : TreeNode) → Tells s end x (entryOf end x)
+unfolding stringOf
+entry-tells s end (TreeNode.And n) = record { row = refl; short = refl; string = refl }
+entry-tells s end (TreeNode.Or n) = record { row = refl; short = refl; string = refl }
+entry-tells s end (TreeNode.Bar n) = record { row = refl; short = refl; string = refl }
+entry-tells s end (TreeNode.Category p) = record { row = refl; short = refl; string = refl }
+entry-tells s end (TreeNode.Namespace p) = record { row = refl; short = refl; string = append-nil (partOf s p) }
+entry-tells s end (TreeNode.Bare c p) = record { row = refl; short = refl; string = refl }
+entry-tells s end (TreeNode.Qualified c p q) = record { row = refl; short = refl; string = refl }
+entry-tells s end TreeNode.Existence = record { row = refl; short = refl; string = refl }
+entry-tells s end (TreeNode.Value c p) = record { row = refl; short = refl; string = refl }
+entry-tells s end TreeNode.Subquery = record { row = refl; short = refl; string = refl }
+entry-tells s end (TreeNode.Property p) = record { row = refl; short = refl; string = refl }
+entry-tells s end (TreeNode.Link p) = record { row = refl; short = refl; string = refl }
+
+-- One node more.
+module _ (l : List Node) (x : Node) where
+  one-more : length (l ++ (x ∷ [])) ≡ length l + 1
+  one-more = length-append l (x ∷ [])
+
+  strings-more : strings (l ++ (x ∷ [])) ≡ strings l ++ stringOf x
+  unfolding strings
+  strings-more = strings-append l (x ∷ []) ∙ ap (λ (r : Bytes). strings l ++ r) (append-nil (stringOf x))
+
+  rows-more : rowsFrom 0 (l ++ (x ∷ [])) ≡ rowsFrom 0 l ++ rowBytes (rowAt (length (strings l)) x)
+  unfolding rowsFrom rowBytes
+  rows-more = rows-append 0 l (x ∷ []) ∙ ap (λ (n : ℕ). rowsFrom 0 l ++ rowBytes (rowAt n x)) (zero-add (length (strings l)))
+
+  length-more : length (strings (l ++ (x ∷ []))) ≡ length (strings l) + length (stringOf x)
+  length-more = ap length strings-more ∙ length-append (strings l) (stringOf x)
+
+length-row : (r : Row) → length (rowBytes r) ≡ 6
+unfolding rowBytes
+length-row r = refl
+
+-- There is room where the nodes fit, with the one that is put.
+module _ (s t : Bytes) (p : Place) (x : TreeNode) (e : Entry) (a b : Bytes) (g : e ≡ entryOf (p .end) x) (ea : a ≡ partOf s (e .first)) (eb : b ≡ partOf s (e .second)) where
+  tells : Tells s (p .end) x e
+  tells = rw g (entry-tells s (p .end) x)
+
+  both-short : (leb (length a) 64 && leb (length b) 64) ≡ hasShort (nodeBy s x)
+  both-short = rw (ea, eb) (tells .short)
+
+  whole : a ++ b ≡ stringOf (nodeBy s x)
+  whole = rw (ea, eb) (tells .string)
+
+  room-there : (l : List Node) → Fits (l ++ (nodeBy s x ∷ [])) → Laid t p l → hasRoom (p .count) (p .end) (length a) (length b) ≡ true
+  unfolding all hasRoom
+  room-there l f d =
+      let y = nodeBy s x in
+      let k = and-true (hasShort y) true (and-true (all hasShort l) (all hasShort (y ∷ [])) (sym (all-append hasShort l (y ∷ [])) ∙ f .small) .1) .0 in
+      let j = and-true (leb (length a) 64) (leb (length b) 64) (both-short ∙ k) in
+      both-true (both-true (both-true (lt-ltb (p .count) 681 (omega (arith, d .count, one-more l y, f .few))) (le-leb (p .end) 1024 (omega (arith, d .end, length-more l y, f .short)))) (j .0)) (j .1)
+
+  pub put-full : (r : Bool) → r ≡ hasRoom (p .count) (p .end) (length a) (length b) → not r ≡ true → Adds (nodeBy s x ∷ []) t p t p
+  put-full r h n = record { long = refl; laid = λ l f d. absurd (false≢true (sym (not-true r n) ∙ h ∙ room-there l f d)) }
+
+  pub put-is : (t₁ t₂ t₃ : Bytes) (c : ℕ) → c ≡ comparatorCode (e .comparator) → t₁ ≡ written t (2 + 6 * p .count) (rowBytes (rowOf (e .tag) c (e .number) (length a) (length b)))
+      → t₂ ≡ written t₁ (4088 + p .end) a → t₃ ≡ written t₂ (4088 + p .end + length a) b
+      → Adds (nodeBy s x ∷ []) t p t₃ (record { count = p .count + 1; end = p .end + length a + length b })
+  put-is t₁ t₂ t₃ c ec e₁ e₂ e₃ =
+      record {
+        long = ap length strung ∙ length-written t₁ (4088 + p .end) (a ++ b) ∙ ap length e₁ ∙ length-written t (2 + 6 * p .count) _;
+        laid = λ l f d. record { bytes = bytes l f d; count = omega (arith, d .count, one-more l y); end = omega (arith, d .end, length-more l y, ap length whole, length-append a b) };
+      }
+    where
+      y : Node
+      y = nodeBy s x
+
+      strung : t₃ ≡ written t₁ (4088 + p .end) (a ++ b)
+      strung = e₃ ∙ ap (λ (r : Bytes). written r (4088 + p .end + length a) b) e₂ ∙ written-then a b t₁ (4088 + p .end)
+
+      row-is : rowOf (e .tag) c (e .number) (length a) (length b) ≡ rowAt (p .end) (nodeBy s x)
+      row-is = rw (ec, ea, eb) (tells .row)
+
+      bytes : (l : List Node) → Fits (l ++ (nodeBy s x ∷ [])) → Laid t p l → t₃ ≡ zeros 2 ++ (padded 4086 (rowsFrom 0 (l ++ (nodeBy s x ∷ []))) ++ padded 1024 (strings (l ++ (nodeBy s x ∷ []))))
+      bytes l f d =
+          let z = nodeBy s x in
+          let row = rowBytes (rowAt (length (strings l)) z) in
+          let few = f .few in
+          let n = one-more l z in
+          let long = length-rows 0 l in
+          let six = length-row (rowAt (length (strings l)) z) in
+          let first : t₁ ≡ zeros 2 ++ (padded 4086 (rowsFrom 0 l ++ row) ++ padded 1024 (strings l)) =
+          e₁ ∙ ap₂ (λ (h : Bytes) (r : Row). written h (2 + 6 * p .count) (rowBytes r)) (d .bytes) (row-is ∙ ap (λ (m : ℕ). rowAt m z) (d .end))
+          ∙ written-rows (rowsFrom 0 l) (strings l) row (2 + 6 * p .count) (omega (arith, d .count, long)) (omega (arith, long, six, n, few)) in
+          let second : t₃ ≡ zeros 2 ++ (padded 4086 (rowsFrom 0 l ++ row) ++ padded 1024 (strings l ++ stringOf z)) =
+          strung ∙ ap₂ (λ (h v : Bytes). written h (4088 + p .end) v) first whole
+          ∙ written-texts (rowsFrom 0 l ++ row) (strings l) (stringOf z) (4088 + p .end) (omega (arith, d .end)) (omega (arith, length-append (rowsFrom 0 l) row, long, six, n, few)) (omega (arith, length-more l z, f .short)) in
+          second ∙ ap₂ (λ (r v : Bytes). zeros 2 ++ (padded 4086 r ++ padded 1024 v)) (sym (rows-more l z)) (sym (strings-more l z))
+
+-- What the room allows.
+pub in-room : (c e n m : ℕ) (r : Bool) → r ≡ hasRoom c e n m → not r ≡ false → (c < 681) × (e ≤ 1024) × (n ≤ 64) × (m ≤ 64)
+unfolding hasRoom
+in-room c e n m r h k =
+    let a = and-true (ltb c 681 && leb e 1024 && leb n 64) (leb m 64) (sym h ∙ not-false r k) in
+    let b = and-true (ltb c 681 && leb e 1024) (leb n 64) (a .0) in
+    let d = and-true (ltb c 681) (leb e 1024) (b .0) in
+    (ltb-true c 681 (d .0), leb-true e 1024 (d .1), leb-true n 64 (b .1), leb-true m 64 (a .1))
+
+-- A row, part by part.
+pub row-written : (h k₁ k₂ k₃ k₄ k₅ : Bytes) (at t c n a b : ℕ) → k₁ ≡ written h at (t ∷ []) → k₂ ≡ written k₁ (at + 1) (c ∷ []) → k₃ ≡ written k₂ (at + 2) (twoBytes n) → k₄ ≡ written k₃ (at + 4) (a ∷ []) → k₅ ≡ written k₄ (at + 5) (b ∷ [])
+    → k₅ ≡ written h at (rowBytes (rowOf t c n a b))
+unfolding rowBytes
+row-written h k₁ k₂ k₃ k₄ k₅ at t c n a b e₁ e₂ e₃ e₄ e₅ = next h at _ (b ∷ []) (next h at _ (a ∷ []) (next h at _ (twoBytes n) (next h at (t ∷ []) (c ∷ []) e₁ e₂) e₃) e₄) e₅
+
+-- Nodes laid one list behind the other.
+module _ (t t₁ t₂ : Bytes) (p p₁ p₂ : Place) (k m : List Node) where
+  pub adds-then : Adds k t p t₁ p₁ → Adds m t₁ p₁ t₂ p₂ → Adds (k ++ m) t p t₂ p₂
+  adds-then a b =
+      record {
+        long = b .long ∙ a .long;
+        laid = λ l f d.
+            let e = append-assoc l k m in
+            let g : Fits (l ++ k ++ m) = subst Fits (sym e) f in
+            subst (Laid t₂ p₂) e (b .laid (l ++ k) g (a .laid l (fits-front (l ++ k) m g) d));
+      }
+
+  -- Two lists joined: the number of a connective is how many nodes were laid for the second.
+  pub adds-joined : (g : ℕ → Node) (t₃ : Bytes) (p₃ : Place) → Adds k t p t₁ p₁ → Adds m t₁ p₁ t₂ p₂ → Adds (g (p₂ .count - p₁ .count) ∷ []) t₂ p₂ t₃ p₃ → Adds (joinBy g k m) t p t₃ p₃
+  adds-joined g t₃ p₃ a b c =
+      record {
+        long = c .long ∙ b .long ∙ a .long;
+        laid = λ l f d.
+            let x = g (length m) in
+            let e : l ++ (k ++ m ++ (x ∷ [])) ≡ l ++ k ++ m ++ (x ∷ []) = sym (append-assoc l (k ++ m) (x ∷ [])) ∙ ap (λ (r : List Node). r ++ (x ∷ [])) (sym (append-assoc l k m)) in
+            let h : Fits (l ++ k ++ m ++ (x ∷ [])) = subst Fits e f in
+            let i = fits-front (l ++ k ++ m) (x ∷ []) h in
+            let d₁ = a .laid l (fits-front (l ++ k) m i) d in
+            let d₂ = b .laid (l ++ k) i d₁ in
+            let n : p₂ .count - p₁ .count ≡ length m = omega (arith, d₁ .count, d₂ .count, length-append (l ++ k) m) in
+            let c′ : Adds (x ∷ []) t₂ p₂ t₃ p₃ = subst (λ (j : ℕ). Adds (g j ∷ []) t₂ p₂ t₃ p₃) n c in
+            subst (Laid t₃ p₃) (sym e) (c′ .laid (l ++ k ++ m) h d₂);
+      }
+
+pub adds-none : (t : Bytes) (p : Place) → Adds [] t p t p
+adds-none t p = record { long = refl; laid = λ l f d. subst (Laid t p) (sym (append-nil l)) d }
+
+-- No node, and all.
+pub laid-none : Laid (zeros treeSize) (record { count = 0; end = 0 }) []
+unfolding padded rowsFrom strings
+laid-none = record { bytes = zeros-add 2 5110 ∙ ap (λ (r : Bytes). zeros 2 ++ r) (zeros-add 4086 1024); count = refl; end = refl }
+
+pub finished : (t : Bytes) (p : Place) (l : List Node) → Laid t p l → written t 0 (twoBytes (p .count)) ≡ nodeBytes l
+unfolding nodeBytes
+finished t p l d = ap₂ (λ (h : Bytes) (n : ℕ). written h 0 (twoBytes n)) (d .bytes) (d .count) ∙ written-front (rowsFrom 0 l) (strings l) (length l)
+
+pub ruleset putting = (written-past, put-full, put-is)

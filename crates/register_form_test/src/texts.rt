@@ -1,0 +1,135 @@
+// The tests of texts and of properties.
+ghost use mathlib.Core.Path.{_≡_};
+ghost use Prim.Native.Nat.{_-_};
+ghost use Rattle.values.specs.ByteRules.{ruleTable};
+ghost use Rattle.register_form.specs.Form.{textCount, textAt};
+ghost use Rattle.register_form.specs.Tests.{isLabelled, isPlain};
+ghost use Rattle.buffer.specs.Tests.{allTo};
+ghost use Rattle.register_form_test.specs.Loops.{climbs};
+ghost use Rattle.register_form_test.specs.Stages.{classOf, textTest, classesTo, textLength, propertyOk, PropertiesTested};
+use crate::Tally;
+use register_form::minus;
+use register_form::name_at;
+use register_form::name_number;
+use register_form::name_of;
+use register_form::property_count;
+use register_form::space_of;
+use register_form::text_at;
+use register_form::text_count;
+use register_form::text_end;
+use register_form::text_start;
+use sorting::is_less;
+use tables::get;
+use tables::put;
+use tables::widen;
+use text::byte_at;
+use text::compare;
+use values::is_property_name;
+use values::rules::byte_rules;
+use values::rules::name_class;
+
+// Whether a text's namespace ends within it.
+fn is_labelled(t: &[u8]) -> bool
+    ensures { λ r. ⌜ r ≡ isLabelled (now (t .entry)) ⌝ }
+{
+    text::widen(byte_at(t, 0)) < t.len()
+}
+
+// Whether text x has no namespace.
+fn is_plain(h: &[u8], x: u16) -> bool
+    ensures { λ r. ⌜ r ≡ isPlain (textAt (now (h .entry)) x) ⌝ }
+{
+    byte_at(text_at(h, x), 0) == 0
+}
+
+// Whether the text before text x, which is t, if there is one, is less.
+fn text_climbs<'a>(h: &'a [u8], t: &'a [u8], x: u16) -> bool
+    requires { ⌜ now t ≡ textAt (now h) x ⌝ }
+    ensures { λ r. ⌜ r ≡ climbs (textAt (now (h .entry))) x ⌝ }
+{
+    if x == 0 {
+        return true;
+    }
+    let before = x - 1;
+    is_less(compare(text_at(h, before), t))
+}
+
+fn text_ok<'a>(h: &'a [u8], t: &'a [u8], x: u16) -> bool
+    requires { ⌜ now t ≡ textAt (now h) x ⌝ }
+    ensures { λ r. ⌜ r ≡ textTest (now (h .entry)) x ⌝ }
+{
+    is_labelled(t) & text_climbs(h, t, x)
+}
+
+// What a text may be, by the table of the rules for bytes.
+fn class_of<'a>(t: &'a [u8], rules: &'a [u8]) -> u16
+    requires { ⌜ now rules ≡ ruleTable ⌝ }
+    ensures { λ r. ⌜ r ≡ classOf (now (t .entry)) ⌝ }
+{
+    let class = name_class(rules, name_of(t));
+    if byte_at(t, 0) == 0 {
+        return class;
+    }
+    let space = space_of(t);
+    let spaced = (space.len() == 0) | (name_class(rules, space) == 2);
+    if spaced & (class == 2) { 3 } else { 0 }
+}
+
+// Whether texts are labelled and ascend; writes the class of each.
+pub fn texts_ok(h: &[u8], classes: &mut [u16]) -> bool
+    ensures { λ r. ⌜ (r ≡ allTo (textCount (now (h .entry))) (textTest (now (h .entry)))) × (now (classes .exit) ≡ classesTo (now (h .entry)) (textCount (now (h .entry))) (now (classes .entry))) ⌝ }
+{
+    let n = text_count(h);
+    let rules = byte_rules();
+    let mut ok = true;
+    let mut x: u16 = 0;
+    while x < n {
+        let t = text_at(h, x);
+        ok = ok & text_ok(h, t, x);
+        put(classes, widen(x), class_of(t, &rules));
+        x += 1;
+    }
+    ok
+}
+
+// How long text x is, its label with it.
+pub fn text_length(h: &[u8], x: u16) -> u16
+    ensures { λ r. ⌜ r ≡ textLength (now (h .entry)) x ⌝ }
+{
+    minus(text_end(h, x), text_start(h, x))
+}
+
+// How many bytes the names in text x have.
+pub fn names_length(h: &[u8], x: u16) -> u16
+    ensures { λ r. ⌜ r ≡ textLength (now (h .entry)) x - 1 ⌝ }
+{
+    minus(text_length(h, x), 1)
+}
+
+// Whether text x is a property's name that was not used.
+fn property_ok(h: &[u8], used: &[u16], x: u16) -> bool
+    ensures { λ r. ⌜ r ≡ propertyOk (now (h .entry)) (now (used .entry)) x ⌝ }
+{
+    (x < text_count(h))
+        & is_plain(h, x)
+        & is_property_name(name_at(h, x))
+        & (get(used, widen(x)) == 0)
+}
+
+// Whether the properties keep the rules; marks their names as used.
+pub fn properties_ok(h: &[u8], used: &mut [u16]) -> Tally
+    ensures { λ r. ⌜ PropertiesTested (now (h .entry)) (now (used .entry)) (now (used .exit)) r ⌝ }
+{
+    let n = property_count(h);
+    let mut ok = true;
+    let mut bytes: usize = 0;
+    let mut p: u16 = 0;
+    while p < n {
+        let x = name_number(h, p);
+        ok = ok & property_ok(h, used, x);
+        bytes += widen(names_length(h, x));
+        put(used, widen(x), 1);
+        p += 1;
+    }
+    Tally { ok, bytes }
+}

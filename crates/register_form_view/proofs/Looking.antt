@@ -1,0 +1,172 @@
+-- The terms of a page: what is asked of one, and of one after the other.
+use Prim.Native.Nat.{ℕ, zero, suc, _+_, _*_, _-_, _/_, _≤_, _<_}
+use mathlib.Core.Path.{_≡_, refl, sym, ap, ap₂, _∙_}
+use mathlib.Core.Bool.{Bool, true, false, cond, _&&_, _||_, or-false}
+use mathlib.Core.List.{List, [], _∷_}
+use native.Mathlib.Omega.{arith}
+use borrow.Author.Tests.{ltb-true, ltb-false}
+use lib.Dec.{ltb, eqb}
+use lib.IntN.{pos, negsuc, subℕ}
+use lib.ListN.{length, getD}
+use Rattle.text.specs.Bytes.{Bytes, part, numbers, orderOf, any}
+use Rattle.text.specs.Parts.{partOf}
+use Rattle.text.specs.Table.{tabulate}
+use Rattle.text.specs.declared.Order.{Order}
+use Rattle.text.specs.declared.Span.{Span}
+use Rattle.text.proofs.Laws.{numbers-less, numbers-greater, numbers-like, any-append}
+use Rattle.values.specs.declared.Kind.{Kind}
+use Rattle.values.specs.Values.{orderNumbers, orderBooleans}
+use Rattle.values.specs.Answers.{base}
+use Rattle.language.specs.Semantics.{stands, Cv}
+use Rattle.language.specs.declared.Comparator.{Comparator}
+use Rattle.query_core.specs.declared.Constant.{Constant}
+use Rattle.buffer.specs.Numbers.{twoAt}
+use Rattle.register_form.specs.Dictionary.{nameOf, termCode, numberFrom}
+use Rattle.register_form.specs.Form.{termAt, textAt}
+use Rattle.register_form_view.specs.Ranges.{nameOrder}
+use Rattle.register_form_view.specs.View.{textNumber, standsAt, marked, leadsInto, formBytes, numbersIn}
+use Rattle.register_form_view.specs.declared.Rank.{Rank}
+use Rattle.register_form_view.proofs.Ordering.{order-ranked, order-compared}
+
+-- text_number
+pub number-of-text : (h : Bytes) (f : ℕ) (t : Bytes) (r : ℕ) → t ≡ termAt h f → r ≡ twoAt t 1 → r ≡ textNumber h f
+unfolding textNumber
+number-of-text h f t r e g = g ∙ ap (λ (u : Bytes). twoAt u 1) e
+
+-- Numbers with 10^15 added stand as the numbers do.
+order-codes : (a b : ℕ) → numbers a b ≡ orderNumbers (numberFrom a) (subℕ b base)
+unfolding numberFrom
+order-codes a b = go (ltb a base) refl (ltb b base) refl
+  where
+    go : (s : Bool) → ltb a base ≡ s → (t : Bool) → ltb b base ≡ t → numbers a b ≡ orderNumbers (cond s (negsuc (base - suc a)) (pos (a - base))) (cond t (negsuc (base - suc b)) (pos (b - base)))
+    go true e true f = let k = ltb-true a base e in let l = ltb-true b base f in numbers-like a b (base - suc b) (base - suc a) (λ x. omega arith, λ x. omega arith) (λ x. omega arith, λ x. omega arith)
+    go true e false f = let k = ltb-true a base e in let l = ltb-false b base f in numbers-less a b (omega arith)
+    go false e true f = let k = ltb-false a base e in let l = ltb-true b base f in numbers-greater a b (omega arith)
+    go false e false f = let k = ltb-false a base e in let l = ltb-false b base f in numbers-like a b (a - base) (b - base) (λ x. omega arith, λ x. omega arith) (λ x. omega arith, λ x. omega arith)
+
+-- value_stands
+module _ (h : Bytes) (f : ℕ) (k : Kind) (c : Comparator) (w : Constant) (q : Bytes) (rank : Rank) where
+  abbrev Stands : Bool → Type 0
+  Stands r = r ≡ standsAt h q rank c w k f
+
+  pub stands-page : k ≡ Kind.Page → Stands false
+  unfolding Cv
+  stands-page e = rw e (go w)
+    where
+      go : (w : Constant) → false ≡ standsAt h q rank c w Kind.Page f
+      go (Constant.Number b) = refl
+      go (Constant.Boolean b) = refl
+      go (Constant.String p) = refl
+
+  module _ (e : k ≡ Kind.Number) where
+    pub stands-number : (a b : ℕ) (o : Order) (r : Bool) → w ≡ Constant.Number b → a ≡ termCode (termAt h f) → o ≡ numbers a b → r ≡ stands c o → Stands r
+    unfolding Cv
+    stands-number a b o r v is g u = rw (e, v) (u ∙ ap (stands c) (g ∙ order-codes a b ∙ ap (λ (n : ℕ). orderNumbers (numberFrom n) (subℕ b base)) is))
+
+    pub number-boolean : (b : Bool) → w ≡ Constant.Boolean b → Stands false
+    unfolding Cv
+    number-boolean b v = rw (e, v)
+
+    pub number-string : (p : Span) → w ≡ Constant.String p → Stands false
+    unfolding Cv
+    number-string p v = rw (e, v)
+
+  module _ (e : k ≡ Kind.Boolean) where
+    pub boolean-number : (b : ℕ) → w ≡ Constant.Number b → Stands false
+    unfolding Cv
+    boolean-number b v = rw (e, v)
+
+    pub stands-boolean : (a : ℕ) (b : Bool) (o : Order) (r : Bool) → w ≡ Constant.Boolean b → a ≡ termCode (termAt h f) → o ≡ orderBooleans (eqb a 1) b → r ≡ stands c o → Stands r
+    unfolding Cv
+    stands-boolean a b o r v is g u = rw (e, v) (u ∙ ap (stands c) (g ∙ ap (λ (n : ℕ). orderBooleans (eqb n 1) b) is))
+
+    pub boolean-string : (p : Span) → w ≡ Constant.String p → Stands false
+    unfolding Cv
+    boolean-string p v = rw (e, v)
+
+  module _ (e : k ≡ Kind.String) where
+    pub string-number : (b : ℕ) → w ≡ Constant.Number b → Stands false
+    unfolding Cv
+    string-number b v = rw (e, v)
+
+    pub string-boolean : (b : Bool) → w ≡ Constant.Boolean b → Stands false
+    unfolding Cv
+    string-boolean b v = rw (e, v)
+
+    module _ (p : Span) (n : ℕ) (o : Order) (r : Bool) (v : w ≡ Constant.String p) (is : n ≡ textNumber h f) (u : r ≡ stands c o) where
+      stands-string : o ≡ nameOrder h (partOf q p) rank n → Stands r
+      stands-string g = rw (e, v) (u ∙ ap (stands c) (g ∙ rw is))
+
+      pub stands-ranked : n < rank .plain → o ≡ numbers (1 + 2 * n) (rank .key) → Stands r
+      stands-ranked l g = stands-string (order-ranked h (partOf q p) rank n o l g)
+
+      pub stands-compared : (x : Bytes) → rank .plain ≤ n → x ≡ part q (p .start) (p .len) → o ≡ orderOf (nameOf (textAt h n)) x → Stands r
+      stands-compared x l lies g = stands-string (order-compared h (partOf q p) rank n o l (rw lies at g))
+
+pub ruleset standing = (number-of-text, stands-page, stands-number, number-boolean, number-string, boolean-number, stands-boolean, boolean-string, string-number, string-boolean, stands-ranked, stands-compared)
+
+-- marked_at
+pub marked-none : (marks : List Bool) (place : ℕ) → place ≡ 0 → false ≡ marked marks place
+marked-none marks place e = rw e
+
+pub marked-one : (marks : List Bool) (place : ℕ) (r : Bool) → (place ≡ 0 → ⊥) → r ≡ getD marks (place - 1) false → r ≡ marked marks place
+marked-one marks zero r n e = absurd (n refl)
+marked-one marks (suc k) r n e = e ∙ ap (λ (j : ℕ). getD marks j false) (let z : suc k - 1 ≡ k = omega arith in z)
+
+module _ (h : Bytes) (places : List ℕ) (marks : List Bool) (k : Kind) (f : ℕ) where
+  -- leads_into
+  pub leads-page : (n w g : ℕ) (r : Bool) → k ≡ Kind.Page → n ≡ textNumber h f → w ≡ n → g ≡ getD places w 0 → r ≡ marked marks g → r ≡ leadsInto h places marks k f
+  leads-page n w g r e is v at u = rw e (u ∙ ap (marked marks) (at ∙ ap (λ (j : ℕ). getD places j 0) (v ∙ is)))
+
+pub ruleset passing = (marked-none, marked-one, leads-page)
+
+-- term_stands, term_leads: of the range, and passing
+module _ (b w : Bool) (is : b ≡ w) where
+  pub term-inside : (r t : Bool) → b ≡ true → r ≡ t → r ≡ (w && t)
+  term-inside r t e f = rw (← is, e) f
+
+  pub term-outside : (t : Bool) → b ≡ false → false ≡ (w && t)
+  term-outside t e = rw (← is, e)
+
+pub ruleset being-of = (term-inside, term-outside)
+
+any-one : (p : ℕ → Bool) (n : ℕ) → any p (n ∷ []) ≡ p n
+unfolding any
+any-one p n = or-false (p n)
+
+-- The loops over the bytes of a page's forms: whether one of the numbers before a place passes.
+module _ (b : Bytes) (p : ℕ → Bool) where
+  pub record Looked (at : ℕ) (some : Bool) : Type 0 where
+    pub even : at ≡ 2 * (at / 2)
+    pub most : at ≤ length b
+    pub is : some ≡ any p (tabulate (at / 2) (λ k. twoAt b (2 * k)))
+
+  pub looked-start : Looked 0 false
+  unfolding tabulate any
+  looked-start = record { even = omega arith; most = omega arith; is = refl }
+
+  module _ (at : ℕ) (some : Bool) (a : Looked at some) where
+    pub looked-more : (f : ℕ) (r : Bool) → at + 2 ≤ length b → f ≡ twoAt b at → r ≡ p f → Looked (at + 2) (some || r)
+    unfolding tabulate
+    looked-more f r l there is =
+        let half : (at + 2) / 2 ≡ suc (at / 2) = omega arith in
+        let here : r ≡ p (twoAt b (2 * (at / 2))) = is ∙ ap p there ∙ ap (λ (k : ℕ). p (twoAt b k)) (a .even) in
+        record {
+          even = omega (arith, a .even);
+          most = omega arith;
+          is =
+              rw half
+              (ap₂ _||_ (a .is) (here ∙ sym (any-one p (twoAt b (2 * (at / 2)))))
+              ∙ sym (any-append p (tabulate (at / 2) (λ k. twoAt b (2 * k))) (twoAt b (2 * (at / 2)) ∷ [])));
+        }
+
+    pub looked-end : length b < at + 2 → some ≡ any p (numbersIn b)
+    unfolding numbersIn
+    looked-end l =
+        let half : length b / 2 ≡ at / 2 = omega (arith, a .even, a .most) in
+        rw half (a .is)
+
+-- forms_between
+pub forms-cut : (h b : Bytes) (start end s d c : ℕ) → s ≡ start → d ≡ end - start → c ≡ d → b ≡ part h (1226 + 2 * s) (2 * c) → b ≡ formBytes h start end
+unfolding formBytes
+forms-cut h b start end s d c e f g is = is ∙ rw (e, g, f)

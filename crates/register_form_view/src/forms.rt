@@ -1,0 +1,182 @@
+// What is asked of a term, and of the terms of a page.
+ghost use mathlib.Core.Path.{_≡_};
+ghost use mathlib.Core.Bool.{_&&_};
+ghost use Rattle.text.specs.Bytes.{any};
+ghost use Rattle.register_form_view.specs.Ranges.{within};
+ghost use Rattle.register_form_view.specs.View.{textNumber, standsAt, marked, leadsInto, formBytes, numbersIn};
+use crate::Rank;
+use crate::TermRange;
+use crate::compare_booleans;
+use crate::ranks::compare_name;
+use crate::ranks::order_by;
+use crate::stands_as;
+use buffer::two_at;
+use language::Comparator;
+use pageset::mark_at;
+use query_core::Constant;
+use register_form::code_at;
+use register_form::minus;
+use register_form::term_at;
+use tables::num_at;
+use tables::widen;
+use text::compare_numbers;
+use text::part;
+use values::Kind;
+
+// The number of the text that term f names.
+fn text_number(h: &[u8], f: u16) -> u16
+    ensures { λ r. ⌜ r ≡ textNumber (now (h .entry)) f ⌝ }
+{
+    two_at(term_at(h, f), 1)
+}
+
+// Whether the value of term f, of a kind, stands to a constant; the constant's string lies in q and has a rank. Two kinds never do.
+fn value_stands(h: &[u8], f: u16, k: Kind, c: Comparator, w: Constant, q: &[u8], rank: Rank) -> bool
+    ensures { λ r. ⌜ r ≡ standsAt (now (h .entry)) (now (q .entry)) rank c w k f ⌝ }
+{
+    match k {
+        Kind::Page => false,
+        Kind::Number => match w {
+            Constant::Number(b) => stands_as(c, compare_numbers(code_at(h, f), b)),
+            Constant::Boolean(_) => false,
+            Constant::String(_) => false,
+        },
+        Kind::Boolean => match w {
+            Constant::Number(_) => false,
+            Constant::Boolean(b) => stands_as(c, compare_booleans(code_at(h, f) == 1, b)),
+            Constant::String(_) => false,
+        },
+        Kind::String => match w {
+            Constant::Number(_) => false,
+            Constant::Boolean(_) => false,
+            Constant::String(p) => {
+                let n = text_number(h, f);
+                if n < rank.plain {
+                    stands_as(c, order_by(rank, n))
+                } else {
+                    stands_as(c, compare_name(h, n, part(q, p.start, p.len)))
+                }
+            }
+        },
+    }
+}
+
+// The mark of a place that is one more than a page's; 0 is that of no page.
+fn marked_at(marks: &[bool], place: usize) -> bool
+    ensures { λ r. ⌜ r ≡ marked (now (marks .entry)) place ⌝ }
+{
+    if place == 0 {
+        return false;
+    }
+    mark_at(marks, place - 1)
+}
+
+// Whether the value of term f, of a kind, leads to a page of a set.
+fn leads_into(h: &[u8], places: &[u16], f: u16, k: Kind, marks: &[bool]) -> bool
+    ensures { λ r. ⌜ r ≡ leadsInto (now (h .entry)) (now (places .entry)) (now (marks .entry)) k f ⌝ }
+{
+    match k {
+        Kind::Page => marked_at(marks, num_at(places, widen(text_number(h, f)))),
+        Kind::Number => false,
+        Kind::Boolean => false,
+        Kind::String => false,
+    }
+}
+
+// The bytes of the forms from one place among all forms up to another.
+pub fn forms_between(h: &[u8], start: u16, end: u16) -> &[u8]
+    ensures { λ r. ⌜ now r ≡ formBytes (now (h .entry)) start end ⌝ }
+{
+    part(h, 1226 + 2 * widen(start), 2 * widen(minus(end, start)))
+}
+
+// Whether term f is of a range.
+fn is_within(range: TermRange, f: u16) -> bool
+    ensures { λ r. ⌜ r ≡ within range f ⌝ }
+{
+    (range.low <= f) & (f < range.high)
+}
+
+// Whether term f is of a range and stands to a constant.
+fn term_stands(
+    h: &[u8],
+    range: TermRange,
+    f: u16,
+    c: Comparator,
+    w: Constant,
+    q: &[u8],
+    rank: Rank,
+) -> bool
+    ensures { λ r. ⌜ r ≡ (within range f && standsAt (now (h .entry)) (now (q .entry)) rank c w (range .kind) f) ⌝ }
+{
+    if is_within(range, f) {
+        let k = range.kind;
+        return value_stands(h, f, k, c, w, q, rank);
+    }
+    false
+}
+
+// Whether term f is of a range and leads to a page of a set.
+fn term_leads(h: &[u8], range: TermRange, f: u16, places: &[u16], marks: &[bool]) -> bool
+    ensures { λ r. ⌜ r ≡ (within range f && leadsInto (now (h .entry)) (now (places .entry)) (now (marks .entry)) (range .kind) f) ⌝ }
+{
+    if is_within(range, f) {
+        let k = range.kind;
+        return leads_into(h, places, f, k, marks);
+    }
+    false
+}
+
+// Whether one of the terms whose numbers stand in the bytes is of a range. All are looked at: leaving at the first gains
+// nothing.
+pub fn some_within(forms: &[u8], range: TermRange) -> bool
+    ensures { λ r. ⌜ r ≡ any (within range) (numbersIn (now (forms .entry))) ⌝ }
+{
+    let mut some = false;
+    let mut at: usize = 0;
+    while at + 2 <= forms.len() {
+        some = some | is_within(range, two_at(forms, at));
+        at += 2;
+    }
+    some
+}
+
+// Whether one of them is of a range and stands to a constant.
+pub fn some_standing(
+    h: &[u8],
+    forms: &[u8],
+    range: TermRange,
+    c: Comparator,
+    w: Constant,
+    q: &[u8],
+    rank: Rank,
+) -> bool
+    ensures { λ r. ⌜ r ≡ any (λ f. within range f && standsAt (now (h .entry)) (now (q .entry)) rank c w (range .kind) f) (numbersIn (now (forms .entry))) ⌝ }
+{
+    let mut some = false;
+    let mut at: usize = 0;
+    while at + 2 <= forms.len() {
+        some = some | term_stands(h, range, two_at(forms, at), c, w, q, rank);
+        at += 2;
+    }
+    some
+}
+
+// Whether one of them is of a range and leads to a page of a set.
+pub fn some_leading(
+    h: &[u8],
+    forms: &[u8],
+    range: TermRange,
+    places: &[u16],
+    marks: &[bool],
+) -> bool
+    ensures { λ r. ⌜ r ≡ any (λ f. within range f && leadsInto (now (h .entry)) (now (places .entry)) (now (marks .entry)) (range .kind) f) (numbersIn (now (forms .entry))) ⌝ }
+{
+    let mut some = false;
+    let mut at: usize = 0;
+    while at + 2 <= forms.len() {
+        some = some | term_leads(h, range, two_at(forms, at), places, marks);
+        at += 2;
+    }
+    some
+}

@@ -1,0 +1,144 @@
+// The pages of a register that pass a test.
+ghost use mathlib.Core.Path.{_≡_};
+ghost use mathlib.Core.Bool.{Bool, true};
+ghost use mathlib.Core.List.{List};
+ghost use Prim.Native.Nat.{ℕ};
+ghost use Rattle.text.specs.Bytes.{same, any};
+ghost use Rattle.language.specs.Register.{Page, Register, holds};
+ghost use Rattle.language.specs.Semantics.{Cv, follows, noMixed};
+ghost use Rattle.query_core.specs.Reading.{constantBy};
+ghost use Rattle.register_form.specs.Opened.{Opened};
+ghost use Rattle.register_form_view.specs.Ranges.{within};
+ghost use Rattle.register_form_view.specs.View.{namePasses, namePassesAt, Agrees, marksBy, marksIn};
+use crate::NameTest;
+use crate::Rank;
+use crate::TermRange;
+use crate::forms::forms_between;
+use crate::forms::some_leading;
+use crate::forms::some_standing;
+use crate::forms::some_within;
+use crate::namespace_at;
+use crate::ranges::category_range;
+use crate::ranges::property_range;
+use crate::ranks::compare_name;
+use crate::ranks::order_by;
+use crate::ranks::rank_for;
+use crate::ranks::rank_of;
+use crate::stands_as;
+use language::Comparator;
+use pageset::PageSet;
+use query_core::Constant;
+use register_form::form_end;
+use register_form::form_start;
+use register_form::identifier_number;
+use register_form::page_count;
+use tables::widen;
+use text::same_bytes;
+
+// The pages that have a term of a range.
+fn pages_within(h: &[u8], range: TermRange) -> PageSet
+    ensures { λ r. ⌜ r .marks ≡ marksBy (now (h .entry)) (within range) ⌝ }
+{
+    let n = page_count(h);
+    let mut set = PageSet::none();
+    let mut start = form_start(h, 0);
+    let mut i: u16 = 0;
+    while i < n {
+        let end = form_end(h, i);
+        if some_within(forms_between(h, start, end), range) {
+            set = set.with(widen(i));
+        }
+        start = end;
+        i += 1;
+    }
+    set
+}
+
+// The pages in the category x.
+pub fn pages_in_category(h: &[u8], x: &[u8]) -> PageSet
+    ensures { λ r. ⌜ ((places : List ℕ) (R : Register) → Opened (now (h .entry)) places R → r .marks ≡ marksIn R (λ p. any (same (now (x .entry))) (p .categories))) ⌝ }
+{
+    pages_within(h, category_range(h, x))
+}
+
+// The pages that hold a value under the property x.
+pub fn pages_with_property(h: &[u8], x: &[u8]) -> PageSet
+    ensures { λ r. ⌜ ((places : List ℕ) (R : Register) → Opened (now (h .entry)) places R → r .marks ≡ marksIn R (holds (now (x .entry)) (λ v. true))) ⌝ }
+{
+    pages_within(h, property_range(h, x))
+}
+
+// The pages that hold, under the property x, a value that stands to a constant, whose string lies in q.
+pub fn pages_with_value(h: &[u8], x: &[u8], c: Comparator, w: Constant, q: &[u8]) -> PageSet
+    ensures { λ r. ⌜ ((places : List ℕ) (R : Register) → Opened (now (h .entry)) places R → r .marks ≡ marksIn R (holds (now (x .entry)) (Cv noMixed c (constantBy (now (q .entry)) w)))) ⌝ }
+{
+    let range = property_range(h, x);
+    let n = page_count(h);
+    let rank = rank_for(h, w, q, n);
+    let mut set = PageSet::none();
+    let mut start = form_start(h, 0);
+    let mut i: u16 = 0;
+    while i < n {
+        let end = form_end(h, i);
+        if some_standing(h, forms_between(h, start, end), range, c, w, q, rank) {
+            set = set.with(widen(i));
+        }
+        start = end;
+        i += 1;
+    }
+    set
+}
+
+// The pages that hold, under the property x, a link to a page of a set.
+pub fn pages_with_link(h: &[u8], places: &[u16], x: &[u8], marks: &[bool]) -> PageSet
+    ensures { λ r. ⌜ ((R : Register) → Opened (now (h .entry)) (now (places .entry)) R → (inner : Page → Bool) → Agrees R (now (marks .entry)) inner → r .marks ≡ marksIn R (holds (now (x .entry)) (follows noMixed R inner))) ⌝ }
+{
+    let range = property_range(h, x);
+    let n = page_count(h);
+    let mut set = PageSet::none();
+    let mut start = form_start(h, 0);
+    let mut i: u16 = 0;
+    while i < n {
+        let end = form_end(h, i);
+        if some_leading(h, forms_between(h, start, end), range, places, marks) {
+            set = set.with(widen(i));
+        }
+        start = end;
+        i += 1;
+    }
+    set
+}
+
+// Whether the page in place i has a namespace or an article name that stands to x, which has a rank, as a test asks.
+fn name_passes(h: &[u8], i: u16, test: NameTest, x: &[u8], rank: Rank) -> bool
+    ensures { λ r. ⌜ r ≡ namePassesAt (now (h .entry)) (now (x .entry)) rank test i ⌝ }
+{
+    match test {
+        NameTest::Namespace => same_bytes(namespace_at(h, i), x),
+        NameTest::Article(c) => {
+            let n = identifier_number(h, i);
+            if n < rank.plain {
+                stands_as(c, order_by(rank, n))
+            } else {
+                stands_as(c, compare_name(h, n, x))
+            }
+        }
+    }
+}
+
+// The pages whose namespace or article name stands to x as a test asks.
+pub fn pages_named(h: &[u8], test: NameTest, x: &[u8]) -> PageSet
+    ensures { λ r. ⌜ ((places : List ℕ) (R : Register) → Opened (now (h .entry)) places R → r .marks ≡ marksIn R (namePasses (now (x .entry)) test)) ⌝ }
+{
+    let n = page_count(h);
+    let rank = rank_of(h, x, n);
+    let mut set = PageSet::none();
+    let mut i: u16 = 0;
+    while i < n {
+        if name_passes(h, i, test, x, rank) {
+            set = set.with(widen(i));
+        }
+        i += 1;
+    }
+    set
+}

@@ -1,0 +1,142 @@
+// The forms of a page in the draft of a join: terms with the items of their texts.
+ghost use mathlib.Core.Path.{_≡_};
+ghost use mathlib.Core.List.{[], _∷_};
+ghost use Prim.Native.Nat.{_+_, _-_, _%_};
+ghost use lib.ListN.{getD, set};
+ghost use Rattle.text.specs.Table.{tabulate};
+ghost use Rattle.register_form.specs.Form.{formAt, dictionaryIn};
+ghost use Rattle.register_join_draft.specs.Joined.{formsIn};
+ghost use Rattle.register_join_draft.specs.Drafting.{newGroup, newCode, newTerm, newTerms, TermsPut};
+use register_form::code_at;
+use register_form::form_at;
+use register_form::form_end;
+use register_form::form_start;
+use register_form::group_at;
+use register_form::kind_at;
+use register_form::name_number;
+use register_form::page_count;
+use tables::get;
+use tables::next;
+use tables::num_at;
+use tables::put_byte;
+use tables::put_code;
+use tables::widen;
+use values::Kind;
+
+// The property that a group above 0 is of.
+fn property_of(g: u8) -> u16
+    ensures { λ r. ⌜ r ≡ g - 1 ⌝ }
+{
+    if g == 0 { 0 } else { (g - 1) as u16 }
+}
+
+fn low_byte(x: u16) -> u8
+    ensures { λ r. ⌜ r ≡ x % 256 ⌝ }
+{
+    (x % 256) as u8
+}
+
+// The group of a term, by the place of its property's name.
+fn new_group(h: &[u8], items: &[u16], table: &[u16], g: u8) -> u8
+    ensures { λ r. ⌜ r ≡ newGroup (now (h .entry)) (now (items .entry)) (now (table .entry)) g ⌝ }
+{
+    if g == 0 {
+        return 0;
+    }
+    let x = num_at(items, widen(name_number(h, property_of(g))));
+    low_byte(get(table, x))
+}
+
+// The item of a text's number that is a code.
+fn item_at(items: &[u16], c: u64) -> u64
+    ensures { λ r. ⌜ r ≡ getD (now (items .entry)) c 0 ⌝ }
+{
+    get(items, c as usize) as u64
+}
+
+// The code of a term, with the item of its text.
+fn new_code(h: &[u8], items: &[u16], g: u8, c: u64) -> u64
+    ensures { λ r. ⌜ r ≡ newCode (now (h .entry)) (now (items .entry)) g c ⌝ }
+{
+    if g == 0 {
+        return item_at(items, c);
+    }
+    let kind = kind_at(h, property_of(g));
+    match kind {
+        Kind::Page => item_at(items, c),
+        Kind::Number => c,
+        Kind::Boolean => c,
+        Kind::String => item_at(items, c),
+    }
+}
+
+// Puts a term of a register behind the first n.
+fn put_term(
+    h: &[u8],
+    items: &[u16],
+    table: &[u16],
+    f: u16,
+    groups: &mut [u8],
+    codes: &mut [u64],
+    n: u16,
+) -> u16
+    ensures { λ r. ⌜ TermsPut (now (groups .entry)) (now (codes .entry)) n (newTerm (now (h .entry)) (now (items .entry)) (now (table .entry)) f ∷ []) (now (groups .exit)) (now (codes .exit)) r ⌝ }
+{
+    let g = group_at(h, f);
+    put_byte(groups, widen(n), new_group(h, items, table, g));
+    put_code(codes, widen(n), new_code(h, items, g, code_at(h, f)));
+    next(n)
+}
+
+// Puts the forms from first up to end.
+fn put_forms(
+    h: &[u8],
+    items: &[u16],
+    table: &[u16],
+    first: u16,
+    end: u16,
+    groups: &mut [u8],
+    codes: &mut [u64],
+    from: u16,
+) -> u16
+    ensures { λ r. ⌜ TermsPut (now (groups .entry)) (now (codes .entry)) from (newTerms (now (h .entry)) (now (items .entry)) (now (table .entry)) (tabulate (end - first) (λ j. formAt (now (h .entry)) (first + j)))) (now (groups .exit)) (now (codes .exit)) r ⌝ }
+{
+    let mut n = from;
+    let mut j = first;
+    while j < end {
+        n = put_term(h, items, table, form_at(h, j), groups, codes, n);
+        j += 1;
+    }
+    n
+}
+
+// Puts the forms of the page in a place, which is given 1 more; none for 0.
+pub fn put_page(
+    h: &[u8],
+    items: &[u16],
+    table: &[u16],
+    place: u16,
+    groups: &mut [u8],
+    codes: &mut [u64],
+    n: u16,
+) -> u16
+    ensures { λ r. ⌜ TermsPut (now (groups .entry)) (now (codes .entry)) n (newTerms (now (h .entry)) (now (items .entry)) (now (table .entry)) (formsIn (dictionaryIn (now (h .entry)) .pages) place)) (now (groups .exit)) (now (codes .exit)) r ⌝ }
+{
+    if place == 0 {
+        return n;
+    }
+    let i = place - 1;
+    if page_count(h) <= i {
+        return n;
+    }
+    put_forms(
+        h,
+        items,
+        table,
+        form_start(h, i),
+        form_end(h, i),
+        groups,
+        codes,
+        n,
+    )
+}

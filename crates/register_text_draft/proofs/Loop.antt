@@ -1,0 +1,174 @@
+-- The loop over the rows of an accepted text.
+use Prim.Native.Nat.{ℕ, zero, suc, _+_, _-_, _≤_, _<_}
+use mathlib.Core.Path.{_≡_, refl, sym, ap, ap₂, _∙_, subst}
+use mathlib.Core.Bool.{Bool, true, false}
+use mathlib.Core.List.{List, [], _∷_, _++_, flatMap, List·Memᴰ, Memᴰ·cast}
+use mathlib.Core.Option.{some}
+use native.Mathlib.Omega.{arith}
+use lib.Dec.{ltb}
+use lib.ListN.{length, getD, take, drop, set, length-set, take-append-drop}
+use lib.Seq.{length-take-le, getD-take, getD-set-same}
+use borrow.Author.Tests.{ltb-false}
+use Rattle.text.specs.Bytes.{Bytes, part, any}
+use Rattle.text.specs.Table.{tabulate}
+use Rattle.text.proofs.Tables.{length-tabulate, getD-tabulate, is-tabulate}
+use Rattle.language.specs.Answer.{accepted, numberOf, judge}
+use Rattle.language.specs.Register.{Property, Sound}
+use Rattle.language.specs.RegisterText.{Entry, close, entries, breaksRule, someTwice, properties, isUndeclared, isUnfit, overLimits, registerOf, readRegister}
+use Rattle.language.proofs.Members.{by-test}
+use Rattle.language.proofs.Registers.{entries-sound, Passed}
+use Rattle.dictionary.specs.Items.{textAt}
+use Rattle.register_text_entries.specs.Items.{entryIn}
+use Rattle.register_text_entries.specs.Table.{entryAt, entriesIn}
+use Rattle.register_text_entries.specs.declared.Item.{Item}
+use Rattle.register_text_entries.proofs.Cells.{rows-length, rows-at, rows-last}
+use Rattle.register_text_verdict.specs.Checks.{lowest, Indexed, Judges}
+use Rattle.register_text_verdict.specs.declared.Judged.{Judged}
+use Rattle.register_text_verdict.proofs.Verdict.{too-long, verdict}
+use Rattle.register_form.specs.Dictionary.{Dictionary}
+use Rattle.register_form.specs.Form.{joined}
+use Rattle.register_form.specs.Draft.{drafted, Draft}
+use Rattle.register_form.specs.Tables.{tablesOf, range, draftIn}
+use Rattle.register_form.proofs.Lists.{mem-at}
+use Rattle.buffer.proofs.Parts.{part-before}
+use Rattle.register_text_draft.specs.declared.Counts.{Counts}
+use Rattle.register_text_draft.specs.Drafting.{noDraft, added, draftFrom, draftOf}
+use Rattle.register_text_draft.specs.Sizes.{Fits, Good}
+use Rattle.register_text_draft.specs.Lookup.{Lists}
+use Rattle.register_text_draft.specs.Tables.{Texts, Holding, Extends, Roomy, Accepted}
+use Rattle.register_text_draft.proofs.Growing.{draft-more}
+use Rattle.register_text_draft.proofs.Entries.{passed-good}
+use Rattle.register_text_draft.proofs.Bounds.{passed-fits}
+use Rattle.register_text_draft.proofs.Kept.{draft-kept, draft-describes}
+use Rattle.register_text_draft.proofs.Looking.{lists-rows}
+
+-- The checks of a text that is not refused.
+lowest-none : (a b c d e : Bool) → lowest a b c d e ≡ 0 → (a ≡ false) × (b ≡ false) × (c ≡ false) × (d ≡ false) × (e ≡ false)
+lowest-none true b c d e h = absurd (omega arith)
+lowest-none false true c d e h = absurd (omega arith)
+lowest-none false false true d e h = absurd (omega arith)
+lowest-none false false false true e h = absurd (omega arith)
+lowest-none false false false false true h = absurd (omega arith)
+lowest-none false false false false false h = (refl, refl, refl, refl, refl)
+
+module _ (s : Bytes) (t props : List ℕ) (n np : ℕ) (a : Accepted s t props n np) where
+  abbrev L : List Entry
+  L = entriesIn s t n
+
+  short : ltb 32768 (length s) ≡ false
+  short = by-test (ltb 32768 (length s)) (λ e. absurd (let z = too-long s e ∙ a .answer in omega arith)) (λ e. e)
+
+  pub accepted-passed : Passed s L
+  accepted-passed =
+      let c = lowest-none (any breaksRule L) (someTwice L) (any (isUndeclared (properties L)) L) (any (isUnfit (properties L)) L) (overLimits L) (verdict s L short (a .rows) ∙ a .answer) in
+      record { short = ltb-false 32768 (length s) short; read = a .rows; ruled = c .0; once = c .1; declared = c .2; fit = c .3; few = c .4 }
+
+  -- What the text gives, and that its draft is one that describes it.
+  pub accepted-reads : readRegister s ≡ accepted (registerOf L)
+  unfolding readRegister judge
+  accepted-reads = let p = accepted-passed in rw (short, a .rows, p .ruled, p .once, p .declared, p .fit, p .few)
+
+  pub accepted-kept : Draft (draftOf (properties L) L)
+  accepted-kept = draft-kept s L accepted-passed
+
+  pub accepted-describes : drafted (draftOf (properties L) L) ≡ registerOf L
+  accepted-describes = draft-describes s L accepted-passed
+
+  accepted-lists : Lists s t props np (properties L)
+  unfolding registerOf
+  accepted-lists = lists-rows s t props n np (a .properties) (entries-sound L (accepted-passed .once) (accepted-passed .few) .fewProperties)
+
+  module _ (i : ℕ) (below : i < n) where
+    first-rows : take (i + 1) L ≡ entriesIn s t (i + 1)
+    unfolding entriesIn
+    first-rows =
+        is-tabulate (i + 1) (entryAt s t) close (take (i + 1) (tabulate n (entryAt s t)))
+        (length-take-le (i + 1) (tabulate n (entryAt s t)) (omega (arith, length-tabulate n (entryAt s t))))
+        (λ j b. getD-take (i + 1) (tabulate n (entryAt s t)) j close b ∙ getD-tabulate n (entryAt s t) close j (omega arith))
+
+    -- the draft of one row more
+    next-draft : draftOf (properties L) (entriesIn s t (i + 1)) ≡ added (properties L) (draftOf (properties L) (entriesIn s t i)) (entryAt s t i)
+    unfolding draftOf
+    next-draft = ap (draftFrom (properties L) noDraft) (rows-last s t i) ∙ draft-more (properties L) noDraft (entriesIn s t i) (entryAt s t i)
+
+    next-fits : Fits (draftOf (properties L) (entriesIn s t (i + 1)))
+    next-fits =
+        let whole : L ≡ entriesIn s t (i + 1) ++ drop (i + 1) L = sym (take-append-drop (i + 1) L) ∙ ap (λ (z : List Entry). z ++ drop (i + 1) L) first-rows in
+        passed-fits s (entriesIn s t (i + 1)) (drop (i + 1) L) (subst (Passed s) whole accepted-passed) (properties L)
+
+    here : List·Memᴰ (entryAt s t i) L
+    here = Memᴰ·cast (sym (rows-at s t n i close below)) (mem-at L i close (omega (arith, rows-length s t n)))
+
+    pub row-added : (H K : Counts → Dictionary → Type 0) (c r : Counts) (x : Item) → ((u : Bytes) → entryIn u x ≡ entryAt u t i)
+        → ((ps : List Property) → Lists s t props np ps → Good ps (entryIn s x) → Extends H K c r (λ d. added ps d (entryIn s x)))
+        → H c (draftOf (properties L) (entriesIn s t i)) → K r (draftOf (properties L) (entriesIn s t (i + 1)))
+    row-added H K c r x e f h =
+        let good : Good (properties L) (entryIn s x) = subst (Good (properties L)) (sym (e s)) (passed-good s L accepted-passed here) in
+        let same : draftOf (properties L) (entriesIn s t (i + 1)) ≡ added (properties L) (draftOf (properties L) (entriesIn s t i)) (entryIn s x) = next-draft ∙ ap (added (properties L) (draftOf (properties L) (entriesIn s t i))) (sym (e s)) in
+        subst (K r) (sym same) (f (properties L) accepted-lists good .held (draftOf (properties L) (entriesIn s t i)) (subst Fits same next-fits) h)
+
+-- From what judging a text answers.
+pub judged-accepted : (s : Bytes) (t props pages : List ℕ) (r : Judged) → Judges s t props pages r → r .number ≡ 0 → Accepted s t props (r .rows) (r .props)
+judged-accepted s t props pages r j e = record { answer = sym (j .number) ∙ e; rows = j .index e .rows; properties = j .index e .properties }
+
+-- The tables at the start and at the end.
+module _ (heap starts lens kinds names identifiers firsts groups codes : List ℕ) where
+  pub holding-none : Roomy heap starts lens kinds names identifiers firsts groups codes → (v : List ℕ) → firsts ≡ set v 0 0 → (ps : List Property) (s : Bytes) (t : List ℕ)
+      → Holding heap starts lens kinds names identifiers firsts groups codes (record { texts = 0; bytes = 0; properties = 0; pages = 0; forms = 0 }) (draftOf ps (entriesIn s t 0))
+  unfolding draftOf draftFrom entriesIn tabulate flatMap
+  holding-none r v e ps s t =
+      let zero-first : getD firsts 0 0 ≡ 0 = rw e (getD-set-same v 0 0 0 (omega (arith, r .firstsRoom, ap length e, length-set v 0 0))) in
+      record {
+        texts = record { count = refl; end = refl; bytes = refl; lies = λ i b. absurd (omega arith); heapRoom = r .heapRoom; startsRoom = r .startsRoom; lensRoom = r .lensRoom };
+        properties = record { rows = refl; kindsRoom = r .kindsRoom; namesRoom = r .namesRoom };
+        pages =
+            record {
+              rows = refl;
+              last = zero-first;
+              most = λ i b. let q : i ≡ 0 = omega arith in rw (q, zero-first) (omega arith);
+              identifiersRoom = r .identifiersRoom;
+              firstsRoom = r .firstsRoom;
+            };
+        terms = record { rows = refl; groupsRoom = r .groupsRoom; codesRoom = r .codesRoom };
+      }
+
+  texts-are : (m at : ℕ) (l : List Bytes) → Texts heap starts lens m at l → tabulate m (textAt heap starts lens) ≡ l
+  unfolding textAt
+  texts-are m at l t =
+      sym (is-tabulate m (λ i. part heap (getD starts i 0) (getD lens i 0)) [] l (sym (t .count))
+      (λ i b.
+      let k : i < length l = omega (arith, t .count) in
+      let whole : heap ≡ joined l ++ drop at heap = sym (take-append-drop at heap) ∙ ap (λ (z : List ℕ). z ++ drop at heap) (t .bytes) in
+      sym (ap (λ (z : List ℕ). part z (getD starts i 0) (getD lens i 0)) whole ∙ part-before (joined l) (drop at heap) (getD starts i 0) (getD lens i 0) (t .lies i k .within) ∙ t .lies i k .is)))
+
+  holding-is : (c : Counts) (d : Dictionary) → Holding heap starts lens kinds names identifiers firsts groups codes c d
+      → draftIn (tablesOf heap starts lens (c .texts) kinds names (c .properties) identifiers firsts (c .pages) groups codes (c .forms)) ≡ d
+  unfolding draftIn range
+  holding-is c d h =
+      let texts = texts-are (c .texts) (c .bytes) (d .texts) (h .texts) in
+      λ i. record { properties = h .properties .rows i; pages = h .pages .rows i; terms = h .terms .rows i; texts = texts i }
+
+-- After the last row; the tables are those at the start but for the first entry of firsts.
+module _ (s : Bytes) (t props : List ℕ) (n np : ℕ) (heap₀ starts₀ lens₀ kinds₀ names₀ identifiers₀ firsts₀ groups₀ codes₀ v : List ℕ) (ev : firsts₀ ≡ set v 0 0) where
+  roomy : Roomy heap₀ starts₀ lens₀ kinds₀ names₀ identifiers₀ v groups₀ codes₀ → Roomy heap₀ starts₀ lens₀ kinds₀ names₀ identifiers₀ firsts₀ groups₀ codes₀
+  roomy r =
+      record {
+        heapRoom = r .heapRoom;
+        startsRoom = r .startsRoom;
+        lensRoom = r .lensRoom;
+        kindsRoom = r .kindsRoom;
+        namesRoom = r .namesRoom;
+        identifiersRoom = r .identifiersRoom;
+        firstsRoom = omega (arith, r .firstsRoom, ap length ev, length-set v 0 0);
+        groupsRoom = r .groupsRoom;
+        codesRoom = r .codesRoom;
+      }
+
+  pub draft-done : (heap starts lens kinds names identifiers firsts groups codes : List ℕ) (c : Counts) (i : ℕ) → i ≤ n → n ≤ i
+      → (Accepted s t props n np → Roomy heap₀ starts₀ lens₀ kinds₀ names₀ identifiers₀ firsts₀ groups₀ codes₀ → Holding heap starts lens kinds names identifiers firsts groups codes c (draftOf (properties (entriesIn s t n)) (entriesIn s t i)))
+      → Accepted s t props n np → Roomy heap₀ starts₀ lens₀ kinds₀ names₀ identifiers₀ v groups₀ codes₀
+      → draftIn (tablesOf heap starts lens (c .texts) kinds names (c .properties) identifiers firsts (c .pages) groups codes (c .forms)) ≡ draftOf (properties (entriesIn s t n)) (entriesIn s t n)
+  draft-done heap starts lens kinds names identifiers firsts groups codes c i l m h a r =
+      let e : i ≡ n = omega arith in
+      holding-is heap starts lens kinds names identifiers firsts groups codes c (draftOf (properties (entriesIn s t n)) (entriesIn s t i)) (h a (roomy r))
+      ∙ ap (λ (k : ℕ). draftOf (properties (entriesIn s t n)) (entriesIn s t k)) e
