@@ -2,15 +2,14 @@
 use Prim.Native.Nat.{ℕ, zero, suc, _+_, _≤_, _<_}
 use mathlib.Core.Path.{_≡_, refl, ap, sym, _∙_}
 use mathlib.Core.List.{List, [], _∷_, _++_}
-use mathlib.Core.Bool.{Bool, true, false, cond, _&&_, _||_, false≢true, and-eq-true-iff, and-assoc, or-assoc, or-false}
+use mathlib.Core.Bool.{Bool, true, false, cond, _&&_, _||_, false≢true, and-eq-true-iff, and-false, and-assoc, or-assoc, or-false}
 use native.Mathlib.Omega.{arith}
 use native.Mathlib.Numerals.{add-one}
-use lib.Dec.{ltb, eqb, eqb·suc-suc, eqb·zero-suc}
+use lib.Dec.{ltb, eqb, eqb·suc-suc, eqb·zero-suc, eqb·suc-zero}
 use lib.ListN.{length, take, drop, getD, drop-of-length-le, length-drop, length-take}
 use lib.Seq.{drop-cons, length-take-le}
 use borrow.Author.Tests.{lt-ltb, le-ltb, ltb-true, ltb-false, eqb-true, eq-eqb, ne-eqb}
 use Rattle.text.specs.Bytes.{Bytes, orderOf, numbers, same, any, all, span, starts, part}
-use Rattle.text.specs.declared.Order.{Order}
 use Rattle.text.specs.declared.Order.the-variants.{Less, Equal, Greater}
 
 -- A part that lies within a text is as long as it says.
@@ -34,12 +33,24 @@ unfolding same
 same-refl [] = refl
 same-refl (x ∷ s) = rw (eq-eqb x x refl) (same-refl s)
 
-pub same-unlike : (a b : Bytes) → (length a ≡ length b → ⊥) → same a b ≡ false
-same-unlike a b h = go (same a b) refl
+-- Sameness is length and the one standing at the other's front.
+pub same-starts : (a b : Bytes) → same a b ≡ (eqb (length a) (length b) && starts b a)
+unfolding same starts
+same-starts [] [] = refl
+same-starts [] (y ∷ t) = rw eqb·zero-suc
+same-starts (x ∷ s) [] = rw eqb·suc-zero
+same-starts (x ∷ s) (y ∷ t) = go (eqb x y) refl (same-starts s t)
   where
-    go : (p : Bool) → same a b ≡ p → p ≡ false
-    go true e = absurd (h (ap length (same-eq a b e)))
-    go false e = refl
+    go : (p : Bool) → eqb x y ≡ p → same s t ≡ (eqb (length s) (length t) && starts t s) → same (x ∷ s) (y ∷ t) ≡ (eqb (suc (length s)) (suc (length t)) && starts (y ∷ t) (x ∷ s))
+    go true e ih = rw (e, starts, eqb·suc-suc) ih
+    go false e ih = rw (e, starts) (sym (and-false (eqb (suc (length s)) (suc (length t)))))
+
+module _ (a b : Bytes) where
+  pub same-unlike : (length a ≡ length b → ⊥) → same a b ≡ false
+  same-unlike h = same-starts a b ∙ rw (ne-eqb (length a) (length b) h)
+
+  pub same-alike : length a ≡ length b → same a b ≡ starts b a
+  same-alike h = same-starts a b ∙ rw (eq-eqb (length a) (length b) h)
 
 -- Sameness at a place of both strings.
 module _ (a b : Bytes) (i : ℕ) where
@@ -105,23 +116,6 @@ order-eq (x ∷ s) (y ∷ t) h = go (ltb x y) (ltb y x) refl refl (order-eq s t)
         let k : x ≡ y = omega (arith, ltb-false x y e, ltb-false y x f) in
         let l = ih (rw (e, f) at h) in
         cc
-
--- Two strings are the same exactly where they are equal in the order.
-module _ (a b : Bytes) (o : Order) (e : o ≡ orderOf a b) where
-  unlike : (o ≡ Equal → ⊥) → (p : Bool) → same a b ≡ p → false ≡ p
-  unlike h true f = absurd (h (e ∙ eq-order a b (same-eq a b f)))
-  unlike h false f = refl
-
-  pub same-less : o ≡ Less → false ≡ same a b
-  same-less h = unlike (λ k. false≢true (let z : Less ≡ Equal = sym h ∙ k in cc)) (same a b) refl
-
-  pub same-equal : o ≡ Equal → true ≡ same a b
-  same-equal h = sym (rw (order-eq a b (sym e ∙ h)) (same-refl b))
-
-  pub same-greater : o ≡ Greater → false ≡ same a b
-  same-greater h = unlike (λ k. false≢true (let z : Greater ≡ Equal = sym h ∙ k in cc)) (same a b) refl
-
-pub ruleset by-order = (same-less, same-equal, same-greater)
 
 -- The order at a place of both strings.
 module _ (a b : Bytes) (i : ℕ) where

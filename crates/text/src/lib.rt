@@ -179,11 +179,7 @@ pub fn same_bytes(a: &[u8], b: &[u8]) -> bool
     if a.len() != b.len() {
         return false;
     }
-    match compare(a, b) {
-        Order::Less => false,
-        Order::Equal => true,
-        Order::Greater => false,
-    }
+    word_at(a, 0, b)
 }
 
 // Whether a byte is one of a set's.
