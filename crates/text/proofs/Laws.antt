@@ -52,6 +52,14 @@ module _ (a b : Bytes) where
   pub same-alike : length a ≡ length b → same a b ≡ starts b a
   same-alike h = same-starts a b ∙ rw (eq-eqb (length a) (length b) h)
 
+-- Strings that differ at a place are not the same.
+pub same-differs : (a b : Bytes) (i : ℕ) → (getD a i 0 ≡ getD b i 0 → ⊥) → same a b ≡ false
+same-differs a b i h = go (same a b) refl
+  where
+    go : (p : Bool) → same a b ≡ p → p ≡ false
+    go true e = absurd (h (ap (λ s. getD s i 0) (same-eq a b e)))
+    go false e = refl
+
 -- Sameness at a place of both strings.
 module _ (a b : Bytes) (i : ℕ) where
   pub same-end : length a ≤ i → length b ≤ i → same (drop i a) (drop i b) ≡ true

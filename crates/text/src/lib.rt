@@ -172,11 +172,18 @@ pub fn word_at(s: &[u8], at: usize, w: &[u8]) -> bool
     true
 }
 
-// Whether two strings have the same bytes.
+// Whether two strings have the same bytes. Names in a list are often alike but for their ends: the last byte goes first.
 pub fn same_bytes(a: &[u8], b: &[u8]) -> bool
     ensures { λ r. ⌜ r ≡ same (now (a .entry)) (now (b .entry)) ⌝ }
 {
-    if a.len() != b.len() {
+    let n = a.len();
+    if n != b.len() {
+        return false;
+    }
+    if n == 0 {
+        return true;
+    }
+    if a[n - 1] != b[n - 1] {
         return false;
     }
     word_at(a, 0, b)
