@@ -1,5 +1,5 @@
 -- The ways through `eval` and `eval_selector`.
-use Prim.Native.Nat.{ℕ, suc, _-_, _≤_, _<_}
+use Prim.Native.Nat.{ℕ, zero, suc, _-_, _≤_, _<_}
 use mathlib.Core.Path.{_≡_, refl, sym, ap, _∙_}
 use mathlib.Core.Bool.{Bool, true, false, _&&_, _||_, true≢false, false≢true}
 use mathlib.Core.List.{List, [], _∷_}
@@ -7,7 +7,7 @@ use mathlib.Core.Option.{Option, some, none}
 use native.Mathlib.Omega.{arith}
 use borrow.Author.Tests.{lt-ltb}
 use lib.Dec.{ltb}
-use lib.ListN.{getD}
+use lib.ListN.{getD, replicate}
 use Rattle.text.specs.Bytes.{Bytes}
 use Rattle.text.specs.Parts.{partOf}
 use Rattle.text.specs.Table.{tabulate}
@@ -32,7 +32,7 @@ use Rattle.query_core.proofs.Stacks.{stack-zero, stack-suc, stack-step}
 use Rattle.register_form.specs.Opened.{pageIn}
 use Rattle.register_form_view.specs.View.{Agrees}
 use Rattle.register_form_view.proofs.Opening.{known}
-use Rattle.ask_evaluation.specs.Meaning.{nameSpan, isSubquery, isSelection, matches, Selects, Links, pagesOf, Joined, marksOf, Means, Evaluates, stackWith}
+use Rattle.ask_evaluation.specs.Meaning.{nameSpan, isSubquery, isSelection, matches, Selects, pagesOf, Joined, marksOf, Means, Evaluates, stackWith}
 use Rattle.ask_evaluation.specs.declared.Evaluated.{Evaluated}
 
 -- The node m joins the last two queries on the stack by k, which means op.
@@ -106,23 +106,34 @@ or-joins : (R : Register) → Joins R Node.disjunction Core.disjunction _||_
 unfolding stepped Q
 or-joins R = record { empty = refl; single = λ b. refl; pair = λ b a st. refl; no-page = refl; means = λ a b p. refl }
 
+-- the set of no pages is what no page passes
+no-pages : (R : Register) (marks : List Bool) → marks ≡ replicate 256 false → Agrees R marks (λ p. false)
+unfolding Agrees
+no-pages R marks e j l = rw e (getD-none 256 j)
+  where
+    getD-none : (n j : ℕ) → getD (replicate n false) j false ≡ false
+    getD-none zero j = refl
+    getD-none (suc n) zero = refl
+    getD-none (suc n) (suc j) = getD-none n j
+
 abbrev named : Bytes → Span → Bytes
 named q p = partOf (heapIn q) p
 
 module _ (h : Bytes) (places : List ℕ) (q : Bytes) where
   -- eval_selector
   module _ (at : ℕ) (selector : Selector) (b : Bool) (is : b ≡ isSubquery selector) where
-    pub eval-leaf : (set : PageSet) → b ≡ false
-        → Selects h (heapIn q) selector (set .marks)
+    pub eval-leaf : (inner set : PageSet) → b ≡ false → inner .marks ≡ replicate 256 false
+        → Selects h places (heapIn q) selector (inner .marks) (set .marks)
         → Evaluates h places q (suc at) (stackWith q at selector) (record { set = set; next = at })
     unfolding Evaluates Selects S stepped
-    eval-leaf set e g R o = go selector (sym is ∙ e) (g places R o)
+    eval-leaf inner set e f g R o =
+        go selector (sym is ∙ e) (g R o (λ p. false) (no-pages R (inner .marks) f))
       where
         leaf : (m : Node) (k : Core.Selector) → ((st : List Core) → stepped m st ≡ some (Core.select k ∷ st))
             → set .marks ≡ tabulate 256 (λ j. ltb j (pagesOf R) && S k noMixed R (pageIn R j)) → Means R (pagesOf R) q (suc at) (stackAt q at >>= stepped m) (record { set = set; next = at })
         leaf m k p z = means-leaf R q at m k (record { set = set; next = at }) p z refl
 
-        go : (y : Selector) → isSubquery y ≡ false → set .marks ≡ tabulate 256 (λ j. ltb j (pagesOf R) && matches (heapIn q) (named q (nameSpan y)) y (pageIn R j))
+        go : (y : Selector) → isSubquery y ≡ false → set .marks ≡ tabulate 256 (λ j. ltb j (pagesOf R) && matches (heapIn q) (named q (nameSpan y)) R (λ p. false) y (pageIn R j))
             → Means R (pagesOf R) q (suc at) (stackWith q at y) (record { set = set; next = at })
         go (Selector.Category p) w z = leaf (Node.category (named q p)) (Core.Selector.category (named q p)) (λ st. refl) z
         go (Selector.Namespace p) w z = leaf (Node.namespace (named q p)) (Core.Selector.namespace (named q p)) (λ st. refl) z
@@ -132,20 +143,20 @@ module _ (h : Bytes) (places : List ℕ) (q : Bytes) where
         go (Selector.Value p o k) w z =
             leaf (Node.value (named q p) o (constantBy (heapIn q) k)) (Core.Selector.value (named q p) o (constantBy (heapIn q) k)) (λ st. refl) z
 
-    pub eval-within : (inner : Evaluated) (set : PageSet) (s : Span) (x : Bytes) → b ≡ true → Evaluates h places q at (stackAt q at) inner
-        → s ≡ nameSpan selector → x ≡ named q s → Links h places x (inner .set .marks) (set .marks)
+    pub eval-within : (inner : Evaluated) (set : PageSet) → b ≡ true → Evaluates h places q at (stackAt q at) inner
+        → Selects h places (heapIn q) selector (inner .set .marks) (set .marks)
         → Evaluates h places q (suc at) (stackWith q at selector) (record { set = set; next = inner .next })
-    unfolding Evaluates
-    eval-within inner set s x e i l m g R o = go selector (sym is ∙ e) (λ test a. rw (← l, ← m) (g R o test a))
+    unfolding Evaluates Selects
+    eval-within inner set e i g R o = go selector (sym is ∙ e) (g R o)
       where
         go : (y : Selector) → isSubquery y ≡ true
-            → ((test : Page → Bool) → Agrees R (inner .set .marks) test → set .marks ≡ tabulate 256 (λ j. ltb j (pagesOf R) && holds (named q (nameSpan y)) (follows noMixed R test) (pageIn R j)))
+            → ((test : Page → Bool) → Agrees R (inner .set .marks) test → set .marks ≡ tabulate 256 (λ j. ltb j (pagesOf R) && matches (heapIn q) (partOf (heapIn q) (nameSpan y)) R test y (pageIn R j)))
             → Means R (pagesOf R) q (suc at) (stackWith q at y) (record { set = set; next = inner .next })
         go (Selector.Category p) w f = absurd (false≢true w)
         go (Selector.Namespace p) w f = absurd (false≢true w)
         go (Selector.Existence p) w f = absurd (false≢true w)
         go (Selector.Subquery p) w f =
-            means-within R q at (named q p) (stackAt q at) inner (record { set = set; next = inner .next }) (known o .limits .pages) (i R o) f refl
+            means-within R q at (partOf (heapIn q) p) (stackAt q at) inner (record { set = set; next = inner .next }) (known o .limits .pages) (i R o) f refl
         go (Selector.Article o p) w f = absurd (false≢true w)
         go (Selector.Value p o k) w f = absurd (false≢true w)
 

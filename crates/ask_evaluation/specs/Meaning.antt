@@ -52,28 +52,23 @@ isSelection Connective.And = false
 isSelection Connective.Or = false
 isSelection Connective.Select = true
 
--- A page matches a selector with the name x, whose string lies in q; what a subquery selects is told with its query.
-abbrev pub matches : Bytes → Bytes → Selector → Page → Bool
-matches q x (Selector.Category p) page = any (same x) (page .categories)
-matches q x (Selector.Namespace p) page = same (page .identifier .namespace) x
-matches q x (Selector.Existence p) page = holds x (λ v. true) page
-matches q x (Selector.Subquery p) page = false
-matches q x (Selector.Article c p) page = Ca c (page .identifier .article) x
-matches q x (Selector.Value p c v) page = holds x (Cv noMixed c (constantBy q v)) page
+-- A page matches a selector with the name x, whose string lies in q; inner is what its subquery asks.
+abbrev pub matches : Bytes → Bytes → Register → (Page → Bool) → Selector → Page → Bool
+matches q x R inner (Selector.Category p) page = any (same x) (page .categories)
+matches q x R inner (Selector.Namespace p) page = same (page .identifier .namespace) x
+matches q x R inner (Selector.Existence p) page = holds x (λ v. true) page
+matches q x R inner (Selector.Subquery p) page = holds x (follows noMixed R inner) page
+matches q x R inner (Selector.Article c p) page = Ca c (page .identifier .article) x
+matches q x R inner (Selector.Value p c v) page = holds x (Cv noMixed c (constantBy q v)) page
 
 -- How many pages a register has.
 abbrev pub pagesOf : Register → ℕ
 pagesOf R = length (R .pages)
 
--- The marks of the pages that match.
-unfoldable pub Selects : Bytes → Bytes → Selector → List Bool → Type 0
-Selects h q selector marks =
-    (places : List ℕ) (R : Register) → Opened h places R → marks ≡ marksIn R (matches q (partOf q (nameSpan selector)) selector)
-
--- The marks of the pages with a link, under the property x, to a page of a set.
-abbrev pub Links : Bytes → List ℕ → Bytes → List Bool → List Bool → Type 0
-Links h places x set marks =
-    (R : Register) → Opened h places R → (inner : Page → Bool) → Agrees R set inner → marks ≡ marksIn R (holds x (follows noMixed R inner))
+-- The marks of the pages that match, where the set's marks are what the subquery selects.
+unfoldable pub Selects : Bytes → List ℕ → Bytes → Selector → List Bool → List Bool → Type 0
+Selects h places q selector set marks =
+    (R : Register) → Opened h places R → (inner : Page → Bool) → Agrees R set inner → marks ≡ marksIn R (matches q (partOf q (nameSpan selector)) R inner selector)
 
 -- Two sets joined by a connective.
 abbrev pub Joined : Connective → List Bool → List Bool → List Bool → Type 0

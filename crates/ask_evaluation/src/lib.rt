@@ -1,7 +1,6 @@
 // The evaluation of core queries: page sets from the nodes of a held query.
 ghost use mathlib.Core.Path.{_≡_};
 ghost use Prim.Native.Nat.{suc};
-ghost use Rattle.text.specs.Parts.{partOf};
 ghost use Rattle.query_core.specs.Held.{heapIn};
 ghost use Rattle.query_core.specs.Stack.{stackAt};
 ghost use Rattle.ask_evaluation.specs.Meaning.{Capped, nameSpan, isSubquery, isSelection, Selects, Joined, Evaluates, stackWith};
@@ -87,24 +86,21 @@ fn is_selection(connective: Connective) -> bool
     }
 }
 
-// The string of a held query that lies in a place.
-fn string_at(q: &[u8], p: Span) -> &[u8]
-    ensures { λ r. ⌜ now r ≡ partOf (heapIn (now (q .entry))) p ⌝ }
-{
-    part(query_heap(q), p.start, p.len)
-}
-
-// The pages that match a selector; those of a subquery are found where its query is evaluated.
-fn select(q: &[u8], selector: Selector, h: &[u8]) -> PageSet
-    ensures { λ r. ⌜ Selects (now (h .entry)) (heapIn (now (q .entry))) selector (r .marks) ⌝ }
+// The pages that match a selector; inner are those that its subquery selects.
+fn select(q: &[u8], selector: Selector, inner: PageSet, h: &[u8], places: &[u16]) -> PageSet
+    ensures { λ r. ⌜ Selects (now (h .entry)) (now (places .entry)) (heapIn (now (q .entry))) selector (inner .marks) (r .marks) ⌝ }
 {
     let heap = query_heap(q);
-    let x = string_at(q, name_of(selector));
+    let p = name_of(selector);
+    let x = part(heap, p.start, p.len);
     match selector {
         Selector::Category(_) => pages_in_category(h, x),
         Selector::Namespace(_) => pages_named(h, NameTest::Namespace, x),
         Selector::Existence(_) => pages_with_property(h, x),
-        Selector::Subquery(_) => PageSet::none(),
+        Selector::Subquery(_) => {
+            let marks = inner.marks;
+            pages_with_link(h, places, x, &marks)
+        }
         Selector::Article(o, _) => pages_named(h, NameTest::Article(o), x),
         Selector::Value(_, o, v) => pages_with_value(h, x, o, v, heap),
     }
@@ -168,14 +164,14 @@ fn eval_selector(q: &[u8], at: usize, selector: Selector, h: &[u8], places: &[u1
     if is_subquery(selector) {
         let inner = eval(q, at, h, places);
         let set = inner.set;
-        let marks = set.marks;
         return Evaluated {
-            set: pages_with_link(h, places, string_at(q, name_of(selector)), &marks),
+            set: select(q, selector, set, h, places),
             next: inner.next,
         };
     }
+    let none = PageSet::none();
     Evaluated {
-        set: select(q, selector, h),
+        set: select(q, selector, none, h, places),
         next: at,
     }
 }

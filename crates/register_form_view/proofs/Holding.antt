@@ -1,16 +1,17 @@
 -- What a page of an opened register holds, by its terms.
 use Prim.Native.Nat.{ℕ, suc, _+_, _*_, _≤_, _<_}
 use mathlib.Core.Path.{_≡_, refl, sym, ap, ap₂, _∙_}
-use mathlib.Core.Bool.{Bool, true, _&&_, _||_, or-false, and-true}
+use mathlib.Core.Bool.{Bool, true, false, _&&_, _||_, or-false, and-true}
 use mathlib.Core.List.{List, [], _∷_, _++_, map, List·Memᴰ}
-use borrow.Author.Tests.{ltb-true}
+use native.Mathlib.Omega.{arith}
+use borrow.Author.Tests.{ltb-true, ltb-false}
 use lib.Dec.{ltb}
-use lib.ListN.{length}
+use lib.ListN.{length, getD, List·getD-eq-default}
 use Rattle.text.specs.Bytes.{Bytes, same, any, numbers, orderOf}
 use Rattle.text.specs.Table.{tabulate}
 use Rattle.text.specs.declared.Order.{Order}
 use Rattle.text.proofs.Laws.{any-append}
-use Rattle.text.proofs.Tables.{tabulate-ext}
+use Rattle.text.proofs.Tables.{length-tabulate, getD-tabulate, tabulate-ext}
 use Rattle.values.specs.Values.{Value, kindOf}
 use Rattle.language.specs.Register.{Held, Page, Register, holds}
 use Rattle.language.specs.RegisterText.{emptyPage}
@@ -24,6 +25,7 @@ use Rattle.register_form.specs.Encoding.{identifierText, categoryTerm, valueTer
 use Rattle.register_form.specs.Form.{pageCount, formStart, registerIn, pageAt, textAt}
 use Rattle.register_form.specs.Opened.{pageIn, Opened}
 use Rattle.register_form.proofs.Lists.{mem-at}
+use Rattle.register_form.proofs.Rules.{terms-few}
 use Rattle.register_form.proofs.Decoded.{page-text}
 use Rattle.register_form_view.specs.Ranges.{RankOf, ConstantRank, nameOrder, termNumber, within, CategoryRange, PropertyRange}
 use Rattle.register_form_view.specs.View.{standsAt, leadsInto, formBytes, numbersIn, formPasses, namePasses, namePassesAt, marksBy, marksIn, Agrees}
@@ -31,6 +33,7 @@ use Rattle.register_form_view.specs.declared.NameTest.{NameTest}
 use Rattle.register_form_view.specs.declared.Rank.{Rank}
 use Rattle.register_form_view.specs.declared.TermRange.{TermRange}
 use Rattle.register_form_view.proofs.Opening.{known, count-pages, page-row, forms-there}
+use Rattle.register_form_view.proofs.Looking.{range-above}
 use Rattle.register_form_view.proofs.Leading.{form, stands-there, leads-there}
 use Rattle.register_form_view.proofs.Ordering.{order-ranked, order-compared, name-order}
 
@@ -92,14 +95,33 @@ module _ {h : Bytes} {places : List ℕ} {R : Register} (o : Opened h places R) 
         tabulate-ext 256 _ _ (λ j k. ap (λ (p : Bool). ltb j (pageCount h) && p) (any-same _ _ (numbersIn (formBytes h (formStart h j) (formStart h (suc j)))) (λ f n. sym (and-true (within r f)))))
         ∙ marks-are _ (holds x (λ v. true)) (λ i b. property-held o i b x r c (λ f. true) (λ v. true) (λ v n k. refl))
 
-    pub value-pages : (q : Bytes) (rank : Rank) (d : Comparator) (w : Constant) → ConstantRank h q w rank → marksBy h (λ f. within r f && standsAt h q rank d w (r .kind) f) ≡ marksIn R (holds x (Cv noMixed d (constantBy q w)))
-    value-pages q rank d w f =
-        marks-are _ (holds x (Cv noMixed d (constantBy q w)))
+    -- by a table that has each term of the range that passes
+    table-has : (p : ℕ → Bool) (wanted : List Bool) → wanted ≡ tabulate 2048 (λ f. within r f && p f) → marksBy h (λ f. getD wanted f false) ≡ marksBy h (λ f. within r f && p f)
+    table-has p wanted e =
+        tabulate-ext 256 _ _
+        (λ j k.
+        ap (λ (b : Bool). ltb j (pageCount h) && b)
+        (any-same _ _ (numbersIn (formBytes h (formStart h j) (formStart h (suc j))))
+        (λ f n.
+        by-test (ltb f 2048)
+        (λ t. rw e (getD-tabulate 2048 (λ f. within r f && p f) false f (ltb-true f 2048 t)))
+        (λ t.
+        let past : 2048 ≤ f = ltb-false f 2048 t in
+        let short : length wanted ≤ f = omega (arith, ap length e, length-tabulate 2048 (λ f. within r f && p f)) in
+        List·getD-eq-default wanted false short ∙ sym (range-above (r .low) (r .high) p f (omega (arith, c .most, terms-few R (known o .limits))))))))
+
+    pub value-pages : (q : Bytes) (rank : Rank) (d : Comparator) (w : Constant) → ConstantRank h q w rank → (wanted : List Bool) → wanted ≡ tabulate 2048 (λ f. within r f && standsAt h q rank d w (r .kind) f)
+        → marksBy h (λ f. getD wanted f false) ≡ marksIn R (holds x (Cv noMixed d (constantBy q w)))
+    value-pages q rank d w f wanted e =
+        table-has _ wanted e
+        ∙ marks-are _ (holds x (Cv noMixed d (constantBy q w)))
         (λ i b. property-held o i b x r c _ _ (λ v n k. rw k (stands-there (known o) (page-member o i b) n q rank d w f)))
 
-    pub link-pages : (marks : List Bool) (inner : Page → Bool) → Agrees R marks inner → marksBy h (λ f. within r f && leadsInto h places marks (r .kind) f) ≡ marksIn R (holds x (follows noMixed R inner))
-    link-pages marks inner a =
-        marks-are _ (holds x (follows noMixed R inner))
+    pub link-pages : (marks : List Bool) (inner : Page → Bool) → Agrees R marks inner → (wanted : List Bool) → wanted ≡ tabulate 2048 (λ f. within r f && leadsInto h places marks (r .kind) f)
+        → marksBy h (λ f. getD wanted f false) ≡ marksIn R (holds x (follows noMixed R inner))
+    link-pages marks inner a wanted e =
+        table-has _ wanted e
+        ∙ marks-are _ (holds x (follows noMixed R inner))
         (λ i b. property-held o i b x r c _ _ (λ v n k. rw k (leads-there o (page-member o i b) n marks inner a)))
 
   pub named-pages : (x : Bytes) (test : NameTest) (rank : Rank) → RankOf h x rank → (n : ℕ) → n ≡ pageCount h → tabulate 256 (λ j. ltb j n && namePassesAt h x rank test j) ≡ marksIn R (namePasses x test)

@@ -4,8 +4,8 @@ use mathlib.Core.Path.{_≡_, refl, sym, ap, ap₂, _∙_}
 use mathlib.Core.Bool.{Bool, true, false, cond, _&&_, _||_, or-false}
 use mathlib.Core.List.{List, [], _∷_}
 use native.Mathlib.Omega.{arith}
-use borrow.Author.Tests.{ltb-true, ltb-false}
-use lib.Dec.{ltb, eqb}
+use borrow.Author.Tests.{ltb-true, ltb-false, lt-ltb, le-ltb, le-leb, lt-leb}
+use lib.Dec.{leb, ltb, eqb}
 use lib.IntN.{pos, negsuc, subℕ}
 use lib.ListN.{length, getD}
 use Rattle.text.specs.Bytes.{Bytes, part, numbers, orderOf, any}
@@ -120,15 +120,23 @@ module _ (h : Bytes) (places : List ℕ) (marks : List Bool) (k : Kind) (f : ℕ
 
 pub ruleset passing = (marked-none, marked-one, leads-page)
 
--- term_stands, term_leads: of the range, and passing
-module _ (b w : Bool) (is : b ≡ w) where
-  pub term-inside : (r t : Bool) → b ≡ true → r ≡ t → r ≡ (w && t)
-  term-inside r t e f = rw (← is, e) f
+-- The terms from low up to high that pass: below them, above them and among them.
+module _ (low high : ℕ) (p : ℕ → Bool) (j : ℕ) where
+  abbrev Passing : Bool
+  Passing = (leb low j && ltb j high) && p j
 
-  pub term-outside : (t : Bool) → b ≡ false → false ≡ (w && t)
-  term-outside t e = rw (← is, e)
+  pub range-below : j < low → Passing ≡ false
+  range-below l = rw (lt-leb low j l)
 
-pub ruleset being-of = (term-inside, term-outside)
+  pub range-above : high ≤ j → Passing ≡ false
+  range-above l = rw (le-ltb j high l) (go (leb low j))
+    where
+      go : (b : Bool) → ((b && false) && p j) ≡ false
+      go true = refl
+      go false = refl
+
+  pub range-at : (b : Bool) → low ≤ j → j < high → b ≡ p j → b ≡ Passing
+  range-at b l k e = rw (le-leb low j l, lt-ltb j high k) e
 
 any-one : (p : ℕ → Bool) (n : ℕ) → any p (n ∷ []) ≡ p n
 unfolding any

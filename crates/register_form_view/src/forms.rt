@@ -1,11 +1,14 @@
 // What is asked of a term, and of the terms of a page.
 ghost use mathlib.Core.Path.{_≡_};
-ghost use mathlib.Core.Bool.{_&&_};
+ghost use mathlib.Core.Bool.{false, _&&_};
+ghost use lib.ListN.{getD};
 ghost use Rattle.text.specs.Bytes.{any};
+ghost use Rattle.text.specs.Table.{tabulate};
 ghost use Rattle.register_form_view.specs.Ranges.{within};
 ghost use Rattle.register_form_view.specs.View.{textNumber, standsAt, marked, leadsInto, formBytes, numbersIn};
 use crate::Rank;
 use crate::TermRange;
+use crate::TermSet;
 use crate::compare_booleans;
 use crate::ranks::compare_name;
 use crate::ranks::order_by;
@@ -97,34 +100,43 @@ fn is_within(range: TermRange, f: u16) -> bool
     (range.low <= f) & (f < range.high)
 }
 
-// Whether term f is of a range and stands to a constant.
-fn term_stands(
+// Which terms are of a range and stand to a constant: each is tested once.
+pub fn terms_standing(
     h: &[u8],
     range: TermRange,
-    f: u16,
     c: Comparator,
     w: Constant,
     q: &[u8],
     rank: Rank,
-) -> bool
-    ensures { λ r. ⌜ r ≡ (within range f && standsAt (now (h .entry)) (now (q .entry)) rank c w (range .kind) f) ⌝ }
+) -> TermSet
+    ensures { λ r. ⌜ r .marks ≡ tabulate 2048 (λ f. within range f && standsAt (now (h .entry)) (now (q .entry)) rank c w (range .kind) f) ⌝ }
 {
-    if is_within(range, f) {
-        let k = range.kind;
-        return value_stands(h, f, k, c, w, q, rank);
+    let k = range.kind;
+    let high = range.high;
+    let mut wanted = [false; 2048];
+    let mut f = range.low;
+    while (f < high) & (f < 2048) {
+        let at = widen(f);
+        wanted[at] = value_stands(h, f, k, c, w, q, rank);
+        f += 1;
     }
-    false
+    TermSet { marks: wanted }
 }
 
-// Whether term f is of a range and leads to a page of a set.
-fn term_leads(h: &[u8], range: TermRange, f: u16, places: &[u16], marks: &[bool]) -> bool
-    ensures { λ r. ⌜ r ≡ (within range f && leadsInto (now (h .entry)) (now (places .entry)) (now (marks .entry)) (range .kind) f) ⌝ }
+// Which terms are of a range and lead to a page of a set.
+pub fn terms_leading(h: &[u8], places: &[u16], range: TermRange, marks: &[bool]) -> TermSet
+    ensures { λ r. ⌜ r .marks ≡ tabulate 2048 (λ f. within range f && leadsInto (now (h .entry)) (now (places .entry)) (now (marks .entry)) (range .kind) f) ⌝ }
 {
-    if is_within(range, f) {
-        let k = range.kind;
-        return leads_into(h, places, f, k, marks);
+    let k = range.kind;
+    let high = range.high;
+    let mut wanted = [false; 2048];
+    let mut f = range.low;
+    while (f < high) & (f < 2048) {
+        let at = widen(f);
+        wanted[at] = leads_into(h, places, f, k, marks);
+        f += 1;
     }
-    false
+    TermSet { marks: wanted }
 }
 
 // Whether one of the terms whose numbers stand in the bytes is of a range. All are looked at: leaving at the first gains
@@ -141,41 +153,14 @@ pub fn some_within(forms: &[u8], range: TermRange) -> bool
     some
 }
 
-// Whether one of them is of a range and stands to a constant.
-pub fn some_standing(
-    h: &[u8],
-    forms: &[u8],
-    range: TermRange,
-    c: Comparator,
-    w: Constant,
-    q: &[u8],
-    rank: Rank,
-) -> bool
-    ensures { λ r. ⌜ r ≡ any (λ f. within range f && standsAt (now (h .entry)) (now (q .entry)) rank c w (range .kind) f) (numbersIn (now (forms .entry))) ⌝ }
+// Whether one of them is marked.
+pub fn some_marked(forms: &[u8], wanted: &[bool]) -> bool
+    ensures { λ r. ⌜ r ≡ any (λ f. getD (now (wanted .entry)) f false) (numbersIn (now (forms .entry))) ⌝ }
 {
     let mut some = false;
     let mut at: usize = 0;
     while at + 2 <= forms.len() {
-        some = some | term_stands(h, range, two_at(forms, at), c, w, q, rank);
-        at += 2;
-    }
-    some
-}
-
-// Whether one of them is of a range and leads to a page of a set.
-pub fn some_leading(
-    h: &[u8],
-    forms: &[u8],
-    range: TermRange,
-    places: &[u16],
-    marks: &[bool],
-) -> bool
-    ensures { λ r. ⌜ r ≡ any (λ f. within range f && leadsInto (now (h .entry)) (now (places .entry)) (now (marks .entry)) (range .kind) f) (numbersIn (now (forms .entry))) ⌝ }
-{
-    let mut some = false;
-    let mut at: usize = 0;
-    while at + 2 <= forms.len() {
-        some = some | term_leads(h, range, two_at(forms, at), places, marks);
+        some = some | mark_at(wanted, widen(two_at(forms, at)));
         at += 2;
     }
     some

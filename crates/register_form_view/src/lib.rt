@@ -67,6 +67,11 @@ pub struct Rank {
     pub key: u64,
 }
 
+// A set of terms: the mark at a term's number says whether it is in.
+pub struct TermSet {
+    pub marks: [bool; 2048],
+}
+
 // What is asked of a page's identifier: that it has a namespace, or an article name that stands to another as a comparator says.
 pub enum NameTest {
     Namespace,

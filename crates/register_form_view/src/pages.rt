@@ -1,8 +1,9 @@
 // The pages of a register that pass a test.
 ghost use mathlib.Core.Path.{_≡_};
-ghost use mathlib.Core.Bool.{Bool, true};
+ghost use mathlib.Core.Bool.{Bool, true, false};
 ghost use mathlib.Core.List.{List};
 ghost use Prim.Native.Nat.{ℕ};
+ghost use lib.ListN.{getD};
 ghost use Rattle.text.specs.Bytes.{same, any};
 ghost use Rattle.language.specs.Register.{Page, Register, holds};
 ghost use Rattle.language.specs.Semantics.{Cv, follows, noMixed};
@@ -14,9 +15,10 @@ use crate::NameTest;
 use crate::Rank;
 use crate::TermRange;
 use crate::forms::forms_between;
-use crate::forms::some_leading;
-use crate::forms::some_standing;
+use crate::forms::some_marked;
 use crate::forms::some_within;
+use crate::forms::terms_leading;
+use crate::forms::terms_standing;
 use crate::namespace_at;
 use crate::ranges::category_range;
 use crate::ranges::property_range;
@@ -31,6 +33,7 @@ use query_core::Constant;
 use register_form::form_end;
 use register_form::form_start;
 use register_form::identifier_number;
+use register_form::minus;
 use register_form::page_count;
 use tables::widen;
 use text::same_bytes;
@@ -43,9 +46,28 @@ fn pages_within(h: &[u8], range: TermRange) -> PageSet
     let mut set = PageSet::none();
     let mut start = form_start(h, 0);
     let mut i: u16 = 0;
-    while i < n {
+    while (i < n) & (i < 256) {
         let end = form_end(h, i);
         if some_within(forms_between(h, start, end), range) {
+            set = set.with(widen(i));
+        }
+        start = end;
+        i += 1;
+    }
+    set
+}
+
+// The pages that have a marked term.
+fn pages_marked(h: &[u8], wanted: &[bool]) -> PageSet
+    ensures { λ r. ⌜ r .marks ≡ marksBy (now (h .entry)) (λ f. getD (now (wanted .entry)) f false) ⌝ }
+{
+    let n = page_count(h);
+    let mut set = PageSet::none();
+    let mut start = form_start(h, 0);
+    let mut i: u16 = 0;
+    while (i < n) & (i < 256) {
+        let end = form_end(h, i);
+        if some_marked(forms_between(h, start, end), wanted) {
             set = set.with(widen(i));
         }
         start = end;
@@ -73,20 +95,10 @@ pub fn pages_with_value(h: &[u8], x: &[u8], c: Comparator, w: Constant, q: &[u8]
     ensures { λ r. ⌜ ((places : List ℕ) (R : Register) → Opened (now (h .entry)) places R → r .marks ≡ marksIn R (holds (now (x .entry)) (Cv noMixed c (constantBy (now (q .entry)) w)))) ⌝ }
 {
     let range = property_range(h, x);
-    let n = page_count(h);
-    let rank = rank_for(h, w, q, n);
-    let mut set = PageSet::none();
-    let mut start = form_start(h, 0);
-    let mut i: u16 = 0;
-    while i < n {
-        let end = form_end(h, i);
-        if some_standing(h, forms_between(h, start, end), range, c, w, q, rank) {
-            set = set.with(widen(i));
-        }
-        start = end;
-        i += 1;
-    }
-    set
+    let rank = rank_for(h, w, q, minus(range.high, range.low));
+    let terms = terms_standing(h, range, c, w, q, rank);
+    let wanted = terms.marks;
+    pages_marked(h, &wanted)
 }
 
 // The pages that hold, under the property x, a link to a page of a set.
@@ -94,19 +106,9 @@ pub fn pages_with_link(h: &[u8], places: &[u16], x: &[u8], marks: &[bool]) -> Pa
     ensures { λ r. ⌜ ((R : Register) → Opened (now (h .entry)) (now (places .entry)) R → (inner : Page → Bool) → Agrees R (now (marks .entry)) inner → r .marks ≡ marksIn R (holds (now (x .entry)) (follows noMixed R inner))) ⌝ }
 {
     let range = property_range(h, x);
-    let n = page_count(h);
-    let mut set = PageSet::none();
-    let mut start = form_start(h, 0);
-    let mut i: u16 = 0;
-    while i < n {
-        let end = form_end(h, i);
-        if some_leading(h, forms_between(h, start, end), range, places, marks) {
-            set = set.with(widen(i));
-        }
-        start = end;
-        i += 1;
-    }
-    set
+    let terms = terms_leading(h, places, range, marks);
+    let wanted = terms.marks;
+    pages_marked(h, &wanted)
 }
 
 // Whether the page in place i has a namespace or an article name that stands to x, which has a rank, as a test asks.
@@ -134,7 +136,7 @@ pub fn pages_named(h: &[u8], test: NameTest, x: &[u8]) -> PageSet
     let rank = rank_of(h, x, n);
     let mut set = PageSet::none();
     let mut i: u16 = 0;
-    while i < n {
+    while (i < n) & (i < 256) {
         if name_passes(h, i, test, x, rank) {
             set = set.with(widen(i));
         }

@@ -14,12 +14,10 @@ use Rattle.ask_evaluation.proofs.+eval+eval_selector.Lts-eval_selector 
 use Rattle.ask_evaluation.proofs.is_selection.Reads as is-selection-reads
 use Rattle.ask_evaluation.proofs.is_subquery.Reads as is-subquery-reads
 use Rattle.ask_evaluation.proofs.join.Reads as join-reads
-use Rattle.ask_evaluation.proofs.name_of.Reads as name-of-reads
 use Rattle.ask_evaluation.proofs.nothing.Reads as nothing-reads
 use Rattle.ask_evaluation.proofs.select.Reads as select-reads
-use Rattle.ask_evaluation.proofs.string_at.Reads as string-at-reads
 use Rattle.query_core.proofs.node_at.Reads as node-at-reads
-use Rattle.register_form_view.proofs.pages_with_link.Reads as pages-with-link-reads
+use Rattle.pageset.proofs.PageSet.none.Reads as none-reads
 use Rattle.ask_evaluation.proofs.+eval+eval_selector.{statement}
 use Rattle.ask_evaluation.proofs.+eval+eval_selector.Tie.{close}
 
@@ -51,7 +49,7 @@ abbrev eval-calls : ℕ → eval-lts.Claims
 eval-calls t = (nothing-reads.Asked, nothing-reads.Learnt, node-at-reads.Asked, node-at-reads.Learnt, is-selection-reads.Asked, is-selection-reads.Learnt, eval-selector-below t, eval-selector.Post, eval-below t, eval.Post, join-reads.Asked, join-reads.Learnt)
 
 abbrev eval-selector-calls : ℕ → eval-selector-lts.Claims
-eval-selector-calls t = (is-subquery-reads.Asked, is-subquery-reads.Learnt, eval-below t, eval.Post, name-of-reads.Asked, name-of-reads.Learnt, string-at-reads.Asked, string-at-reads.Learnt, pages-with-link-reads.Asked, pages-with-link-reads.Learnt, select-reads.Asked, select-reads.Learnt)
+eval-selector-calls t = (is-subquery-reads.Asked, is-subquery-reads.Learnt, eval-below t, eval.Post, select-reads.Asked, select-reads.Learnt, none-reads.Asked, none-reads.Learnt)
 
 eval-nothing-requires : (t : ℕ) → eval-lts.Need-nothing-requires (eval-calls t) (eval-at t) eval.Post
 eval-nothing-requires t c κs = search needs
@@ -110,23 +108,17 @@ eval-selector-is-subquery-requires t c κs = search needs
 eval-selector-eval-requires : (t : ℕ) → eval-selector-lts.Need-eval-requires (eval-selector-calls t) (eval-selector-at t) eval-selector.Post
 eval-selector-eval-requires t c κs = (omega arith, tt)
 
-eval-selector-name-of-requires : (t : ℕ) → eval-selector-lts.Need-name-of-requires (eval-selector-calls t) (eval-selector-at t) eval-selector.Post
-eval-selector-name-of-requires t c κs = search needs
-
-eval-selector-string-at-requires : (t : ℕ) → eval-selector-lts.Need-string-at-requires (eval-selector-calls t) (eval-selector-at t) eval-selector.Post
-eval-selector-string-at-requires t c κs = search needs
-
-eval-selector-slice-aggregate-pages-with-link : (t : ℕ) → eval-selector-lts.Need-slice-aggregate-pages-with-link (eval-selector-calls t) (eval-selector-at t) eval-selector.Post
-eval-selector-slice-aggregate-pages-with-link t c = search needs
-
-eval-selector-pages-with-link-requires : (t : ℕ) → eval-selector-lts.Need-pages-with-link-requires (eval-selector-calls t) (eval-selector-at t) eval-selector.Post
-eval-selector-pages-with-link-requires t c κs = search needs
+eval-selector-select-requires : (t : ℕ) → eval-selector-lts.Need-select-requires (eval-selector-calls t) (eval-selector-at t) eval-selector.Post
+eval-selector-select-requires t c κs = search needs
 
 eval-selector-returns : (t : ℕ) → eval-selector-lts.Need-returns (eval-selector-calls t) (eval-selector-at t) eval-selector.Post
 eval-selector-returns t c = search (evaluating, needs)
 
-eval-selector-select-requires : (t : ℕ) → eval-selector-lts.Need-select-requires (eval-selector-calls t) (eval-selector-at t) eval-selector.Post
-eval-selector-select-requires t c κs = search needs
+eval-selector-none-requires : (t : ℕ) → eval-selector-lts.Need-none-requires (eval-selector-calls t) (eval-selector-at t) eval-selector.Post
+eval-selector-none-requires t c κs = search needs
+
+eval-selector-select-requires-2 : (t : ℕ) → eval-selector-lts.Need-select-requires-2 (eval-selector-calls t) (eval-selector-at t) eval-selector.Post
+eval-selector-select-requires-2 t c κs = search needs
 
 eval-selector-returns-2 : (t : ℕ) → eval-selector-lts.Need-returns-2 (eval-selector-calls t) (eval-selector-at t) eval-selector.Post
 eval-selector-returns-2 t c = search (evaluating, needs)
@@ -153,10 +145,8 @@ pub +eval+eval-selector-spec : {M : Type 1} → statement M
     λ t. eval-selector-lts.spec (eval-selector-calls t) (eval-selector-at t) eval-selector.Post
     (eval-selector-is-subquery-requires t)
     (eval-selector-eval-requires t)
-    (eval-selector-name-of-requires t)
-    (eval-selector-string-at-requires t)
-    (eval-selector-slice-aggregate-pages-with-link t)
-    (eval-selector-pages-with-link-requires t)
-    (eval-selector-returns t)
     (eval-selector-select-requires t)
+    (eval-selector-returns t)
+    (eval-selector-none-requires t)
+    (eval-selector-select-requires-2 t)
     (eval-selector-returns-2 t)

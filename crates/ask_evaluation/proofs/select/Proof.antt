@@ -9,8 +9,8 @@ query-heap-requires c κs = search needs
 name-of-requires : tie.Need-name-of-requires
 name-of-requires c κs = search needs
 
-string-at-requires : tie.Need-string-at-requires
-string-at-requires c κs = search needs
+part-requires : tie.Need-part-requires
+part-requires c κs = search needs
 
 enum-told : tie.Need-enum-told
 enum-told c = search needs
@@ -33,8 +33,11 @@ pages-with-property-requires c κs = search needs
 enum-told-4 : tie.Need-enum-told-4
 enum-told-4 c = search needs
 
-none-requires : tie.Need-none-requires
-none-requires c κs = search needs
+slice-aggregate-pages-with-link : tie.Need-slice-aggregate-pages-with-link
+slice-aggregate-pages-with-link c = search needs
+
+pages-with-link-requires : tie.Need-pages-with-link-requires
+pages-with-link-requires c κs = search needs
 
 enum-known-selector : tie.Need-enum-known-selector
 enum-known-selector c = search needs
@@ -72,7 +75,7 @@ select-spec =
     (tie.spec
     query-heap-requires
     name-of-requires
-    string-at-requires
+    part-requires
     enum-told
     pages-in-category-requires
     enum-told-2
@@ -80,7 +83,8 @@ select-spec =
     enum-told-3
     pages-with-property-requires
     enum-told-4
-    none-requires
+    slice-aggregate-pages-with-link
+    pages-with-link-requires
     enum-known-selector
     pages-named-requires-2
     enum-known-selector-2

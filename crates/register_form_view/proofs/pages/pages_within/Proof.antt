@@ -1,18 +1,18 @@
+use Prim.Native.Nat.{_-_, _<_}
 use mathlib.Core.Logic.{⊎-elim}
-use native.Mathlib.Numerals.{add-one}
-use Prim.Native.Nat.{_-_, _≤_}
-use mathlib.Core.Path.{_≡_, refl, _∙_}
 use native.Mathlib.Omega.{arith}
+use native.Mathlib.Numerals.{add-one}
+use mathlib.Core.Path.{_≡_, refl, _∙_}
 use Rattle.register_form.specs.Form.{formStart}
-use Rattle.register_form_view.specs.Ranges.{within}
 use Rattle.register_form_view.specs.View.{formPasses}
-use Rattle.register_form_view.proofs.Marks.{Marked, marked-none, marked-with, marked-same, marked-all, form-passes}
+use Rattle.register_form_view.specs.Ranges.{within}
+use Rattle.register_form_view.proofs.Marks.{goes-place, goes-less, Taken, taken-none, taken-with, taken-same, taken-all, form-passes}
 use borrow.Author.Needs.{needs}
 use Rattle.register_form_view.proofs.pages.pages_within.Statement.{statement}
 use Rattle.register_form_view.proofs.pages.pages_within.Tie as tie
 
 abbrev Inv-loop : tie.InvT-loop
-Inv-loop h range n set₀ start₀ i₀ set start i = (i ≤ n) × (start ≡ formStart h i) × Marked 256 (formPasses h (within range)) i (set .marks)
+Inv-loop h range n set₀ start₀ i₀ set start i = (start ≡ formStart h i) × Taken n (formPasses h (within range)) i set
 
 abbrev μ-loop : tie.MeasureT-loop
 μ-loop h range n set₀ start₀ i₀ set start i = n - i
@@ -27,7 +27,7 @@ form-start-requires : tie.Need-form-start-requires Inv-loop μ-loop
 form-start-requires c κs = search needs
 
 loop-holds : tie.Need-loop-holds Inv-loop μ-loop
-loop-holds c = (omega arith, c .form-start .ensures, marked-none 256 _ _ (c .before .none .ensures))
+loop-holds c = (c .form-start .ensures, taken-none _ _ _ (c .before .none .ensures))
 
 form-end-requires : tie.Need-form-end-requires Inv-loop μ-loop
 form-end-requires c κs = search needs
@@ -45,19 +45,19 @@ with-requires : tie.Need-with-requires Inv-loop μ-loop
 with-requires c κs = search needs
 
 add-i : tie.Need-add-i Inv-loop μ-loop
-add-i c = omega arith
+add-i c = let l : c .before .before .before .before .before .loop .i < 256 = goes-place _ _ _ _ (c .before .before .before .before .loop-test .taken) refl in omega arith
 
 loop-less : tie.Need-loop-less Inv-loop μ-loop
-loop-less c = omega arith
+loop-less c = goes-less _ _ _ (c .before .before .before .before .loop-test .taken)
 
 loop-again : tie.Need-loop-again Inv-loop μ-loop
 loop-again c =
-    let is = form-passes _ _ _ _ _ _ _ (c .before .before .before .before .before .loop .inv .1) (c .before .before .before .form-end .ensures) (c .before .before .forms-between .ensures) (c .before .some-within .ensures) in
-    let so-far = c .before .before .before .before .before .loop .inv .2 in
-    (omega arith, c .before .before .before .form-end .ensures ∙ rw add-one, ⊎-elim (λ w. marked-with 256 _ _ _ so-far _ is _ _ _ (w .0 .taken) (w .1 .ensures) (w .2 .ensures) (w .3)) (λ w. marked-same 256 _ _ _ so-far _ is _ _ (w .0 .left) refl (w .1)) (c .if1 .came))
+    let is = form-passes _ _ _ _ _ _ _ (c .before .before .before .before .before .loop .inv .0) (c .before .before .before .form-end .ensures) (c .before .before .forms-between .ensures) (c .before .some-within .ensures) in
+    let so-far = c .before .before .before .before .before .loop .inv .1 in
+    (c .before .before .before .form-end .ensures ∙ rw add-one, ⊎-elim (λ w. taken-with _ _ _ _ so-far (c .before .before .before .before .loop-test .taken) _ is _ _ _ (w .0 .taken) (w .1 .ensures) (w .2 .ensures) (w .3)) (λ w. taken-same _ _ _ _ so-far (c .before .before .before .before .loop-test .taken) _ is _ (w .0 .left) (w .1)) (c .if1 .came))
 
 returns : tie.Need-returns Inv-loop μ-loop
-returns c = marked-all 256 _ _ _ _ _ (c .before .loop .inv .2) (c .before .loop .inv .0) (c .loop-test .left) (c .before .before .before .before .page-count .ensures)
+returns c = taken-all _ _ _ _ (c .before .loop .inv .1) _ (c .loop-test .left) (c .before .before .before .before .page-count .ensures)
 
 pub pages-within-spec : {M : Type 1} → statement M
 pages-within-spec =
