@@ -49,7 +49,8 @@ fn pages_within(h: &[u8], range: TermRange) -> PageSet
     while (i < n) & (i < 256) {
         let end = form_end(h, i);
         if some_within(forms_between(h, start, end), range) {
-            set = set.with(widen(i));
+            let at = widen(i);
+            set.marks[at] = true;
         }
         start = end;
         i += 1;
@@ -68,7 +69,8 @@ fn pages_marked(h: &[u8], wanted: &[bool]) -> PageSet
     while (i < n) & (i < 256) {
         let end = form_end(h, i);
         if some_marked(forms_between(h, start, end), wanted) {
-            set = set.with(widen(i));
+            let at = widen(i);
+            set.marks[at] = true;
         }
         start = end;
         i += 1;
@@ -138,7 +140,8 @@ pub fn pages_named(h: &[u8], test: NameTest, x: &[u8]) -> PageSet
     let mut i: u16 = 0;
     while (i < n) & (i < 256) {
         if name_passes(h, i, test, x, rank) {
-            set = set.with(widen(i));
+            let at = widen(i);
+            set.marks[at] = true;
         }
         i += 1;
     }
