@@ -1,3 +1,9 @@
 pub mod Entries
 pub mod Reading
 pub mod Composing
+pub mod Places
+pub mod Letters
+pub mod Walking
+pub mod Naming
+pub mod Keeping
+pub mod Ascii

@@ -102,11 +102,9 @@ unfolding encode pairCode
 encode-pair a b h =
     let p = paired a b h in
     let w = wide-range (pairCode a b) (p .wide) in
-    let d : (64 * (a - 192) + (b - 128)) / 64 % 32 ≡ a - 192 = omega (arith, p .lead, p .most, p .behind, p .behind-most) in
-    let m : (64 * (a - 192) + (b - 128)) % 64 ≡ b - 128 = omega (arith, p .lead, p .most, p .behind, p .behind-most) in
-    let x : 192 + (a - 192) ≡ a = omega (arith, p .lead) in
-    let y : 128 + (b - 128) ≡ b = omega (arith, p .behind) in
-    rw (le-ltb (64 * (a - 192) + (b - 128)) 128 (omega (arith, w .0)), d, m, x, y)
+    let x : 192 + (64 * (a % 32) + b % 64) / 64 % 32 ≡ a = omega (arith, p .lead, p .most) in
+    let y : 128 + (64 * (a % 32) + b % 64) % 64 ≡ b = omega (arith, p .behind, p .behind-most) in
+    rw (le-ltb (64 * (a % 32) + b % 64) 128 (omega (arith, w .0)), x, y)
 
 module _ (c : ℕ) (h : isWide c ≡ true) where
   pub encode-wide : encode c ≡ (192 + c / 64 % 32) ∷ (128 + c % 64) ∷ []

@@ -1,5 +1,5 @@
 -- The code points of names, and their UTF-8. Document 02, "Accented names typed two ways".
-use Prim.Native.Nat.{ℕ, _+_, _*_, _-_, _/_, _%_}
+use Prim.Native.Nat.{ℕ, _+_, _*_, _/_, _%_}
 use mathlib.Core.Bool.{Bool, true, false, cond, _&&_, _||_}
 use mathlib.Core.List.{List, [], _∷_, _++_}
 use mathlib.Core.Option.{Option, some, none}
@@ -15,7 +15,7 @@ within a b c = leb a c && leb c b
 unfoldable pub isMark : ℕ → Bool
 isMark c = within 768 772 c || within 774 776 c || within 778 780 c || within 807 808 c
 
--- "32 to 126 [..] less the bytes already barred": these are one byte.
+-- "32 to 126", "less the bytes already barred": these are one byte.
 unfoldable pub isPlain : ℕ → Bool
 isPlain c = within 32 126 c && isNameByte c
 
@@ -29,7 +29,7 @@ isAllowed c = isPlain c || isWide c
 
 -- The code point of two bytes 110xxxxx 10xxxxxx, and whether they are such and the code point is one of those.
 unfoldable pub pairCode : ℕ → ℕ → ℕ
-pairCode a b = 64 * (a - 192) + (b - 128)
+pairCode a b = 64 * (a % 32) + b % 64
 
 unfoldable pub isPair : ℕ → ℕ → Bool
 isPair a b = within 192 223 a && within 128 191 b && isWide (pairCode a b)
