@@ -1,7 +1,7 @@
--- Names of bytes below 128 keep the rule of document 01.
+-- A text of plain code points is its own composed form, and names of bytes below 128 keep the rule of document 01.
 use Prim.Native.Nat.{ℕ, suc, _≤_, _<_}
 use mathlib.Core.Path.{_≡_, refl, sym, ap, ap₂, _∙_}
-use mathlib.Core.Bool.{Bool, true, false, cond, not, _&&_, and-eq-true-iff, and-false, and-true}
+use mathlib.Core.Bool.{Bool, true, false, cond, not, _&&_, false≢true, and-eq-true-iff, and-false, and-true}
 use mathlib.Core.List.{List, [], _∷_, _++_}
 use mathlib.Core.Option.{Option, some, none}
 use native.Mathlib.Omega.{arith}
@@ -13,11 +13,37 @@ use Rattle.text.specs.Class.{oneOf, isNameByte}
 use Rattle.values.specs.Names.{isSized, first, last, isName as isNameBefore}
 use Rattle.names.specs.Codes.{within, isMark, isPlain, isPair, before, read, encode, write}
 use Rattle.names.specs.Names.{compose, isMarkless, composed, composedCodes, isSome, hasNameShape, isName}
-use Rattle.names.proofs.Reading.{reading, reads-written, paired, read-plain, read-none}
+use Rattle.names.proofs.Reading.{plain-range, reading, reads-written, paired, read-plain, read-none}
 use Rattle.names.proofs.Composing.{no-mark, markless-composed}
 
 abbrev pub isAscii : Bytes → Bool
 isAscii s = all (λ b. ltb b 128) s
+
+-- A text of plain code points.
+plain-read : (s : Bytes) → all isPlain s ≡ true → read s ≡ some s
+unfolding all read
+plain-read [] h = refl
+plain-read (a ∷ s) h =
+    let e = and-eq-true-iff (isPlain a) (all isPlain s) .0 h in
+    read-plain a s (e .0) ∙ ap (before a) (plain-read s (e .1))
+
+plain-markless : (s : Bytes) → all isPlain s ≡ true → isMarkless s ≡ true
+unfolding all
+plain-markless [] h = refl
+plain-markless (a ∷ s) h =
+    let e = and-eq-true-iff (isPlain a) (all isPlain s) .0 h in
+    rw (no-mark a (λ x y. omega (arith, plain-range a (e .0)))) (plain-markless s (e .1))
+
+pub plain-composed : (s : Bytes) → all isPlain s ≡ true → composed s ≡ some s
+unfolding composed
+plain-composed s h =
+    let m = plain-markless s h in
+    let r = plain-read s h in
+    ap composedCodes r ∙ rw (markless-composed s m, m, reads-written (reading s s r))
+
+unread : (s : Bytes) → read s ≡ none → composed s ≡ none
+unfolding composed
+unread s h = rw h
 
 -- A byte below 128 is a code point of names where it is a byte of names.
 ascii-plain : (b : ℕ) → b < 128 → isPlain b ≡ isNameByte b
@@ -39,40 +65,31 @@ no-pair a b l = go (isPair a b) refl
     go true h = absurd (omega (arith, paired a b h .lead))
     go false h = refl
 
-ascii-read : (s : Bytes) → isAscii s ≡ true → read s ≡ cond (all isNameByte s) (some s) none
-unfolding all read
-ascii-read [] h = refl
-ascii-read (a ∷ s) h =
-    let e = and-eq-true-iff (ltb a 128) (isAscii s) .0 h in
-    go (isNameByte a) refl (ltb-true a 128 (e .0)) (ascii-read s (e .1))
-  where
-    go : (p : Bool) → isNameByte a ≡ p → a < 128 → read s ≡ cond (all isNameByte s) (some s) none → read (a ∷ s) ≡ cond (p && all isNameByte s) (some (a ∷ s)) none
-    go true e l ih = read-plain a s (ascii-plain a l ∙ e) ∙ ap (before a) ih ∙ joined (all isNameByte s)
-      where
-        joined : (q : Bool) → before a (cond q (some s) none) ≡ cond q (some (a ∷ s)) none
-        joined true = refl
-        joined false = refl
-    go false e l ih = read-none a s (ascii-plain a l ∙ e) (no-pair a (getD s 0 0) l)
-
-ascii-markless : (s : Bytes) → isAscii s ≡ true → isMarkless s ≡ true
+ascii-bytes : (s : Bytes) → isAscii s ≡ true → all isPlain s ≡ all isNameByte s
 unfolding all
-ascii-markless [] h = refl
-ascii-markless (a ∷ s) h =
+ascii-bytes [] h = refl
+ascii-bytes (a ∷ s) h =
     let e = and-eq-true-iff (ltb a 128) (isAscii s) .0 h in
-    let l = ltb-true a 128 (e .0) in
-    rw (no-mark a (λ x y. omega arith)) (ascii-markless s (e .1))
+    rw (ascii-plain a (ltb-true a 128 (e .0)), ascii-bytes s (e .1))
+
+ascii-none : (s : Bytes) → isAscii s ≡ true → all isPlain s ≡ false → read s ≡ none
+unfolding all
+ascii-none [] h k = absurd (false≢true (sym k))
+ascii-none (a ∷ s) h k =
+    let e = and-eq-true-iff (ltb a 128) (isAscii s) .0 h in
+    go (isPlain a) refl (ltb-true a 128 (e .0)) k (ascii-none s (e .1))
+  where
+    go : (p : Bool) → isPlain a ≡ p → a < 128 → (p && all isPlain s) ≡ false → (all isPlain s ≡ false → read s ≡ none) → read (a ∷ s) ≡ none
+    go true e l k ih = read-plain a s e ∙ ap (before a) (ih k)
+    go false e l k ih = read-none a s e (no-pair a (getD s 0 0) l)
 
 -- It composes where all its bytes are bytes of names, to itself.
 pub ascii-composed : (s : Bytes) → isAscii s ≡ true → composed s ≡ cond (all isNameByte s) (some s) none
-unfolding composed
-ascii-composed s h = ap composedCodes (ascii-read s h) ∙ go (all isNameByte s) refl
+ascii-composed s h = rw (← ascii-bytes s h) (go (all isPlain s) refl)
   where
-    m : isMarkless s ≡ true
-    m = ascii-markless s h
-
-    go : (p : Bool) → all isNameByte s ≡ p → composedCodes (cond p (some s) none) ≡ cond p (some s) none
-    go true e = rw (markless-composed s m, m, reads-written (reading s s (ascii-read s h ∙ rw e)))
-    go false e = refl
+    go : (p : Bool) → all isPlain s ≡ p → composed s ≡ cond p (some s) none
+    go true e = plain-composed s e
+    go false e = unread s (ascii-none s h e)
 
 sorted : (z n o p q : Bool) → ((z && o && p && q) && n) ≡ (z && n && o && p && q)
 sorted true true o p q = and-true (o && p && q)

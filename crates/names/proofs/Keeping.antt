@@ -1,18 +1,20 @@
 -- What composing keeps: a composed name keeps the name rule and is no longer than the typed one.
 use Prim.Native.Nat.{ℕ, zero, suc, _+_, _-_, _/_, _%_, _≤_, _<_}
 use mathlib.Core.Path.{_≡_, refl, sym, ap, _∙_}
-use mathlib.Core.Bool.{Bool, true, false, not, _&&_, and-eq-true-iff}
+use mathlib.Core.Bool.{Bool, true, false, cond, not, _&&_, false≢true, and-eq-true-iff, and-false}
 use mathlib.Core.List.{List, [], _∷_, _++_}
 use mathlib.Core.Option.{Option, some, none}
 use native.Mathlib.Omega.{arith}
-use lib.Dec.{eqb}
+use lib.Dec.{eqb, ltb}
 use lib.ListN.{length, getD}
-use borrow.Author.Tests.{ne-eqb}
-use Rattle.text.specs.Bytes.{Bytes, bytes, any, all, isBlank}
+use borrow.Author.Tests.{eq-eqb, ne-eqb, lt-ltb}
+use Rattle.text.specs.Bytes.{Bytes, same as sameBytes, bytes, any, all, isBlank}
+use Rattle.text.proofs.Laws.{same-eq, same-refl}
 use Rattle.text.specs.Class.{oneOf, isOther}
 use Rattle.values.specs.Names.{first, last}
 use Rattle.names.specs.Codes.{isPlain, isPair, pairCode, encode, write}
-use Rattle.names.specs.Names.{compose, composed, isSome, hasNameShape, isName, isPropertyName}
+use Rattle.names.specs.Names.{compose, composed, isSome, hasNameShape, isName, isPropertyName, isForm, isComposedName}
+use Rattle.names.specs.Steps.{lengthAfter, nameLength}
 use Rattle.names.proofs.Entries.{composition-is, ranges}
 use Rattle.names.proofs.Reading.{Reading, end, plain, pair, reading, plain-range, mark-range, wide-range, paired, wide-letter, encode-plain, encode-pair, encode-wide}
 use Rattle.names.proofs.Composing.{Composing, composing, form, composed-twice}
@@ -65,6 +67,11 @@ kept-length : {s t : Bytes} → Kept s t → length t ≤ length s
 kept-length nothing = omega arith
 kept-length (same a k) = let h = kept-length k in omega arith
 kept-length (fewer a b c x y p q k) = let h = kept-length k in omega arith
+
+kept-equal : {s t : Bytes} → Kept s t → length t ≡ length s → s ≡ t
+kept-equal nothing h = refl
+kept-equal (same a k) h = ap (λ (x : Bytes). a ∷ x) (kept-equal k (omega arith))
+kept-equal (fewer a b c x y p q k) h = absurd (omega (arith, kept-length k))
 
 -- A rule that bytes from 128 up keep.
 module _ (p : ℕ → Bool) (high : (b : ℕ) → 128 ≤ b → p b ≡ true) where
@@ -126,3 +133,24 @@ module _ (s t : Bytes) (h : composed s ≡ some t) where
   composed-property-name n =
       let e = and-eq-true-iff (isName s) (all (isOther 46) s) .0 n in
       rw (composed-name (e .0), kept-all (isOther 46) high-other (composed-keeps s t h) (e .1))
+
+-- A name is its own composed form where that is as long.
+pub composed-name-is : (s : Bytes) (n : ℕ) → n ≡ nameLength s → (ltb 0 (length s) && eqb n (length s)) ≡ isComposedName s
+unfolding isComposedName nameLength isName
+composed-name-is s n e = rw e (go (hasNameShape s) (composed s) refl refl)
+  where
+    no-length : (m : ℕ) → (ltb 0 m && eqb 0 m) ≡ false
+    no-length zero = refl
+    no-length (suc m) = rw (ne-eqb 0 (suc m) (λ q. omega arith), and-false (ltb 0 (suc m)))
+
+    same-length : (t : Bytes) → composed s ≡ some t → (b : Bool) → sameBytes s t ≡ b → eqb (0 + length t) (length s) ≡ b
+    same-length t k true h = eq-eqb (0 + length t) (length s) (omega (arith, ap length (same-eq s t h)))
+    same-length t k false h =
+        ne-eqb (0 + length t) (length s) (λ q. false≢true (sym h ∙ rw (kept-equal (composed-keeps s t k) (omega arith)) (same-refl t)))
+
+    go : (p : Bool) (o : Option Bytes) → hasNameShape s ≡ p → composed s ≡ o
+        → (ltb 0 (length s) && eqb (cond (p && isSome o) (lengthAfter 0 o) 0) (length s)) ≡ (p && isSome o && isForm s o)
+    go true none h k = no-length (length s)
+    go true (some t) h k = rw (lt-ltb 0 (length s) (shaped s h .least)) (same-length t k (sameBytes s t) refl)
+    go false none h k = no-length (length s)
+    go false (some t) h k = no-length (length s)

@@ -1,20 +1,23 @@
 -- Laws of the name rule: what the functions answer.
 use Prim.Native.Nat.{ℕ, _+_, _-_, _≤_}
-use mathlib.Core.Path.{_≡_, refl, _∙_}
+use mathlib.Core.Path.{_≡_, refl, sym, _∙_}
 use mathlib.Core.Bool.{Bool, true, false, cond, not, _&&_, and-eq-true-iff}
 use mathlib.Core.List.{[], _∷_}
 use mathlib.Core.Option.{Option, some, none}
+use native.Mathlib.Nat.{zero-add}
 use native.Mathlib.Omega.{arith}
 use lib.Dec.{ltb, leb}
 use lib.ListN.{length, getD, length-append}
-use borrow.Author.Tests.{leb-true, le-leb, lt-leb, lt-ltb}
-use Rattle.text.specs.Bytes.{Bytes, isBlank}
+use borrow.Author.Tests.{leb-true, le-leb, lt-leb, lt-ltb, not-true, not-false}
+use Rattle.text.specs.Bytes.{Bytes, all, isBlank}
 use Rattle.text.specs.Class.{oneOf}
 use Rattle.values.specs.Names.{isSized, first, last}
-use Rattle.names.specs.Codes.{encode}
+use Rattle.names.specs.Codes.{isPlain, encode}
 use Rattle.names.specs.Names.{composed, isSome, hasNameShape, isName}
-use Rattle.names.specs.Steps.{letterAt, lengthAfter, nameLength}
-use Rattle.names.proofs.Walking.{composed-split, encode-size}
+use Rattle.names.specs.Steps.{letterAt, spelled, lengthAfter, nameLength}
+use Rattle.buffer.specs.Writing.{written}
+use Rattle.names.proofs.Walking.{composed-split, encode-size, spelled-composed}
+use Rattle.names.proofs.Ascii.{plain-composed}
 
 -- What the test of the shape answers.
 pub shape-empty : (s : Bytes) → length s ≡ 0 → false ≡ hasNameShape s
@@ -54,17 +57,20 @@ composed-long (a ∷ s) t h l = composed-split a s t h (λ t. 1 ≤ length t) (�
 
 -- What the length answers.
 module _ (s : Bytes) (p : Bool) (f : p ≡ hasNameShape s) where
-  pub name-long : p ≡ true → (n : ℕ) → n ≡ lengthAfter 0 (composed s) → n ≡ nameLength s
+  pub name-long : not p ≡ false → (n : ℕ) → n ≡ lengthAfter 0 (composed s) → n ≡ nameLength s
   unfolding nameLength isName
-  name-long t n e = e ∙ rw (← f, t) (go (composed s))
+  name-long t n e = e ∙ rw (← f, not-false p t) (go (composed s))
     where
       go : (o : Option Bytes) → lengthAfter 0 o ≡ cond (isSome o) (lengthAfter 0 o) 0
       go none = refl
       go (some t) = refl
 
-  pub name-none : p ≡ false → 0 ≡ nameLength s
+  pub name-none : not p ≡ true → 0 ≡ nameLength s
   unfolding nameLength isName
-  name-none t = rw (← f, t)
+  name-none t = rw (← f, not-true p t)
+
+  pub name-plain : not p ≡ false → (q : Bool) → q ≡ all isPlain s → q ≡ true → length s ≡ nameLength s
+  name-plain t q g e = name-long t (length s) (let k = plain-composed s (sym g ∙ e) in rw k (sym (zero-add (length s))))
 
 pub length-name : (s : Bytes) (n : ℕ) → n ≡ nameLength s → ltb 0 n ≡ isName s
 unfolding nameLength isName
@@ -75,3 +81,7 @@ length-name s n e = rw e (go (hasNameShape s) (composed s) refl refl)
     go true (some t) h k = lt-ltb 0 (0 + length t) (omega (arith, composed-long s t k (shaped s h .least)))
     go false none h k = refl
     go false (some t) h k = refl
+
+-- What is written of a text of plain code points.
+pub put-plain : (h g : Bytes) (at : ℕ) (s : Bytes) (q : Bool) → q ≡ all isPlain s → q ≡ true → g ≡ written h at s → g ≡ written h at (spelled s)
+put-plain h g at s q f e k = k ∙ rw (spelled-composed s s (plain-composed s (sym f ∙ e)))

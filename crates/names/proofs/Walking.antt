@@ -1,14 +1,15 @@
 -- Laws of the passes over a name, letter by letter.
 use Prim.Native.Nat.{ℕ, zero, suc, _+_, _/_, _%_, _≤_, _<_}
 use mathlib.Core.Path.{_≡_, refl, sym, ap, _∙_}
-use mathlib.Core.Bool.{Bool, true, false, cond, not, _&&_, _||_, false≢true}
+use mathlib.Core.Bool.{Bool, true, false, cond, not, _&&_, _||_, and-assoc, and-true}
 use mathlib.Core.List.{List, [], _∷_, _++_}
 use mathlib.Core.Option.{Option, some, none}
 use native.Mathlib.Nat.{add-zero}
+use native.Mathlib.Numerals.{add-one}
 use native.Mathlib.Omega.{arith}
 use lib.Dec.{eqb, ltb, leb}
 use lib.ListN.{length, getD, drop, length-append, length-drop, drop-of-length-le}
-use lib.Seq.{drop-drop, getD-drop}
+use lib.Seq.{drop-drop, drop-cons, getD-drop}
 use borrow.Author.Tests.{eqb-true, eqb-false, leb-true, leb-false, lt-ltb, le-ltb, ltb-true, ltb-false}
 use Rattle.text.specs.Bytes.{Bytes, all}
 use Rattle.buffer.specs.Writing.{written}
@@ -199,3 +200,19 @@ module _ (h : Bytes) (at c : ℕ) where
   pub put-two : (k g : Bytes) → 128 ≤ c → k ≡ written h at ((192 + c / 64 % 32) ∷ []) → g ≡ written k (at + 1) ((128 + c % 64) ∷ []) → g ≡ written h at (encode c)
   unfolding encode
   put-two k g l e f = rw (le-ltb c 128 l) (next h at ((192 + c / 64 % 32) ∷ []) ((128 + c % 64) ∷ []) e f)
+
+-- A test of all bytes, up to a place.
+module _ (p : ℕ → Bool) (s : Bytes) where
+  abbrev pub Testing : Bool → ℕ → Type 0
+  Testing ok i = (ok && all p (drop i s)) ≡ all p s
+
+  pub tested-more : (ok b : Bool) (i : ℕ) → i < length s → b ≡ p (getD s i 0) → Testing ok i → Testing (ok && b) (i + 1)
+  unfolding all
+  tested-more ok b i l e h =
+      and-assoc ok b (all p (drop (i + 1) s))
+      ∙ ap (λ (x : Bool). ok && x) (let q : (b && all p (drop (i + 1) s)) ≡ all p (drop i s) = rw (e, add-one i, drop-cons s i 0 l) in q)
+      ∙ h
+
+  pub tested-all : (ok : Bool) (i : ℕ) → length s ≤ i → Testing ok i → ok ≡ all p s
+  unfolding all
+  tested-all ok i l h = sym (and-true ok) ∙ ap (λ (x : Bool). ok && x) (let q : true ≡ all p (drop i s) = rw (drop-of-length-le s l) in q) ∙ h

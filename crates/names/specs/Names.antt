@@ -4,7 +4,7 @@ use mathlib.Core.Path.{_≡_}
 use mathlib.Core.Bool.{Bool, true, false, cond, not, _&&_}
 use mathlib.Core.List.{List, [], _∷_, _++_}
 use mathlib.Core.Option.{Option, some, none}
-use Rattle.text.specs.Bytes.{Bytes, all, isBlank}
+use Rattle.text.specs.Bytes.{Bytes, same, all, isBlank}
 use Rattle.text.specs.Class.{oneOf, isOther}
 use Rattle.values.specs.Names.{isSized, first, last}
 use Rattle.names.specs.Table.{Entry, composition, decomposition}
@@ -52,6 +52,14 @@ isName s = hasNameShape s && isSome (composed s)
 -- "A property name also has no `.`."
 unfoldable pub isPropertyName : Bytes → Bool
 isPropertyName s = isName s && all (isOther 46) s
+
+-- A name that is its own composed form. "Held forms keep names composed"
+abbrev pub isForm : Bytes → Option Bytes → Bool
+isForm s none = false
+isForm s (some t) = same s t
+
+unfoldable pub isComposedName : Bytes → Bool
+isComposedName s = isName s && isForm s (composed s)
 
 -- Canonical equivalence: two texts decompose to the same code points. A letter of a name has one mark at most, so that no marks
 -- are to be put in order.

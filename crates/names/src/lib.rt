@@ -1,9 +1,10 @@
 // Names in two spellings: the table of compositions, whether bytes are a name, and its composed form.
 ghost use mathlib.Core.Path.{_≡_};
 ghost use lib.ListN.{length, drop};
+ghost use Rattle.text.specs.Bytes.{all};
 ghost use Rattle.buffer.specs.Writing.{written};
 ghost use Rattle.names.specs.Codes.{isMark, isPlain, isWide, encode};
-ghost use Rattle.names.specs.Names.{composed, hasNameShape, isName};
+ghost use Rattle.names.specs.Names.{composed, hasNameShape, isName, isComposedName};
 ghost use Rattle.names.specs.Steps.{pairOf, letterOf, letterAt, spelled, lengthAfter, nameLength};
 
 pub mod composed_codes; // composed_codes.rt: the composed letters of the table
@@ -12,6 +13,7 @@ pub mod mark_codes; // mark_codes.rt: its marks
 pub mod table; // table.rt: a letter and a mark looked up in it
 
 use buffer::put_byte;
+use buffer::put_bytes;
 use table::composed_letter;
 use tables::wide;
 use text::Class;
@@ -97,6 +99,20 @@ fn letter_at(s: &[u8], i: usize) -> Letter
     letter_of(byte_at(s, i), byte_at(s, i + 1), byte_at(s, i + 2))
 }
 
+// Whether all bytes are code points of names by themselves. It never stops before the end, so that a compiler takes many bytes at
+// a time.
+fn all_plain(s: &[u8]) -> bool
+    ensures { λ r. ⌜ r ≡ all isPlain (now (s .entry)) ⌝ }
+{
+    let mut plain = true;
+    let mut i: usize = 0;
+    while i < s.len() {
+        plain = plain & is_plain(s[i]);
+        i += 1;
+    }
+    plain
+}
+
 // How many bytes a code point has.
 fn size_of(code: u16) -> usize
     ensures { λ r. ⌜ r ≡ length (encode code) ⌝ }
@@ -137,15 +153,26 @@ fn has_name_shape(s: &[u8]) -> bool
         & !in_class(Class::Blank, last)
 }
 
-// How long the composed form of a name is, 0 where the bytes are no name: one pass over them.
+// How long the composed form of a name is, 0 where the bytes are no name. An ASCII name is gone over once and is its own composed
+// form; any other is gone over letter by letter too.
 pub fn name_length(s: &[u8]) -> usize
     ensures { λ r. ⌜ r ≡ nameLength (now (s .entry)) ⌝ }
 {
-    if has_name_shape(s) {
-        composed_length(s)
-    } else {
-        0
+    if !has_name_shape(s) {
+        return 0;
     }
+    if all_plain(s) {
+        s.len()
+    } else {
+        composed_length(s)
+    }
+}
+
+// Whether the bytes are a name that is its own composed form.
+pub fn is_composed_name(s: &[u8]) -> bool
+    ensures { λ r. ⌜ r ≡ isComposedName (now (s .entry)) ⌝ }
+{
+    (0 < s.len()) & (name_length(s) == s.len())
 }
 
 // Whether the bytes are a name.
@@ -170,8 +197,8 @@ fn put_code(h: &mut [u8], at: usize, code: u16)
     put_byte(h, at + 1, (128 + code % 64) as u8);
 }
 
-// Writes the composed form of a name, as far as there is room; of other bytes what stands before the first that are no letter.
-pub fn put_name(h: &mut [u8], at: usize, s: &[u8])
+// Writes the composed form, letter by letter.
+fn put_letters(h: &mut [u8], at: usize, s: &[u8])
     ensures { λ _. ⌜ now (h .exit) ≡ written (now (h .entry)) at (spelled (now (s .entry))) ⌝ }
 {
     let mut to = at;
@@ -188,5 +215,16 @@ pub fn put_name(h: &mut [u8], at: usize, s: &[u8])
         put_code(h, to, x.code);
         to += size_of(x.code);
         i += w;
+    }
+}
+
+// Writes the composed form of a name, as far as there is room; of other bytes what stands before the first that are no letter.
+pub fn put_name(h: &mut [u8], at: usize, s: &[u8])
+    ensures { λ _. ⌜ now (h .exit) ≡ written (now (h .entry)) at (spelled (now (s .entry))) ⌝ }
+{
+    if all_plain(s) {
+        put_bytes(h, at, s);
+    } else {
+        put_letters(h, at, s);
     }
 }
