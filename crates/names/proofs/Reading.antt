@@ -164,7 +164,7 @@ reading (a ∷ b ∷ s) l h = go (isPlain a) (isPair a b) refl refl (sym (read-s
     go false true e f k more rest = from-before (pairCode a b) (read s) (Reading (a ∷ b ∷ s)) l k (λ m x. pair a b f (rest m x))
     go false false e f k more rest = let z : _≡_ {A = ℕ} 0 1 = cc in absurd (omega arith)
 
--- What reads has only allowed code points, and is what is written of them: no two texts read alike.
+-- What reads has only allowed code points, and is what is written of them, so that no two texts read alike.
 pub reads-allowed : {s : Bytes} {l : List ℕ} → Reading s l → all isAllowed l ≡ true
 unfolding all
 reads-allowed end = refl
@@ -176,6 +176,9 @@ unfolding write
 reads-written end = refl
 reads-written (plain {s} {l} a h r) = ap (λ (x : Bytes). x ++ write l) (encode-plain a h) ∙ ap (λ (x : Bytes). a ∷ x) (reads-written r)
 reads-written (pair {s} {l} a b h r) = ap (λ (x : Bytes). x ++ write l) (encode-pair a b h) ∙ ap (λ (x : Bytes). a ∷ b ∷ x) (reads-written r)
+
+pub read-once : (s t : Bytes) (l : List ℕ) → read s ≡ some l → read t ≡ some l → s ≡ t
+read-once s t l h k = sym (reads-written (reading s l h)) ∙ reads-written (reading t l k)
 
 -- A mark that reads first is two bytes at the front.
 pub mark-first : {s : Bytes} {l : List ℕ} → Reading s l → isMark (getD l 0 0) ≡ true → (isPair (getD s 0 0) (getD s 1 0) ≡ true) × (pairCode (getD s 0 0) (getD s 1 0) ≡ getD l 0 0)
