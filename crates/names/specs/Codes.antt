@@ -7,6 +7,7 @@ use lib.Dec.{leb, ltb}
 use Rattle.text.specs.Bytes.{Bytes}
 use Rattle.text.specs.Class.{isNameByte}
 
+-- A code point of a range.
 abbrev pub within : ℕ → ℕ → ℕ → Bool
 within a b c = leb a c && leb c b
 
@@ -27,7 +28,8 @@ isWide c = within 160 383 c || isMark c
 abbrev pub isAllowed : ℕ → Bool
 isAllowed c = isPlain c || isWide c
 
--- The code point of two bytes 110xxxxx 10xxxxxx, and whether they are such and the code point is one of those.
+-- The code point that two bytes 110xxxxx 10xxxxxx write, and whether two bytes are such and write one of those that are two bytes:
+-- an overlong pair writes none of them.
 unfoldable pub pairCode : ℕ → ℕ → ℕ
 pairCode a b = 64 * (a % 32) + b % 64
 
