@@ -10,9 +10,9 @@ use lib.ListN.{length, getD}
 use borrow.Author.Tests.{ltb-true, le-leb, lt-leb, leb-true, leb-false, eqb-true, eqb-false}
 use Rattle.text.specs.Bytes.{Bytes, all, isBlank}
 use Rattle.text.specs.Class.{oneOf, isNameByte}
-use Rattle.values.specs.Names.{isSized, first, last, isName as isNameBefore}
+use Rattle.values.specs.Names.{isSized, first, last, isName as isNameBefore, isPropertyName as isPropertyNameBefore, isNamespace as isNamespaceBefore}
 use Rattle.names.specs.Codes.{within, isMark, isPlain, isPair, before, read, encode, write}
-use Rattle.names.specs.Names.{compose, isMarkless, composed, composedCodes, isSome, hasNameShape, isName}
+use Rattle.names.specs.Names.{compose, isMarkless, composed, composedCodes, isSome, hasNameShape, isName, isPropertyName, isNamespace}
 use Rattle.names.proofs.Reading.{plain-range, reading, reads-written, paired, read-plain, read-none}
 use Rattle.names.proofs.Composing.{no-mark, markless-composed}
 
@@ -106,3 +106,11 @@ ascii-name s h =
     go : (p : Bool) → isSome (cond p (some s) none) ≡ p
     go true = refl
     go false = refl
+
+pub ascii-property-name : (s : Bytes) → isAscii s ≡ true → isPropertyName s ≡ isPropertyNameBefore s
+unfolding isPropertyName isPropertyNameBefore
+ascii-property-name s h = rw (ascii-name s h)
+
+pub ascii-namespace : (s : Bytes) → isAscii s ≡ true → isNamespace s ≡ isNamespaceBefore s
+unfolding isNamespace isNamespaceBefore
+ascii-namespace s h = rw (ascii-name s h)

@@ -1,9 +1,11 @@
 -- Names in two spellings. Document 02, "Accented names typed two ways"; Unicode Standard Annex 15.
 use Prim.Native.Nat.{ℕ}
 use mathlib.Core.Path.{_≡_}
-use mathlib.Core.Bool.{Bool, true, false, cond, not, _&&_}
+use mathlib.Core.Bool.{Bool, true, false, cond, not, _&&_, _||_}
 use mathlib.Core.List.{List, [], _∷_, _++_}
 use mathlib.Core.Option.{Option, some, none}
+use lib.Dec.{eqb}
+use lib.ListN.{length}
 use Rattle.text.specs.Bytes.{Bytes, same, all, isBlank}
 use Rattle.text.specs.Class.{oneOf, isOther}
 use Rattle.values.specs.Names.{isSized, first, last}
@@ -52,6 +54,10 @@ isName s = hasNameShape s && isSome (composed s)
 -- "A property name also has no `.`."
 unfoldable pub isPropertyName : Bytes → Bool
 isPropertyName s = isName s && all (isOther 46) s
+
+-- "a name, or empty for the main namespace"
+unfoldable pub isNamespace : Bytes → Bool
+isNamespace s = eqb (length s) 0 || isName s
 
 -- A name that is its own composed form. "Held forms keep names composed"
 abbrev pub isForm : Bytes → Option Bytes → Bool

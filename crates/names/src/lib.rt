@@ -4,7 +4,7 @@ ghost use lib.ListN.{length, drop};
 ghost use Rattle.text.specs.Bytes.{all};
 ghost use Rattle.buffer.specs.Writing.{written};
 ghost use Rattle.names.specs.Codes.{isMark, isPlain, isWide, encode};
-ghost use Rattle.names.specs.Names.{composed, hasNameShape, isName, isComposedName};
+ghost use Rattle.names.specs.Names.{composed, hasNameShape, isName, isPropertyName, isNamespace, isComposedName};
 ghost use Rattle.names.specs.Steps.{pairOf, letterOf, letterAt, spelled, lengthAfter, nameLength};
 
 pub mod composed_codes; // composed_codes.rt: the composed letters of the table
@@ -17,6 +17,7 @@ use buffer::put_bytes;
 use table::composed_letter;
 use tables::wide;
 use text::Class;
+use text::all_in;
 use text::byte_at;
 use text::in_class;
 use text::one_of;
@@ -180,6 +181,19 @@ pub fn is_name(s: &[u8]) -> bool
     ensures { λ r. ⌜ r ≡ isName (now (s .entry)) ⌝ }
 {
     0 < name_length(s)
+}
+
+// Whether the bytes are a property name, and a namespace.
+pub fn is_property_name(s: &[u8]) -> bool
+    ensures { λ r. ⌜ r ≡ isPropertyName (now (s .entry)) ⌝ }
+{
+    is_name(s) & all_in(s, Class::NoDot)
+}
+
+pub fn is_namespace(s: &[u8]) -> bool
+    ensures { λ r. ⌜ r ≡ isNamespace (now (s .entry)) ⌝ }
+{
+    (s.len() == 0) | is_name(s)
 }
 
 // Writes a code point below 2,048, as far as there is room.
