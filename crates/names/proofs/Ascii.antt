@@ -1,18 +1,18 @@
 -- A text of plain code points is its own composed form, and names of bytes below 128 keep the rule of document 01.
-use Prim.Native.Nat.{ℕ, suc, _≤_, _<_}
-use mathlib.Core.Path.{_≡_, refl, sym, ap, ap₂, _∙_}
+use Prim.Native.Nat.{ℕ, _<_}
+use mathlib.Core.Path.{_≡_, refl, sym, ap, _∙_}
 use mathlib.Core.Bool.{Bool, true, false, cond, not, _&&_, false≢true, and-eq-true-iff, and-false, and-true}
-use mathlib.Core.List.{List, [], _∷_, _++_}
+use mathlib.Core.List.{[], _∷_}
 use mathlib.Core.Option.{Option, some, none}
 use native.Mathlib.Omega.{arith}
 use lib.Dec.{eqb, ltb, leb}
-use lib.ListN.{length, getD}
-use borrow.Author.Tests.{ltb-true, le-leb, lt-leb, leb-true, leb-false, eqb-true, eqb-false}
+use lib.ListN.{getD}
+use borrow.Author.Tests.{ltb-true, le-leb, eqb-false}
 use Rattle.text.specs.Bytes.{Bytes, all, isBlank}
 use Rattle.text.specs.Class.{oneOf, isNameByte}
 use Rattle.values.specs.Names.{isSized, first, last, isName as isNameBefore, isPropertyName as isPropertyNameBefore, isNamespace as isNamespaceBefore}
-use Rattle.names.specs.Codes.{within, isMark, isPlain, isPair, before, read, encode, write}
-use Rattle.names.specs.Names.{compose, isMarkless, composed, composedCodes, isSome, hasNameShape, isName, isPropertyName, isNamespace}
+use Rattle.names.specs.Codes.{isPlain, isPair, before, read}
+use Rattle.names.specs.Names.{isMarkless, composed, composedCodes, isSome, hasNameShape, isName, isPropertyName, isNamespace}
 use Rattle.names.proofs.Reading.{plain-range, reading, reads-written, paired, read-plain, read-none}
 use Rattle.names.proofs.Composing.{no-mark, markless-composed}
 

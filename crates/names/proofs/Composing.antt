@@ -1,17 +1,17 @@
 -- Laws of composing code points: it ends in one step, and it keeps apart what decomposing keeps apart.
-use Prim.Native.Nat.{ℕ, zero, suc, _≤_, _<_}
+use Prim.Native.Nat.{ℕ, _≤_}
 use mathlib.Core.Path.{_≡_, refl, sym, ap, _∙_}
-use mathlib.Core.Bool.{Bool, true, false, cond, not, _&&_, _||_, false≢true, and-eq-true-iff, or-true}
+use mathlib.Core.Bool.{Bool, true, false, cond, not, _&&_, false≢true, and-eq-true-iff, or-true}
 use mathlib.Core.List.{List, [], _∷_, _++_, List·Memᴰ}
 use mathlib.Core.Option.{Option, some, none}
 use native.Mathlib.Omega.{arith}
-use lib.ListN.{length, getD}
+use lib.ListN.{getD}
 use borrow.Author.Tests.{not-true}
 use Rattle.text.specs.Bytes.{Bytes, all}
 use Rattle.names.specs.Table.{Entry, table, composition, decomposition}
-use Rattle.names.specs.Codes.{within, isMark, isPlain, isWide, isAllowed, read, write}
-use Rattle.names.specs.Names.{compose, decompose, parts, isMarkless, composed, composedCodes, Equivalent, decomposed}
-use Rattle.names.proofs.Entries.{composes, decomposes, composition-is, decomposition-is, ranges, Ranged}
+use Rattle.names.specs.Codes.{isMark, isPlain, isAllowed, read, write}
+use Rattle.names.specs.Names.{compose, decompose, parts, isMarkless, composed, composedCodes, Equivalent}
+use Rattle.names.proofs.Entries.{composes, decomposes, composition-is, decomposition-is, ranges}
 use Rattle.names.proofs.Reading.{mark-range, wide-letter, reading, reads-allowed, written-reads}
 
 absurd-none : {A : Type 0} {B : Type 0} {a : A} → none ≡ some a → B

@@ -1,15 +1,15 @@
 -- The table's theorems: one test over the whole of it, and what it says of each entry.
 use Prim.Native.Nat.{ℕ, zero, suc, _≤_, _<_}
 use mathlib.Core.Path.{_≡_, refl, sym, ap, _∙_}
-use mathlib.Core.Bool.{Bool, true, false, not, _&&_, _||_, false≢true, and-eq-true-iff, or-true}
+use mathlib.Core.Bool.{Bool, true, false, not, _&&_, false≢true, and-eq-true-iff, or-true}
 use mathlib.Core.List.{List, [], _∷_, List·Memᴰ, List·Memᴰ·head, List·Memᴰ·tail, List·Memᴰ·not-nil}
-use mathlib.Core.Option.{Option, some, none}
+use mathlib.Core.Option.{some}
 use native.Mathlib.Omega.{arith}
-use lib.Dec.{eqb, ltb, leb}
+use lib.Dec.{eqb, leb}
 use lib.ListN.{length, getD}
 use borrow.Author.Tests.{eqb-true, eq-eqb, not-true, leb-true}
 use Rattle.text.specs.Bytes.{any, all}
-use Rattle.names.specs.Table.{Entry, entry, table, find, hasPair, hasComposed, composition, decomposition, clash, noneTwice}
+use Rattle.names.specs.Table.{Entry, table, find, hasPair, hasComposed, composition, decomposition, clash, noneTwice}
 use Rattle.names.specs.Codes.{isMark, within}
 
 -- What a test that all entries pass says of one.

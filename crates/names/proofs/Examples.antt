@@ -1,13 +1,12 @@
 -- Worked examples, computed: "Bäckerei" in both spellings, and what breaks the rule.
 use mathlib.Core.Path.{_≡_, refl}
-use mathlib.Core.Bool.{Bool, true, false, _&&_, not}
+use mathlib.Core.Bool.{true, _&&_, not}
 use mathlib.Core.List.{List, [], _∷_, _++_}
-use mathlib.Core.Option.{some, none}
 use Rattle.text.specs.Bytes.{Bytes, bytes, any, all, same}
 use Rattle.text.specs.Class.{isNameByte}
 use Rattle.names.specs.Table.{table, find, composition}
 use Rattle.names.specs.Codes.{isMark, isPlain, isWide, isPair, pairCode, read, encode, write}
-use Rattle.names.specs.Names.{compose, composed, isSome, isForm, hasNameShape, isName}
+use Rattle.names.specs.Names.{compose, composed, isForm, hasNameShape, isName}
 
 -- U+00E4, and U+0061 with U+0308 behind it.
 abbrev oneLetter : Bytes

@@ -1,5 +1,5 @@
 -- What composing keeps: a composed name keeps the name rule and is no longer than the typed one.
-use Prim.Native.Nat.{ℕ, zero, suc, _+_, _-_, _/_, _%_, _≤_, _<_}
+use Prim.Native.Nat.{ℕ, zero, suc, _+_, _-_, _/_, _%_, _≤_}
 use mathlib.Core.Path.{_≡_, refl, sym, ap, _∙_}
 use mathlib.Core.Bool.{Bool, true, false, cond, not, _&&_, false≢true, and-eq-true-iff, and-false}
 use mathlib.Core.List.{List, [], _∷_, _++_}
@@ -8,12 +8,12 @@ use native.Mathlib.Omega.{arith}
 use lib.Dec.{eqb, ltb}
 use lib.ListN.{length, getD}
 use borrow.Author.Tests.{eq-eqb, ne-eqb, lt-ltb}
-use Rattle.text.specs.Bytes.{Bytes, same as sameBytes, bytes, any, all, isBlank}
+use Rattle.text.specs.Bytes.{Bytes, same as sameBytes, any, all, isBlank}
 use Rattle.text.proofs.Laws.{same-eq, same-refl}
 use Rattle.text.specs.Class.{oneOf, isOther}
 use Rattle.values.specs.Names.{first, last}
-use Rattle.names.specs.Codes.{isPlain, isPair, pairCode, encode, write}
-use Rattle.names.specs.Names.{compose, composed, isSome, hasNameShape, isName, isPropertyName, isForm, isComposedName}
+use Rattle.names.specs.Codes.{pairCode, encode, write}
+use Rattle.names.specs.Names.{composed, isSome, hasNameShape, isName, isPropertyName, isForm, isComposedName}
 use Rattle.names.specs.Steps.{lengthAfter, nameLength}
 use Rattle.names.proofs.Entries.{composition-is, ranges}
 use Rattle.names.proofs.Reading.{Reading, end, plain, pair, reading, plain-range, mark-range, wide-range, paired, wide-letter, encode-plain, encode-pair, encode-wide}

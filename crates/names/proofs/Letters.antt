@@ -1,20 +1,20 @@
 -- One letter of a name after the other: composing bytes goes by the letter at their front.
-use Prim.Native.Nat.{ℕ, zero, suc, _+_, _*_, _/_, _%_, _≤_, _<_}
+use Prim.Native.Nat.{ℕ, zero, suc, _+_, _*_, _%_, _≤_}
 use mathlib.Core.Path.{_≡_, refl, sym, ap, _∙_}
-use mathlib.Core.Bool.{Bool, true, false, cond, not, _&&_, _||_, false≢true, and-eq-true-iff, and-false}
+use mathlib.Core.Bool.{Bool, true, false, cond, _&&_, _||_, false≢true}
 use mathlib.Core.List.{List, [], _∷_, _++_}
 use mathlib.Core.Option.{Option, some, none}
 use native.Mathlib.Omega.{arith}
-use lib.Dec.{eqb, ltb}
-use lib.ListN.{length, getD, drop}
-use borrow.Author.Tests.{eqb-true, eqb-false, eq-eqb, ne-eqb}
+use lib.Dec.{eqb}
+use lib.ListN.{getD, drop}
+use borrow.Author.Tests.{eqb-true, eqb-false, ne-eqb}
 use Rattle.text.specs.Bytes.{Bytes, all}
 use Rattle.names.specs.Table.{Entry, composition}
 use Rattle.names.specs.Codes.{within, isMark, isPlain, isWide, isPair, pairCode, before, read, encode, write}
 use Rattle.names.specs.Names.{compose, isMarkless, composed, composedCodes}
-use Rattle.names.specs.Steps.{letterOr0, composedLetter, pairOf, letter, plainLetter, wideLetter, letterOf, letterAt, spelledFrom, spelled, lengthAfter}
+use Rattle.names.specs.Steps.{letterOr0, composedLetter, pairOf, letter, plainLetter, wideLetter, letterOf, letterAt}
 use Rattle.names.proofs.Entries.{composition-is, ranges}
-use Rattle.names.proofs.Reading.{paired, plain-range, wide-range, mark-range, not-plain, read-plain, read-pair, read-none, reading, mark-first}
+use Rattle.names.proofs.Reading.{paired, plain-range, wide-range, mark-range, read-plain, read-pair, read-none, reading, mark-first}
 use Rattle.names.proofs.Composing.{no-composition, no-mark, compose-on, compose-marked}
 use Rattle.names.specs.declared.Letter.{Letter}
 

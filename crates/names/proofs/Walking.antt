@@ -1,23 +1,23 @@
 -- Laws of the passes over a name, letter by letter.
 use Prim.Native.Nat.{ℕ, zero, suc, _+_, _/_, _%_, _≤_, _<_}
 use mathlib.Core.Path.{_≡_, refl, sym, ap, _∙_}
-use mathlib.Core.Bool.{Bool, true, false, cond, not, _&&_, _||_, and-assoc, and-true}
-use mathlib.Core.List.{List, [], _∷_, _++_}
+use mathlib.Core.Bool.{Bool, true, false, cond, _&&_, _||_, and-assoc, and-true}
+use mathlib.Core.List.{[], _∷_, _++_}
 use mathlib.Core.Option.{Option, some, none}
 use native.Mathlib.Nat.{add-zero}
 use native.Mathlib.Numerals.{add-one}
 use native.Mathlib.Omega.{arith}
-use lib.Dec.{eqb, ltb, leb}
+use lib.Dec.{eqb, ltb}
 use lib.ListN.{length, getD, drop, length-append, length-drop, drop-of-length-le}
 use lib.Seq.{drop-drop, drop-cons, getD-drop}
-use borrow.Author.Tests.{eqb-true, eqb-false, leb-true, leb-false, lt-ltb, le-ltb, ltb-true, ltb-false}
+use borrow.Author.Tests.{lt-ltb, le-ltb}
 use Rattle.text.specs.Bytes.{Bytes, all}
 use Rattle.buffer.specs.Writing.{written}
 use Rattle.buffer.proofs.Written.{next}
 use Rattle.buffer.proofs.Looping.{Writing, writing-none, writing-more, writing-done, writing-past}
 use Rattle.names.specs.Codes.{isMark, isPlain, isPair, read, encode, write}
-use Rattle.names.specs.Names.{compose, composed, isSome, isName, hasNameShape}
-use Rattle.names.specs.Steps.{composedLetter, pairOf, letter, plainLetter, wideLetter, letterOf, letterAt, spelledFrom, spelled, lengthAfter, nameLength}
+use Rattle.names.specs.Names.{compose, composed}
+use Rattle.names.specs.Steps.{composedLetter, pairOf, letter, letterOf, letterAt, spelledFrom, spelled, lengthAfter}
 use Rattle.names.specs.declared.Letter.{Letter}
 use Rattle.names.proofs.Reading.{encode-plain}
 use Rattle.names.proofs.Letters.{prepend, composed-step}
