@@ -1,0 +1,11 @@
+pub mod Entries
+pub mod Reading
+pub mod Marks
+pub mod Composing
+pub mod Places
+pub mod Letters
+pub mod Walking
+pub mod Ascii
+pub mod Naming
+pub mod Keeping
+pub mod Examples

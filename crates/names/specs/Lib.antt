@@ -1,0 +1,4 @@
+pub mod Table
+pub mod Codes
+pub mod Names
+pub mod Steps
