@@ -16,7 +16,7 @@ use Rattle.query_tree.specs.Nodes.{tree}
 use Rattle.query_tree.specs.Form.{nodesIn}
 use Rattle.query_core_fit.specs.declared.Fit.{Fit}
 
--- "17 a property not declared", 18 a piece unfit for its kind, 19 more than 256 nodes.
+-- 17, a property not declared, 18 a piece unfit for its kind, 19 more than 256 nodes.
 abbrev pub fitNumber : Fit → ℕ
 fitNumber Fit.Accepted = 0
 fitNumber Fit.Undeclared = 17
