@@ -11,17 +11,19 @@ use lib.ListN.{length, getD, drop, length-map, length-drop, List·getD-map}
 use lib.Seq.{take-all}
 use borrow.Author.Tests.{lt-ltb, le-ltb}
 use Rattle.text.specs.Bytes.{Bytes, bytes, same, any, all, isBlank, span, starts}
+use Rattle.text.specs.Table.{bit}
 use Rattle.text.specs.Class.{oneOf, isNameByte, isValueByte, isOther}
 use Rattle.text.specs.Parts.{partOf, Trimmed}
 use Rattle.text.specs.declared.Span.{Span}
 use Rattle.text.proofs.Laws.{same-unlike, same-end, same-other, same-step, any-three}
 use Rattle.values.specs.Names.{isSized, first, last, isName, isValue, isNamespace, isReference, reference}
-use Rattle.values.specs.Values.{kindWord, lower, readBoolean, readNumber, readLink, readValue, mapOption, plain, link, number, boolean, string, kindOfConstant, kindOf, Constant, Value}
-use Rattle.values.specs.Answers.{hasBareEnds, Splits, booleanRead, kindAt, kindRead}
+use Rattle.values.specs.Values.{kindWord, lower, readBoolean, readScalar, readLink, readValue, mapOption, plain, link, scalar, string, kindOfConstant, kindOf, Constant, Value}
+use Rattle.values.specs.Answers.{hasBareEnds, Splits, codeRead, kindAt, kindRead}
 use Rattle.values.specs.declared.Kind.{Kind}
 use Rattle.values.specs.declared.KindRead.{KindRead}
 use Rattle.values.specs.declared.Split.{Split}
-use Rattle.values.specs.declared.BooleanRead.{BooleanRead}
+use Rattle.values.specs.declared.Scalar.{Scalar}
+use Rattle.values.specs.declared.CodeRead.{CodeRead}
 
 -- A value that is read in a kind has that kind.
 module _ {A : Type 0} (f : A → Value) (k : Kind) (h : (a : A) → kindOf (f a) ≡ k) (v : Value) where
@@ -35,16 +37,15 @@ plain-kind f k h (some a) v e = mapped-kind (λ x. plain (f x)) k h v (some a) e
 
 pub read-kind : (k : Kind) (s : Bytes) (v : Value) → readValue k s ≡ some v → kindOf v ≡ k
 read-kind Kind.Page s v e = mapped-kind link Kind.Page (λ i. refl) v (readLink s) e
-read-kind Kind.Number s v e = plain-kind number Kind.Number (λ z. refl) (readNumber s) v e
-read-kind Kind.Boolean s v e = plain-kind boolean Kind.Boolean (λ b. refl) (readBoolean s) v e
+read-kind (Kind.Scalar k) s v e = plain-kind (scalar k) (Kind.Scalar k) (λ c. refl) (readScalar k s) v e
 read-kind Kind.String s v e = plain-kind string Kind.String (λ x. refl) (some s) v e
 
 -- A kind is read where its word stands, and only there.
 pub kind-at-word : (k : Kind) (s : Bytes) → kindAt (kindWord k ++ s) ≡ some k
 unfolding kindAt starts
 kind-at-word Kind.Page s = refl
-kind-at-word Kind.Number s = refl
-kind-at-word Kind.Boolean s = refl
+kind-at-word (Kind.Scalar Scalar.Number) s = refl
+kind-at-word (Kind.Scalar Scalar.Boolean) s = refl
 kind-at-word Kind.String s = refl
 
 first-stands : (j k : Kind) (s : Bytes) (o : Option Kind) → (o ≡ some k → starts (kindWord k) s ≡ true) → cond (starts (kindWord j) s) (some j) o ≡ some k → starts (kindWord k) s ≡ true
@@ -58,7 +59,7 @@ pub kind-stands : (k : Kind) (s : Bytes) → kindAt s ≡ some k → starts (kin
 unfolding kindAt
 kind-stands k s =
     first-stands Kind.Page k s _
-    (first-stands Kind.Number k s _ (first-stands Kind.Boolean k s _ (first-stands Kind.String k s none (λ e. cc))))
+    (first-stands (Kind.Scalar Scalar.Number) k s _ (first-stands (Kind.Scalar Scalar.Boolean) k s _ (first-stands Kind.String k s none (λ e. cc))))
 
 -- The ways to find a kind.
 module _ (s : Bytes) (a : Bool) (e : a ≡ starts (kindWord Kind.Page) s) where
@@ -66,13 +67,13 @@ module _ (s : Bytes) (a : Bool) (e : a ≡ starts (kindWord Kind.Page) s) where
   unfolding kindAt
   kind-page h = rw (← e, h)
 
-  module _ (b : Bool) (f : b ≡ starts (kindWord Kind.Number) s) (h : a ≡ false) where
-    pub kind-number : b ≡ true → KindRead.Kind Kind.Number ≡ kindRead (kindAt s)
+  module _ (b : Bool) (f : b ≡ starts (kindWord (Kind.Scalar Scalar.Number)) s) (h : a ≡ false) where
+    pub kind-number : b ≡ true → KindRead.Kind (Kind.Scalar Scalar.Number) ≡ kindRead (kindAt s)
     unfolding kindAt
     kind-number i = rw (← e, h, ← f, i)
 
-    module _ (c : Bool) (g : c ≡ starts (kindWord Kind.Boolean) s) (i : b ≡ false) where
-      pub kind-boolean : c ≡ true → KindRead.Kind Kind.Boolean ≡ kindRead (kindAt s)
+    module _ (c : Bool) (g : c ≡ starts (kindWord (Kind.Scalar Scalar.Boolean)) s) (i : b ≡ false) where
+      pub kind-boolean : c ≡ true → KindRead.Kind (Kind.Scalar Scalar.Boolean) ≡ kindRead (kindAt s)
       unfolding kindAt
       kind-boolean j = rw (← e, h, ← f, i, ← g, j)
 
@@ -149,19 +150,19 @@ module _ (s : Bytes) where
   any-is x y z a b c t e f g h = any-three (same (map lower s)) x y z ∙ rw (← e, ← f, ← g) h
 
   module _ (a b c : Bool) (e : a ≡ same (map lower s) (bytes "true")) (f : b ≡ same (map lower s) (bytes "yes")) (g : c ≡ same (map lower s) (bytes "1")) where
-    pub boolean-true : (a || b || c) ≡ true → BooleanRead.True ≡ booleanRead (readBoolean s)
+    pub boolean-true : (a || b || c) ≡ true → CodeRead.Code 1 ≡ codeRead (mapOption bit (readBoolean s))
     unfolding readBoolean
     boolean-true h = rw (any-is (bytes "true") (bytes "yes") (bytes "1") a b c true e f g h)
 
     module _ (n : (a || b || c) ≡ false) (a′ b′ c′ : Bool) (e′ : a′ ≡ same (map lower s) (bytes "false")) (f′ : b′ ≡ same (map lower s) (bytes "no")) (g′ : c′ ≡ same (map lower s) (bytes "0")) where
-      other : (t : Bool) → (a′ || b′ || c′) ≡ t → booleanRead (readBoolean s) ≡ booleanRead (cond t (some false) none)
+      other : (t : Bool) → (a′ || b′ || c′) ≡ t → codeRead (mapOption bit (readBoolean s)) ≡ codeRead (mapOption bit (cond t (some false) none))
       unfolding readBoolean
       other t h = rw (any-is (bytes "true") (bytes "yes") (bytes "1") a b c false e f g n, any-is (bytes "false") (bytes "no") (bytes "0") a′ b′ c′ t e′ f′ g′ h)
 
-      pub boolean-false : (a′ || b′ || c′) ≡ true → BooleanRead.False ≡ booleanRead (readBoolean s)
+      pub boolean-false : (a′ || b′ || c′) ≡ true → CodeRead.Code 0 ≡ codeRead (mapOption bit (readBoolean s))
       boolean-false h = sym (other true h)
 
-      pub boolean-unfit : (a′ || b′ || c′) ≡ false → BooleanRead.Unfit ≡ booleanRead (readBoolean s)
+      pub boolean-unfit : (a′ || b′ || c′) ≡ false → CodeRead.Unfit ≡ codeRead (mapOption bit (readBoolean s))
       boolean-unfit h = sym (other false h)
 
 pub ruleset booleans = (boolean-true, boolean-false, boolean-unfit)

@@ -15,9 +15,9 @@ use borrow.Author.Tests.{leb-true, eq-eqb, ne-eqb, not-true, not-false}
 use Rattle.text.specs.Bytes.{Bytes, all, part, numbers}
 use Rattle.text.specs.Class.{isDigit}
 use Rattle.text.proofs.Laws.{numbers-less, numbers-greater, numbers-like}
-use Rattle.values.specs.Values.{decimal, readDigits, readNumber, mapOption, orderNumbers}
-use Rattle.values.specs.Answers.{base, biased, digitsRead, numberRead}
-use Rattle.values.specs.declared.NumberRead.{NumberRead}
+use Rattle.values.specs.Values.{decimal, readDigits, readNumber, mapOption, base, biased}
+use Rattle.values.specs.Answers.{codeRead}
+use Rattle.values.specs.declared.CodeRead.{CodeRead}
 
 -- Digits behind others make no number smaller.
 decimal-ge : (s : Bytes) (n : ℕ) → n ≤ decimal n s
@@ -55,7 +55,7 @@ module _ (s : Bytes) (n i : ℕ) where
 
 -- The ways to read digits.
 module _ (s : Bytes) (r : Bool) (e : r ≡ all isDigit s) where
-  pub digits-unfit : not (leb 1 (length s) && leb (length s) 15 && r) ≡ true → NumberRead.Unfit ≡ digitsRead (readDigits s)
+  pub digits-unfit : not (leb 1 (length s) && leb (length s) 15 && r) ≡ true → CodeRead.Unfit ≡ codeRead (readDigits s)
   unfolding readDigits
   digits-unfit h = rw (← e, not-true (leb 1 (length s) && leb (length s) 15 && r) h)
 
@@ -66,7 +66,7 @@ module _ (s : Bytes) (r : Bool) (e : r ≡ all isDigit s) where
         let l = leb-true (length s) 15 (and-eq-true-iff (leb 1 (length s)) (leb (length s) 15) .0 (t .0) .1) in
         omega (arith, decimal-lt s 0 0 (sym e ∙ t .1) (omega arith), pow-le-pow-right {n = 10} (omega arith) {i = 0 + length s} {j = 15} (omega arith))
 
-    pub digits-fit : (n : ℕ) → decimal 0 s ≡ n → NumberRead.Number n ≡ digitsRead (readDigits s)
+    pub digits-fit : (n : ℕ) → decimal 0 s ≡ n → CodeRead.Code n ≡ codeRead (readDigits s)
     unfolding readDigits
     digits-fit n q = rw (← e, not-false (leb 1 (length s) && leb (length s) 15 && r) h, q)
 
@@ -108,26 +108,9 @@ read-small (b ∷ s) z h = go (eqb b 45) h
     go true e = mapped-small (λ n. negℤ (pos n)) (readDigits s) z (read-digits-small s) small-minus e
     go false e = mapped-small pos (readDigits (b ∷ s)) z (read-digits-small (b ∷ s)) (λ n l. l) e
 
--- The held form keeps order, and loses nothing.
 pub biased-minus : (n : ℕ) → biased (negℤ (pos n)) ≡ base - n
 biased-minus zero = refl
 biased-minus (suc n) = refl
-
-pub biased-below : (a : ℤ) → Small a → biased a < 2 * base + 1
-biased-below (pos n) h = omega arith
-biased-below (negsuc n) h = omega arith
-
-pub biased-order : (a b : ℤ) → Small a → Small b → numbers (biased a) (biased b) ≡ orderNumbers a b
-biased-order (pos a) (pos b) h k = numbers-like (base + a) (base + b) a b (omega arith) (omega arith)
-biased-order (pos a) (negsuc b) h k = numbers-greater _ _ (omega arith)
-biased-order (negsuc a) (pos b) h k = numbers-less _ _ (omega arith)
-biased-order (negsuc a) (negsuc b) h k = numbers-like (base - suc a) (base - suc b) b a (omega arith) (omega arith)
-
-pub biased-injective : (a b : ℤ) → Small a → Small b → biased a ≡ biased b → a ≡ b
-biased-injective (pos a) (pos b) h k e = let q : a ≡ b = omega arith in ap pos q
-biased-injective (pos a) (negsuc b) h k e = absurd (omega arith)
-biased-injective (negsuc a) (pos b) h k e = absurd (omega arith)
-biased-injective (negsuc a) (negsuc b) h k e = let q : a ≡ b = omega arith in ap negsuc q
 
 -- With and without a minus.
 minus-is : (s : Bytes) → getD s 0 0 ≡ 45 → readNumber s ≡ mapOption (λ n. negℤ (pos n)) (readDigits (part s 1 (length s)))
@@ -140,35 +123,35 @@ unfolding readNumber readDigits
 plain-is [] h = refl
 plain-is (b ∷ s) h = rw (ne-eqb b 45 h)
 
-module _ (f : ℕ → ℤ) (r : NumberRead) where
-  mapped-read : (n : ℕ) (o : Option ℕ) → r ≡ digitsRead o → r ≡ NumberRead.Number n → NumberRead.Number (biased (f n)) ≡ numberRead (mapOption f o)
+module _ (f : ℕ → ℤ) (r : CodeRead) where
+  mapped-read : (n : ℕ) (o : Option ℕ) → r ≡ codeRead o → r ≡ CodeRead.Code n → CodeRead.Code (biased (f n)) ≡ codeRead (mapOption biased (mapOption f o))
   mapped-read n none e g = cc
   mapped-read n (some m) e g = let q : n ≡ m = cc in rw q
 
-  mapped-unfit : (o : Option ℕ) → r ≡ digitsRead o → r ≡ NumberRead.Unfit → NumberRead.Unfit ≡ numberRead (mapOption f o)
+  mapped-unfit : (o : Option ℕ) → r ≡ codeRead o → r ≡ CodeRead.Unfit → CodeRead.Unfit ≡ codeRead (mapOption biased (mapOption f o))
   mapped-unfit none e g = refl
   mapped-unfit (some m) e g = cc
 
 -- The ways to read a number.
-module _ (s : Bytes) (b : ℕ) (r : NumberRead) (p : b ≡ getD s 0 0) where
-  module _ (t : Bytes) (q : b ≡ 45) (u : t ≡ part s 1 (length s)) (e : r ≡ digitsRead (readDigits t)) where
-    pub minus-read : (n : ℕ) → r ≡ NumberRead.Number n → NumberRead.Number (base - n) ≡ numberRead (readNumber s)
+module _ (s : Bytes) (b : ℕ) (r : CodeRead) (p : b ≡ getD s 0 0) where
+  module _ (t : Bytes) (q : b ≡ 45) (u : t ≡ part s 1 (length s)) (e : r ≡ codeRead (readDigits t)) where
+    pub minus-read : (n : ℕ) → r ≡ CodeRead.Code n → CodeRead.Code (base - n) ≡ codeRead (mapOption biased (readNumber s))
     minus-read n g = rw (minus-is s (sym p ∙ q), ← u, ← biased-minus n) (mapped-read (λ k. negℤ (pos k)) r n (readDigits t) e g)
 
-    pub minus-unfit : r ≡ NumberRead.Unfit → NumberRead.Unfit ≡ numberRead (readNumber s)
+    pub minus-unfit : r ≡ CodeRead.Unfit → CodeRead.Unfit ≡ codeRead (mapOption biased (readNumber s))
     minus-unfit g = rw (minus-is s (sym p ∙ q), ← u) (mapped-unfit (λ k. negℤ (pos k)) r (readDigits t) e g)
 
-  module _ (q : b ≡ 45 → ⊥) (e : r ≡ digitsRead (readDigits s)) where
-    pub plain-read : (n : ℕ) → r ≡ NumberRead.Number n → NumberRead.Number (base + n) ≡ numberRead (readNumber s)
+  module _ (q : b ≡ 45 → ⊥) (e : r ≡ codeRead (readDigits s)) where
+    pub plain-read : (n : ℕ) → r ≡ CodeRead.Code n → CodeRead.Code (base + n) ≡ codeRead (mapOption biased (readNumber s))
     plain-read n g = rw (plain-is s (λ k. q (p ∙ k))) (mapped-read pos r n (readDigits s) e g)
 
-    pub plain-unfit : r ≡ NumberRead.Unfit → NumberRead.Unfit ≡ numberRead (readNumber s)
+    pub plain-unfit : r ≡ CodeRead.Unfit → CodeRead.Unfit ≡ codeRead (mapOption biased (readNumber s))
     plain-unfit g = rw (plain-is s (λ k. q (p ∙ k))) (mapped-unfit pos r (readDigits s) e g)
 
-pub digits-below : (t : Bytes) (r : NumberRead) (n : ℕ) → r ≡ digitsRead (readDigits t) → r ≡ NumberRead.Number n → n < base
+pub digits-below : (t : Bytes) (r : CodeRead) (n : ℕ) → r ≡ codeRead (readDigits t) → r ≡ CodeRead.Code n → n < base
 digits-below t r n e g = go (readDigits t) refl e
   where
-    go : (o : Option ℕ) → readDigits t ≡ o → r ≡ digitsRead o → n < base
+    go : (o : Option ℕ) → readDigits t ≡ o → r ≡ codeRead o → n < base
     go none k f = let l : _≡_ {A = ℕ} 0 1 = cc in omega arith
     go (some m) k f = let l : m ≡ n = cc in omega (arith, read-digits-small t m k)
 

@@ -2,16 +2,17 @@
 use Prim.Native.Nat.{ℕ}
 use mathlib.Core.Path.{_≡_, refl, sym, ap, _∙_}
 use mathlib.Core.Bool.{Bool, true, false, cond, and-eq-true-iff, false≢true}
-use mathlib.Core.Option.{some}
+use mathlib.Core.Option.{Option, some, none}
 use native.Mathlib.Omega.{arith}
-use lib.IntN.{ℤ, pos, negsuc}
-use lib.Dec.{ltb}
-use borrow.Author.Tests.{ltb-false}
+use lib.Dec.{eqb, ltb}
+use borrow.Author.Tests.{eqb-true, eq-eqb, ltb-false}
 use Rattle.text.specs.Bytes.{same, orderOf, numbers}
 use Rattle.text.specs.declared.Order.{Order}
 use Rattle.text.proofs.Laws.{same-eq, same-refl, numbers-equal, order-eq, order-refl}
 use Rattle.values.specs.Names.{Identifier, sameIdentifier}
-use Rattle.values.specs.Values.{Constant, number, boolean, string, Value, plain, link, orderNumbers, orderBooleans, orderConstants, isEqualOrder, sameValue}
+use Rattle.values.specs.Values.{Constant, scalar, string, Value, plain, link, kindCode, kindFrom, sameKind, orderConstants, isEqualOrder, sameValue}
+use Rattle.values.specs.declared.Kind.{Kind}
+use Rattle.values.specs.declared.Scalar.{Scalar}
 
 -- an order that is not `Equal`
 no-order : {A : Type 0} {o : Order} → isEqualOrder (some o) ≡ false → o ≡ Order.Equal → A
@@ -26,25 +27,24 @@ numbers-eq a b h = go (ltb a b) (ltb b a) refl refl h
     go false true e f h = no-order refl h
     go false false e f h = omega (arith, ltb-false a b e, ltb-false b a f)
 
-order-numbers-eq : (a b : ℤ) → orderNumbers a b ≡ Order.Equal → a ≡ b
-order-numbers-eq (pos a) (pos b) h = ap pos (numbers-eq a b h)
-order-numbers-eq (pos a) (negsuc b) h = no-order refl h
-order-numbers-eq (negsuc a) (pos b) h = no-order refl h
-order-numbers-eq (negsuc a) (negsuc b) h = ap negsuc (sym (numbers-eq b a h))
+-- Each kind has a byte of its own.
+pub kind-coded : (k : Kind) → kindFrom (kindCode k) ≡ k
+unfolding kindFrom
+kind-coded Kind.Page = refl
+kind-coded (Kind.Scalar Scalar.Number) = refl
+kind-coded (Kind.Scalar Scalar.Boolean) = refl
+kind-coded Kind.String = refl
 
-order-numbers-refl : (a : ℤ) → orderNumbers a a ≡ Order.Equal
-order-numbers-refl (pos a) = numbers-equal a a (omega arith) (omega arith)
-order-numbers-refl (negsuc a) = numbers-equal a a (omega arith) (omega arith)
+pub kind-eq : (a b : Kind) → sameKind a b ≡ true → a ≡ b
+kind-eq a b h = sym (kind-coded a) ∙ ap kindFrom (eqb-true (kindCode a) (kindCode b) h) ∙ kind-coded b
 
-order-booleans-eq : (a b : Bool) → orderBooleans a b ≡ Order.Equal → a ≡ b
-order-booleans-eq true true h = refl
-order-booleans-eq true false h = no-order refl h
-order-booleans-eq false true h = no-order refl h
-order-booleans-eq false false h = refl
+pub kind-refl : (a : Kind) → sameKind a a ≡ true
+kind-refl a = eq-eqb (kindCode a) (kindCode a) refl
 
-order-booleans-refl : (a : Bool) → orderBooleans a a ≡ Order.Equal
-order-booleans-refl true = refl
-order-booleans-refl false = refl
+abbrev scalar-of : Kind → Scalar
+scalar-of Kind.Page = Scalar.Number
+scalar-of (Kind.Scalar k) = k
+scalar-of Kind.String = Scalar.Number
 
 equal-order : (o : Order) → isEqualOrder (some o) ≡ true → o ≡ Order.Equal
 equal-order Order.Less h = absurd (false≢true h)
@@ -52,19 +52,20 @@ equal-order Order.Equal h = refl
 equal-order Order.Greater h = absurd (false≢true h)
 
 constant-eq : (a b : Constant) → isEqualOrder (orderConstants a b) ≡ true → a ≡ b
-constant-eq (number a) (number b) h = ap number (order-numbers-eq a b (equal-order (orderNumbers a b) h))
-constant-eq (number a) (boolean b) h = absurd (false≢true h)
-constant-eq (number a) (string b) h = absurd (false≢true h)
-constant-eq (boolean a) (number b) h = absurd (false≢true h)
-constant-eq (boolean a) (boolean b) h = ap boolean (order-booleans-eq a b (equal-order (orderBooleans a b) h))
-constant-eq (boolean a) (string b) h = absurd (false≢true h)
-constant-eq (string a) (number b) h = absurd (false≢true h)
-constant-eq (string a) (boolean b) h = absurd (false≢true h)
+constant-eq (scalar j a) (scalar k b) h = go (sameKind (Kind.Scalar j) (Kind.Scalar k)) refl h
+  where
+    go : (t : Bool) → sameKind (Kind.Scalar j) (Kind.Scalar k) ≡ t → isEqualOrder (cond t (some (numbers a b)) none) ≡ true → scalar j a ≡ scalar k b
+    go true e h =
+        let q : j ≡ k = ap scalar-of (kind-eq (Kind.Scalar j) (Kind.Scalar k) e) in
+        let n : a ≡ b = numbers-eq a b (equal-order (numbers a b) h) in
+        ap (λ (i : Scalar). scalar i a) q ∙ ap (scalar k) n
+    go false e h = absurd (false≢true h)
+constant-eq (scalar k a) (string b) h = absurd (false≢true h)
+constant-eq (string a) (scalar k b) h = absurd (false≢true h)
 constant-eq (string a) (string b) h = ap string (order-eq a b (equal-order (orderOf a b) h))
 
 constant-refl : (a : Constant) → isEqualOrder (orderConstants a a) ≡ true
-constant-refl (number a) = rw (order-numbers-refl a)
-constant-refl (boolean a) = rw (order-booleans-refl a)
+constant-refl (scalar k a) = rw (kind-refl (Kind.Scalar k), numbers-equal a a (omega arith) (omega arith))
 constant-refl (string a) = rw (order-refl a)
 
 pub identifier-eq : (i j : Identifier) → sameIdentifier i j ≡ true → i ≡ j

@@ -16,9 +16,10 @@ use Rattle.text.specs.Class.{oneOf, isDigit, isNameByte, isValueByte, isOther}
 use Rattle.text.proofs.Laws.{any-append, all-append}
 use Rattle.text.proofs.Trim.{trim-le}
 use Rattle.values.specs.Names.{first, last, isName, isNamespace, isValue, Reference, bare, qualified, reference, isReference, Identifier, identifier}
-use Rattle.values.specs.Values.{number, boolean, string, Value, plain, link, mapOption, decimal, readDigits, readNumber, readBoolean, readLink, readConstant, readValue}
-use Rattle.values.specs.Spelling.{digitsWithin, digits, spellNumber, spellBoolean, spellIdentifier, spelling}
+use Rattle.values.specs.Values.{scalar, string, Value, plain, link, mapOption, decimal, readDigits, readNumber, readBoolean, readLink, readScalar, readConstant, readValue}
+use Rattle.values.specs.Spelling.{digitsWithin, digits, spellNumber, spellBoolean, spellIdentifier}
 use Rattle.values.specs.declared.Kind.{Kind}
+use Rattle.values.specs.declared.Scalar.{Scalar}
 use Rattle.values.proofs.Numbers.{decimal-lt}
 
 -- What was read where a test had to pass, and what was read through a function.
@@ -26,7 +27,7 @@ passed : {A : Type 0} (t : Bool) (a b : A) → cond t (some a) none ≡ some b �
 passed true a b h = (refl, cc)
 passed false a b h = absurd (let l : _≡_ {A = ℕ} 0 1 = cc in omega arith)
 
-on-mapped : {A B : Type 0} (P : B → Type 0) (f : A → B) (o : Option A) (b : B) → ((a : A) → o ≡ some a → P (f a)) → mapOption f o ≡ some b → P b
+pub on-mapped : {A B : Type 0} (P : B → Type 0) (f : A → B) (o : Option A) (b : B) → ((a : A) → o ≡ some a → P (f a)) → mapOption f o ≡ some b → P b
 on-mapped P f none b h e = absurd (let l : _≡_ {A = ℕ} 0 1 = cc in omega arith)
 on-mapped P f (some a) b h e = let q : f a ≡ b = cc in subst P q (h a refl)
 
@@ -35,14 +36,12 @@ module _
     (P : Value → Type 0)
     (s : Bytes)
     (for-link : (i : Identifier) → readLink s ≡ some i → P (link i))
-    (for-number : (z : ℤ) → readNumber s ≡ some z → P (plain (number z)))
-    (for-boolean : (b : Bool) → readBoolean s ≡ some b → P (plain (boolean b)))
+    (for-scalar : (k : Scalar) (c : ℕ) → readScalar k s ≡ some c → P (plain (scalar k c)))
     (for-string : P (plain (string s)))
   where
     pub of-read : (k : Kind) (v : Value) → readValue k s ≡ some v → P v
     of-read Kind.Page v h = on-mapped P link (readLink s) v for-link h
-    of-read Kind.Number v h = on-mapped P plain (readConstant Kind.Number s) v (λ c. on-mapped (λ c. P (plain c)) number (readNumber s) c for-number) h
-    of-read Kind.Boolean v h = on-mapped P plain (readConstant Kind.Boolean s) v (λ c. on-mapped (λ c. P (plain c)) boolean (readBoolean s) c for-boolean) h
+    of-read (Kind.Scalar k) v h = on-mapped P plain (readConstant (Kind.Scalar k) s) v (λ c. on-mapped (λ c. P (plain c)) (scalar k) (readScalar k s) c (for-scalar k)) h
     of-read Kind.String v h = let e : plain (string s) ≡ v = cc in subst P e for-string
 
 -- A number below 10^k has no more than k digits, but for 0, which has one.
@@ -128,12 +127,6 @@ reference-le s = go (ltb (span (isOther 58) s) (length s)) refl
 
 pub spelled-link-le : (s : Bytes) (i : Identifier) → readLink s ≡ some i → length (spellIdentifier i) ≤ length s
 spelled-link-le s i h = subst (λ i. length (spellIdentifier i) ≤ length s) (link-read s i h .1) (reference-le s)
-
-pub spelled-le : (k : Kind) (s : Bytes) (v : Value) → readValue k s ≡ some v → length (spelling v) ≤ length s + 4
-unfolding spelling
-spelled-le k s =
-    of-read (λ v. length (spelling v) ≤ length s + 4) s (λ i e. omega (arith, spelled-link-le s i e)) (λ z e. omega (arith, spelled-number-le s z e))
-    (spelled-boolean-le s) (omega arith) k
 
 -- What the rule for names says.
 pub record Named (s : Bytes) : Type 0 where

@@ -1,6 +1,6 @@
 -- The shortest text of a value. Request 9: "numbers at their shortest, booleans as true and false, main links without a colon,
 -- other links without blanks at theirs".
-use Prim.Native.Nat.{ℕ, zero, suc, _+_, _/_, _%_}
+use Prim.Native.Nat.{ℕ, zero, suc, _+_, _-_, _/_, _%_}
 use mathlib.Core.Bool.{Bool, true, false, cond}
 use mathlib.Core.List.{[], _∷_, _++_}
 use lib.Dec.{ltb, eqb}
@@ -8,7 +8,8 @@ use lib.IntN.{ℤ, pos, negsuc}
 use lib.ListN.{length}
 use Rattle.text.specs.Bytes.{Bytes, bytes}
 use Rattle.values.specs.Names.{Identifier}
-use Rattle.values.specs.Values.{Constant, number, boolean, string, Value, plain, link}
+use Rattle.values.specs.Values.{Constant, scalar, string, Value, plain, link, base}
+use Rattle.values.specs.declared.Scalar.{Scalar}
 
 -- The decimal digits of a number; the first number bounds how many.
 unfoldable pub digitsWithin : ℕ → ℕ → Bytes
@@ -31,8 +32,16 @@ spellBoolean false = bytes "false"
 unfoldable pub spellIdentifier : Identifier → Bytes
 spellIdentifier i = cond (eqb (length (i .namespace)) 0) (i .article) (i .namespace ++ (58 ∷ i .article))
 
+-- The number that a code tells.
+unfoldable pub numberFrom : ℕ → ℤ
+numberFrom c = cond (ltb c base) (negsuc (base - suc c)) (pos (c - base))
+
+-- The value of a code.
+abbrev pub spellScalar : Scalar → ℕ → Bytes
+spellScalar Scalar.Number c = spellNumber (numberFrom c)
+spellScalar Scalar.Boolean c = spellBoolean (eqb c 1)
+
 unfoldable pub spelling : Value → Bytes
-spelling (plain (number z)) = spellNumber z
-spelling (plain (boolean b)) = spellBoolean b
+spelling (plain (scalar k c)) = spellScalar k c
 spelling (plain (string s)) = s
 spelling (link i) = spellIdentifier i

@@ -8,27 +8,48 @@ use lib.ListN.{length}
 use lib.IntN.{ℤ, pos, negsuc, negℤ}
 use Rattle.text.specs.Bytes.{Bytes, bytes, numbers, orderOf, same, all, any}
 use Rattle.text.specs.Class.{isDigit}
+use Rattle.text.specs.Table.{bit}
 use Rattle.text.specs.declared.Order.{Order}
 use Rattle.text.specs.declared.Order.the-variants.{Less, Equal, Greater}
 use Rattle.values.specs.declared.Kind.{Kind}
+use Rattle.values.specs.declared.Scalar.{Scalar}
 use Rattle.values.specs.Names.{Identifier, sameIdentifier, Reference, reference, isReference, identifier}
 
 -- "Kinds: `page`, `number`, `boolean`, `string`."
 abbrev pub kindWord : Kind → Bytes
 kindWord Kind.Page = bytes "page"
-kindWord Kind.Number = bytes "number"
-kindWord Kind.Boolean = bytes "boolean"
+kindWord (Kind.Scalar Scalar.Number) = bytes "number"
+kindWord (Kind.Scalar Scalar.Boolean) = bytes "boolean"
 kindWord Kind.String = bytes "string"
+
+-- The byte of a kind in held forms, below kindCount.
+abbrev pub kindCode : Kind → ℕ
+kindCode Kind.Page = 0
+kindCode (Kind.Scalar Scalar.Number) = 1
+kindCode (Kind.Scalar Scalar.Boolean) = 2
+kindCode Kind.String = 3
+
+abbrev pub kindCount : ℕ
+kindCount = 4
+
+-- The kind of a byte; a byte that no kind has is read as the last kind's.
+unfoldable pub kindFrom : ℕ → Kind
+kindFrom n =
+    cond (eqb n 0) Kind.Page
+    (cond (eqb n 1) (Kind.Scalar Scalar.Number)
+    (cond (eqb n 2) (Kind.Scalar Scalar.Boolean) Kind.String))
+
+abbrev pub sameKind : Kind → Kind → Bool
+sameKind a b = eqb (kindCode a) (kindCode b)
 
 -- What was read, changed by f.
 abbrev pub mapOption : {A B : Type 0} → (A → B) → Option A → Option B
 mapOption f none = none
 mapOption f (some a) = some (f a)
 
--- Constants, CVal of thesis 4.2.1.
+-- Constants, CVal of thesis 4.2.1. A value of a scalar kind is told by its code, a number; the order of codes is the kind's own.
 pub data Constant : Type 0 where
-  number : ℤ → Constant
-  boolean : Bool → Constant
+  scalar : Scalar → ℕ → Constant
   string : Bytes → Constant
 
 -- What a page holds under a property, CVal + CIdent of thesis 4.3.1.
@@ -37,8 +58,7 @@ pub data Value : Type 0 where
   link : Identifier → Value
 
 abbrev pub kindOfConstant : Constant → Kind
-kindOfConstant (number z) = Kind.Number
-kindOfConstant (boolean b) = Kind.Boolean
+kindOfConstant (scalar k c) = Kind.Scalar k
 kindOfConstant (string s) = Kind.String
 
 abbrev pub kindOf : Value → Kind
@@ -74,44 +94,41 @@ readBoolean s =
 unfoldable pub readLink : Bytes → Option Identifier
 readLink s = cond (isReference (reference s)) (some (identifier (reference s))) none
 
+-- 10^15, above every number that is read, and the code of a number: 10^15 more.
+abbrev pub base : ℕ
+base = 1_000_000_000_000_000
+
+abbrev pub biased : ℤ → ℕ
+biased (pos n) = base + n
+biased (negsuc n) = base - suc n
+
+-- The code of the value that bytes write in a scalar kind, or none: they are unfit for it. "false is less than true"
+abbrev pub readScalar : Scalar → Bytes → Option ℕ
+readScalar Scalar.Number s = mapOption biased (readNumber s)
+readScalar Scalar.Boolean s = mapOption bit (readBoolean s)
+
+-- The codes that a scalar kind has.
+abbrev pub inRange : Scalar → ℕ → Bool
+inRange Scalar.Number c = ltb 0 c && ltb c (2 * base)
+inRange Scalar.Boolean c = ltb c 2
+
 -- The constant that bytes write in a kind, or none: they are unfit for it. A page value is no constant.
 abbrev pub readConstant : Kind → Bytes → Option Constant
 readConstant Kind.Page s = none
-readConstant Kind.Number s = mapOption number (readNumber s)
-readConstant Kind.Boolean s = mapOption boolean (readBoolean s)
+readConstant (Kind.Scalar k) s = mapOption (scalar k) (readScalar k s)
 readConstant Kind.String s = some (string s)
 
 -- The value that bytes write in a kind, or none.
 abbrev pub readValue : Kind → Bytes → Option Value
 readValue Kind.Page s = mapOption link (readLink s)
-readValue Kind.Number s = mapOption plain (readConstant Kind.Number s)
-readValue Kind.Boolean s = mapOption plain (readConstant Kind.Boolean s)
+readValue (Kind.Scalar k) s = mapOption plain (readConstant (Kind.Scalar k) s)
 readValue Kind.String s = mapOption plain (readConstant Kind.String s)
-
--- The order of whole numbers.
-abbrev pub orderNumbers : ℤ → ℤ → Order
-orderNumbers (pos a) (pos b) = numbers a b
-orderNumbers (pos a) (negsuc b) = Greater
-orderNumbers (negsuc a) (pos b) = Less
-orderNumbers (negsuc a) (negsuc b) = numbers b a
-
--- "false is less than true"
-abbrev pub orderBooleans : Bool → Bool → Order
-orderBooleans true true = Equal
-orderBooleans true false = Greater
-orderBooleans false true = Less
-orderBooleans false false = Equal
 
 -- The order of two constants of one kind; none for two kinds (thesis 4.5.2).
 abbrev pub orderConstants : Constant → Constant → Option Order
-orderConstants (number a) (number b) = some (orderNumbers a b)
-orderConstants (number a) (boolean b) = none
-orderConstants (number a) (string b) = none
-orderConstants (boolean a) (number b) = none
-orderConstants (boolean a) (boolean b) = some (orderBooleans a b)
-orderConstants (boolean a) (string b) = none
-orderConstants (string a) (number b) = none
-orderConstants (string a) (boolean b) = none
+orderConstants (scalar j a) (scalar k b) = cond (sameKind (Kind.Scalar j) (Kind.Scalar k)) (some (numbers a b)) none
+orderConstants (scalar k a) (string b) = none
+orderConstants (string a) (scalar k b) = none
 orderConstants (string a) (string b) = some (orderOf a b)
 
 abbrev pub isEqualOrder : Option Order → Bool
@@ -126,3 +143,17 @@ sameValue (plain a) (plain b) = isEqualOrder (orderConstants a b)
 sameValue (plain a) (link j) = false
 sameValue (link i) (plain b) = false
 sameValue (link i) (link j) = sameIdentifier i j
+
+-- The orders that the codes of numbers and of booleans keep (`number-order` and `boolean-order` in proofs/Coded).
+abbrev pub orderNumbers : ℤ → ℤ → Order
+orderNumbers (pos a) (pos b) = numbers a b
+orderNumbers (pos a) (negsuc b) = Greater
+orderNumbers (negsuc a) (pos b) = Less
+orderNumbers (negsuc a) (negsuc b) = numbers b a
+
+-- "false is less than true"
+abbrev pub orderBooleans : Bool → Bool → Order
+orderBooleans true true = Equal
+orderBooleans true false = Greater
+orderBooleans false true = Less
+orderBooleans false false = Equal

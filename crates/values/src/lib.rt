@@ -1,14 +1,21 @@
-// Names, references, values and kinds: the tests, and how the values are read.
+// Names, references, values and kinds: the tests, and how the values are read. What differs from kind to kind stands in kinds.rt and
+// scalars.rt.
 ghost use mathlib.Core.Path.{_≡_};
-ghost use mathlib.Core.List.{map};
-ghost use Prim.Native.Nat.{_-_};
-ghost use lib.ListN.{drop};
-ghost use Rattle.text.specs.Bytes.{same};
 ghost use Rattle.values.specs.Names.{isName, isPropertyName, isNamespace, isValue, isReference, reference, isSized, last};
-ghost use Rattle.values.specs.Values.{lower, readDigits, readNumber, readBoolean};
-ghost use Rattle.values.specs.Answers.{hasBareEnds, Splits, digitsRead, numberRead, booleanRead, kindRead, kindAt};
+ghost use Rattle.values.specs.Answers.{hasBareEnds, Splits};
 
+pub mod kinds; // kinds.rt: the words and the bytes of kinds
 pub mod rules; // rules.rt: the rules for bytes, in a table
+pub mod scalars; // scalars.rt: how scalars are read, and how long they are
+
+pub use kinds::kind_at;
+pub use kinds::kind_code;
+pub use kinds::kind_from;
+pub use kinds::same_kind;
+pub use kinds::word_length;
+pub use scalars::in_range;
+pub use scalars::read_scalar;
+pub use scalars::scalar_length;
 
 use text::Class;
 use text::Span;
@@ -19,14 +26,18 @@ use text::one_of;
 use text::part;
 use text::scan;
 use text::trimmed;
-use text::word_at;
 
 // The kinds of a property's values.
 pub enum Kind {
     Page,
+    Scalar(Scalar),
+    String,
+}
+
+// The kinds whose values are numbers of an order of their own: each value has a code.
+pub enum Scalar {
     Number,
     Boolean,
-    String,
 }
 
 // A reference as written: where its namespace, if it has one, and its article name lie.
@@ -36,16 +47,9 @@ pub struct Split {
     pub article: Span,
 }
 
-// A number that was read, or none.
-pub enum NumberRead {
-    Number(u64),
-    Unfit,
-}
-
-// A boolean that was read, or none.
-pub enum BooleanRead {
-    True,
-    False,
+// The code of a value that was read, or none.
+pub enum CodeRead {
+    Code(u64),
     Unfit,
 }
 
@@ -143,107 +147,5 @@ pub fn is_reference(s: &[u8]) -> bool
         is_namespace(part(s, n.start, n.len)) & named
     } else {
         named
-    }
-}
-
-// What a decimal digit counts.
-fn digit_of(b: u8) -> u64
-    ensures { λ r. ⌜ r ≡ b - 48 ⌝ }
-{
-    if b < 48 { 0 } else { (b - 48) as u64 }
-}
-
-// The number that 1 to 15 decimal digits write, as it is.
-fn read_digits(s: &[u8]) -> NumberRead
-    ensures { λ r. ⌜ r ≡ digitsRead (readDigits (now (s .entry))) ⌝ }
-{
-    let fit = (1 <= s.len()) & (s.len() <= 15) & all_in(s, Class::Digit);
-    if !fit {
-        return NumberRead::Unfit;
-    }
-    let mut n: u64 = 0;
-    let mut i: usize = 0;
-    while i < s.len() {
-        n = 10 * n + digit_of(byte_at(s, i));
-        i += 1;
-    }
-    NumberRead::Number(n)
-}
-
-// The number that the bytes write, with 10^15 added.
-pub fn read_number(s: &[u8]) -> NumberRead
-    ensures { λ r. ⌜ r ≡ numberRead (readNumber (now (s .entry))) ⌝ }
-{
-    if byte_at(s, 0) == 45 {
-        let digits = part(s, 1, s.len());
-        match read_digits(digits) {
-            NumberRead::Number(n) => NumberRead::Number(1_000_000_000_000_000 - n),
-            NumberRead::Unfit => NumberRead::Unfit,
-        }
-    } else {
-        match read_digits(s) {
-            NumberRead::Number(n) => NumberRead::Number(1_000_000_000_000_000 + n),
-            NumberRead::Unfit => NumberRead::Unfit,
-        }
-    }
-}
-
-// An ASCII letter in its small form; any other byte as it is.
-fn lower_of(b: u8) -> u8
-    ensures { λ r. ⌜ r ≡ lower b ⌝ }
-{
-    if (65 <= b) & (b <= 90) { b + 32 } else { b }
-}
-
-// Whether the bytes, their letters small, are the word.
-fn is_word(s: &[u8], w: &[u8]) -> bool
-    ensures { λ r. ⌜ r ≡ same (map lower (now (s .entry))) (now (w .entry)) ⌝ }
-{
-    if s.len() != w.len() {
-        return false;
-    }
-    let mut i: usize = 0;
-    while i < s.len() {
-        if lower_of(s[i]) != w[i] {
-            return false;
-        }
-        i += 1;
-    }
-    true
-}
-
-// The boolean that the bytes write.
-pub fn read_boolean(s: &[u8]) -> BooleanRead
-    ensures { λ r. ⌜ r ≡ booleanRead (readBoolean (now (s .entry))) ⌝ }
-{
-    let yes = is_word(s, b"true") | is_word(s, b"yes") | is_word(s, b"1");
-    if yes {
-        return BooleanRead::True;
-    }
-    let no = is_word(s, b"false") | is_word(s, b"no") | is_word(s, b"0");
-    if no {
-        BooleanRead::False
-    } else {
-        BooleanRead::Unfit
-    }
-}
-
-// The kind whose word stands at a place.
-pub fn kind_at(s: &[u8], at: usize) -> KindRead
-    ensures { λ r. ⌜ r ≡ kindRead (kindAt (drop at (now (s .entry)))) ⌝ }
-{
-    if word_at(s, at, b"page") {
-        return KindRead::Kind(Kind::Page);
-    }
-    if word_at(s, at, b"number") {
-        return KindRead::Kind(Kind::Number);
-    }
-    if word_at(s, at, b"boolean") {
-        return KindRead::Kind(Kind::Boolean);
-    }
-    if word_at(s, at, b"string") {
-        KindRead::Kind(Kind::String)
-    } else {
-        KindRead::Nothing
     }
 }

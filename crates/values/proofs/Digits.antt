@@ -7,9 +7,8 @@ use native.Mathlib.Nat.{pow-succ', div-lt-iff-lt-mul}
 use lib.Dec.{ltb}
 use lib.ListN.{length, length-append}
 use borrow.Author.Tests.{lt-ltb, le-ltb, ltb-true, ltb-false}
-use Rattle.values.specs.Answers.{base}
-use Rattle.values.specs.Spelling.{digitsWithin, digits, spellNumber}
-use Rattle.register_form.specs.Dictionary.{numberFrom}
+use Rattle.values.specs.Values.{base}
+use Rattle.values.specs.Spelling.{digitsWithin, digits, spellNumber, numberFrom}
 
 step : (k n : ℕ) → 10 ≤ n → length (digitsWithin (suc k) n) ≡ length (digitsWithin k (n / 10)) + 1
 unfolding digitsWithin

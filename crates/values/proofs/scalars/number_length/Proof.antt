@@ -1,9 +1,9 @@
 use Prim.Native.Nat.{_-_}
 use native.Mathlib.Omega.{arith}
 use borrow.Author.Needs.{needs}
-use Rattle.register_form.proofs.Digits.{lengths, few}
-use Rattle.register_form.proofs.spelled.number_length.Statement.{statement}
-use Rattle.register_form.proofs.spelled.number_length.Tie as tie
+use Rattle.values.proofs.Digits.{lengths, few}
+use Rattle.values.proofs.scalars.number_length.Statement.{statement}
+use Rattle.values.proofs.scalars.number_length.Tie as tie
 
 sub-digit-count : tie.Need-sub-digit-count
 sub-digit-count c = search needs
@@ -12,7 +12,7 @@ digit-count-requires : tie.Need-digit-count-requires
 digit-count-requires c κs = search needs
 
 add-result : tie.Need-add-result
-add-result c = omega (arith, c .digit-count .ensures, few (1000000000000000 - c .before .before .args .code) (omega arith))
+add-result c = omega (arith, c .digit-count .ensures, few (1000000000000000 - c .before .before .args .c) (omega arith))
 
 returns : tie.Need-returns
 returns c = search (lengths, needs)

@@ -1,7 +1,7 @@
 use borrow.Author.Needs.{needs}
 use Rattle.values.proofs.Laws.{kinds}
-use Rattle.values.proofs.kind_at.Statement.{statement}
-use Rattle.values.proofs.kind_at.Tie as tie
+use Rattle.values.proofs.kinds.kind_at.Statement.{statement}
+use Rattle.values.proofs.kinds.kind_at.Tie as tie
 
 slice-aggregate-word-at : tie.Need-slice-aggregate-word-at
 slice-aggregate-word-at c = search needs

@@ -1,0 +1,81 @@
+// Kinds: the word and the byte of each.
+ghost use mathlib.Core.Path.{_≡_};
+ghost use lib.ListN.{length, drop};
+ghost use Rattle.values.specs.Values.{kindWord, kindCode, kindFrom, sameKind};
+ghost use Rattle.values.specs.Answers.{kindRead, kindAt};
+use crate::Kind;
+use crate::KindRead;
+use crate::Scalar;
+use text::word_at;
+
+// The kind whose word stands at a place.
+pub fn kind_at(s: &[u8], at: usize) -> KindRead
+    ensures { λ r. ⌜ r ≡ kindRead (kindAt (drop at (now (s .entry)))) ⌝ }
+{
+    if word_at(s, at, b"page") {
+        return KindRead::Kind(Kind::Page);
+    }
+    if word_at(s, at, b"number") {
+        return KindRead::Kind(Kind::Scalar(Scalar::Number));
+    }
+    if word_at(s, at, b"boolean") {
+        return KindRead::Kind(Kind::Scalar(Scalar::Boolean));
+    }
+    if word_at(s, at, b"string") {
+        KindRead::Kind(Kind::String)
+    } else {
+        KindRead::Nothing
+    }
+}
+
+// How long the word of a kind is.
+pub fn word_length(k: Kind) -> usize
+    ensures { λ r. ⌜ r ≡ length (kindWord k) ⌝ }
+{
+    match k {
+        Kind::Page => 4,
+        Kind::Scalar(s) => match s {
+            Scalar::Number => 6,
+            Scalar::Boolean => 7,
+        },
+        Kind::String => 6,
+    }
+}
+
+// The byte of a kind in held forms.
+pub fn kind_code(k: Kind) -> u8
+    ensures { λ r. ⌜ r ≡ kindCode k ⌝ }
+{
+    match k {
+        Kind::Page => 0,
+        Kind::Scalar(s) => match s {
+            Scalar::Number => 1,
+            Scalar::Boolean => 2,
+        },
+        Kind::String => 3,
+    }
+}
+
+// The kind of a byte; of one that no kind has, the last kind.
+pub fn kind_from(b: u8) -> Kind
+    ensures { λ r. ⌜ r ≡ kindFrom b ⌝ }
+{
+    if b == 0 {
+        return Kind::Page;
+    }
+    if b == 1 {
+        return Kind::Scalar(Scalar::Number);
+    }
+    if b == 2 {
+        Kind::Scalar(Scalar::Boolean)
+    } else {
+        Kind::String
+    }
+}
+
+// Whether two kinds are one.
+pub fn same_kind(a: Kind, b: Kind) -> bool
+    ensures { λ r. ⌜ r ≡ sameKind a b ⌝ }
+{
+    kind_code(a) == kind_code(b)
+}
