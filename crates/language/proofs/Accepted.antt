@@ -6,7 +6,6 @@ use mathlib.Core.List.{List, [], _∷_}
 use mathlib.Core.Option.{Option, some, none}
 use native.Mathlib.Omega.{arith}
 use lib.Dec.{ltb}
-use lib.IntN.{ℤ, pos, negsuc}
 use lib.ListN.{length}
 use borrow.Author.Tests.{ltb-false, lt-ltb, le-leb, not-false}
 use Rattle.text.specs.Bytes.{Bytes, same, any, all}
@@ -14,14 +13,13 @@ use Rattle.text.proofs.Laws.{same-eq, same-refl}
 use Rattle.values.specs.declared.Kind.{Kind}
 use Rattle.values.specs.Names.{Identifier, isName, isPropertyName, isNamespace, isValue, reference}
 use Rattle.values.specs.Values.{Value, link, readLink, readValue}
-use Rattle.values.specs.Answers.{base}
 use Rattle.values.specs.Spelling.{spelling}
-use Rattle.values.proofs.Numbers.{Small, read-small}
-use Rattle.values.proofs.Spelled.{of-read, link-read, reference-keeps, value-short, spelled-link-le, spelled-is-value, spelled-le}
+use Rattle.values.proofs.Coded.{read-in-range, spelled-le}
+use Rattle.values.proofs.Spelled.{of-read, link-read, reference-keeps, value-short, spelled-link-le, spelled-is-value}
 use Rattle.language.specs.Answer.{accepted, _>>=_, found}
 use Rattle.language.specs.Register.{Property, Held, Page, Register, kindAmong, distinct, Sound}
 use Rattle.language.specs.RegisterText.{Entry, prop, page, cat, val, close, line, breaksRule, properties, valueOf, isPage as isPageEntry, isInner, countOf, overLimits, sameHeld, withCategory, withValue, emptyPage, filled, pagesOf, registerOf, readRegister}
-use Rattle.language.specs.Rules.{isIdentifier, magnitude, isStorable, isPage, total, formsOn, bytesOn, bytesIn, isWithinLimits, isRegister}
+use Rattle.language.specs.Rules.{isIdentifier, isStorable, isPage, total, formsOn, bytesOn, bytesIn, isWithinLimits, isRegister}
 use Rattle.language.proofs.Options.{OnSome}
 use Rattle.language.proofs.Members.{and-true, or-false, both-true}
 use Rattle.language.proofs.Shorter.{of-found}
@@ -32,10 +30,6 @@ use Rattle.language.proofs.Sameness.{held-eq, held-refl}
 use Rattle.language.proofs.Rules.{RuledPage, rules-page}
 
 -- A value that was read from a text that keeps the rule for values keeps its own.
-small-magnitude : (z : ℤ) → Small z → ltb (magnitude z) base ≡ true
-small-magnitude (pos n) h = lt-ltb n base h
-small-magnitude (negsuc n) h = lt-ltb (suc n) base h
-
 link-storable : (s : Bytes) (i : Identifier) → isValue s ≡ true → readLink s ≡ some i → isStorable (link i) ≡ true
 unfolding isStorable isIdentifier spelling
 link-storable s i h e =
@@ -46,7 +40,7 @@ link-storable s i h e =
 pub read-storable : (k : Kind) (s : Bytes) (v : Value) → isValue s ≡ true → readValue k s ≡ some v → isStorable v ≡ true
 unfolding isStorable
 read-storable k s v h =
-    of-read (λ v. isStorable v ≡ true) s (λ i. link-storable s i h) (λ z e. small-magnitude z (read-small s z e)) (λ b e. refl) h k v
+    of-read (λ v. isStorable v ≡ true) s (λ i. link-storable s i h) (λ k. read-in-range k s) h k v
 
 -- What holds of whatever a text writes in any kind holds of a val's value.
 pub on-value : (P : Value → Type 0) (ps : List Property) (x s : Bytes) → ((k : Kind) (v : Value) → readValue k s ≡ some v → P v) → OnSome P (valueOf ps x s)

@@ -8,9 +8,9 @@ use Rattle.text.specs.declared.Order.{Order}
 use Rattle.text.proofs.Laws.{same-eq, all-append}
 use Rattle.values.specs.declared.Kind.{Kind}
 use Rattle.values.specs.Names.{Reference, bare, qualified, reference, isReference}
-use Rattle.values.specs.Values.{Constant, Value, plain, link, kindOf, kindOfConstant, orderConstants, mapOption, readConstant}
+use Rattle.values.specs.Values.{Constant, Value, plain, link, kindOf, kindOfConstant, orderConstants, mapOption, readConstant, sameKind}
 use Rattle.language.specs.Answer.{Answer, accepted, _>>=_, found}
-use Rattle.language.specs.Register.{Held, Page, Register, Typing, kindsOf, holds, leads, sameKind, hasKind, kindsHold}
+use Rattle.language.specs.Register.{Held, Page, Register, Typing, kindsOf, holds, leads, hasKind, kindsHold}
 use Rattle.language.specs.Surface.{Chain, single, chain, Categories, Identifiers, Alternatives, Query, namesOf, propertiesIn, propertiesOf}
 use Rattle.language.specs.Core.{Selector, Core}
 use Rattle.language.specs.Elaboration.{compared, elaborateReference, elaborateIdentifiers, elaborateCategories, elaborateConstant, elaborateValue, inside, joined, along, elaborateIn, elaborate}
@@ -22,26 +22,8 @@ use Rattle.language.specs.declared.SurfaceComparator.{SurfaceComparator}
 use Rattle.language.proofs.Options.{OnSome}
 use Rattle.language.proofs.Members.{and-true, both-false, all-at, any-none, map-same}
 use Rattle.language.proofs.Holding.{holds-same, holds-none, holds-or, leads-same}
-use Rattle.language.proofs.Registers.{sameKind-refl}
+use Rattle.values.proofs.Sameness.{kind-eq, kind-refl}
 use Rattle.language.proofs.Typed.{constant-kind}
-
-pub sameKind-eq : (k l : Kind) → sameKind k l ≡ true → k ≡ l
-sameKind-eq Kind.Page Kind.Page e = refl
-sameKind-eq Kind.Page Kind.Number e = absurd (false≢true e)
-sameKind-eq Kind.Page Kind.Boolean e = absurd (false≢true e)
-sameKind-eq Kind.Page Kind.String e = absurd (false≢true e)
-sameKind-eq Kind.Number Kind.Page e = absurd (false≢true e)
-sameKind-eq Kind.Number Kind.Number e = refl
-sameKind-eq Kind.Number Kind.Boolean e = absurd (false≢true e)
-sameKind-eq Kind.Number Kind.String e = absurd (false≢true e)
-sameKind-eq Kind.Boolean Kind.Page e = absurd (false≢true e)
-sameKind-eq Kind.Boolean Kind.Number e = absurd (false≢true e)
-sameKind-eq Kind.Boolean Kind.Boolean e = refl
-sameKind-eq Kind.Boolean Kind.String e = absurd (false≢true e)
-sameKind-eq Kind.String Kind.Page e = absurd (false≢true e)
-sameKind-eq Kind.String Kind.Number e = absurd (false≢true e)
-sameKind-eq Kind.String Kind.Boolean e = absurd (false≢true e)
-sameKind-eq Kind.String Kind.String e = refl
 
 -- What the six comparators say, by the core's four.
 abbrev six : (Comparator → Bool) → SurfaceComparator → Bool
@@ -223,7 +205,7 @@ module _ (Γ : Typing) (R : Register) (kinds : kindsHold R ≡ true) where
     where
       go : (o : Option Kind) → agree (some k) o ≡ true → hasKind o (kindOf (h .value)) ≡ true → sameKind (kindOf (h .value)) k ≡ true
       go none a b = absurd (false≢true b)
-      go (some l) a b = rw (← sameKind-eq l (kindOf (h .value)) b, ← sameKind-eq k l a) (sameKind-refl k)
+      go (some l) a b = rw (← kind-eq l (kindOf (h .value)) b, ← kind-eq k l a) (kind-refl k)
 
   none-other : (x : Bytes) (k : Kind) → Agree x → Γ x ≡ some k → someOther R x k ≡ false
   unfolding someOther
@@ -246,8 +228,7 @@ module _ (Γ : Typing) (R : Register) (kinds : kindsHold R ≡ true) where
       go : (b : Bool) → cond b (holds x (leads R (meansReference c (reference v))) p) false ≡ false
       go true = nothing-held x e _ p m
       go false = refl
-  nothing-meant x e c v Kind.Number p m = none-of x e c p m (readConstant Kind.Number v)
-  nothing-meant x e c v Kind.Boolean p m = none-of x e c p m (readConstant Kind.Boolean v)
+  nothing-meant x e c v (Kind.Scalar k) p m = none-of x e c p m (readConstant (Kind.Scalar k) v)
   nothing-meant x e c v Kind.String p m = none-of x e c p m (readConstant Kind.String v)
 
   constants : (x : Bytes) (c : SurfaceComparator) (k : Kind) → someOther R x k ≡ false → (o : Option Constant) → OnSome (λ v. kindOfConstant v ≡ k) o → OnSome (Means R (λ p. found o (λ w. holds x (standsTo c w) p) false)) (mapOption (elaborateConstant x c) o)
@@ -262,8 +243,7 @@ module _ (Γ : Typing) (R : Register) (kinds : kindsHold R ≡ true) where
       go : (b : Bool) → OnSome (Means R (λ p. cond b (holds x (leads R (meansReference c (reference v))) p) false)) (cond b (some (Core.select (Selector.subquery x (elaborateReference c (reference v))))) none)
       go true = subquery-means R x _ _ o (reference-means R c (reference v))
       go false = tt
-  value-means x c v Kind.Number o = constants x c Kind.Number o (readConstant Kind.Number v) (constant-kind Kind.Number v)
-  value-means x c v Kind.Boolean o = constants x c Kind.Boolean o (readConstant Kind.Boolean v) (constant-kind Kind.Boolean v)
+  value-means x c v (Kind.Scalar k) o = constants x c (Kind.Scalar k) o (readConstant (Kind.Scalar k) v) (constant-kind (Kind.Scalar k) v)
   value-means x c v Kind.String o = constants x c Kind.String o (readConstant Kind.String v) (constant-kind Kind.String v)
 
   -- and where it does not
@@ -274,7 +254,7 @@ module _ (Γ : Typing) (R : Register) (kinds : kindsHold R ≡ true) where
       declared : (k : Kind) → Γ x ≡ some k → (o : Option Kind) → kindsOf R x ≡ o → (q : Option Core) → OnSome (Means R (meansValue R x c v (some k))) q → OnSome (Means R (meansValue R x c v o)) q
       declared k e o f none h = tt
       declared k e none f (some d) h = means-same R _ _ d h (λ p m. nothing-meant x f c v k p m)
-      declared k e (some l) f (some d) h = subst (λ l. Means R (meansValue R x c v (some l)) d) (sameKind-eq k l (subst (λ j. agree j (some l) ≡ true) e (subst (λ o. agree (Γ x) o ≡ true) f g))) h
+      declared k e (some l) f (some d) h = subst (λ l. Means R (meansValue R x c v (some l)) d) (kind-eq k l (subst (λ j. agree j (some l) ≡ true) e (subst (λ o. agree (Γ x) o ≡ true) f g))) h
 
       fit : (o : Option Kind) → Γ x ≡ o → OnSome (Means R (meansValue R x c v (kindsOf R x))) (o >>= elaborateValue x c v)
       fit none e = tt
@@ -288,8 +268,7 @@ module _ (Γ : Typing) (R : Register) (kinds : kindsHold R ≡ true) where
       go none e q h = tt
       go (some Kind.Page) e none h = tt
       go (some Kind.Page) e (some c) h = subquery-means R x m c (none-other x Kind.Page g e) h
-      go (some Kind.Number) e q h = tt
-      go (some Kind.Boolean) e q h = tt
+      go (some (Kind.Scalar k)) e q h = tt
       go (some Kind.String) e q h = tt
 
   along-means : (c : Chain) (f : Bytes → Option Core) (m : Bytes → Page → Bool) → all (λ x. agree (Γ x) (kindsOf R x)) (namesOf c) ≡ true

@@ -19,7 +19,7 @@ use Rattle.language.specs.Direct.{means, meansAnswer, meaning, directMar
 use Rattle.language.specs.Agreement.{agree, kindsAgree, answerAgrees, textAgrees}
 use Rattle.language.specs.Calls.{coreOf}
 use Rattle.language.proofs.Members.{both-true}
-use Rattle.language.proofs.Registers.{sameKind-refl}
+use Rattle.values.proofs.Sameness.{kind-refl}
 use Rattle.language.proofs.Agreement.{agreement}
 use Rattle.language.proofs.Typed.{elaborated-typed}
 
@@ -47,7 +47,7 @@ own-kinds R q = each (propertiesOf q)
   where
     same-kind : (k : Option Kind) → agree k k ≡ true
     same-kind none = refl
-    same-kind (some k) = sameKind-refl k
+    same-kind (some k) = kind-refl k
 
     each : (l : List Bytes) → all (λ x. agree (kindsOf R x) (kindsOf R x)) l ≡ true
     each [] = refl

@@ -8,6 +8,7 @@ use lib.ListN.{length, drop, length-take, length-drop}
 use Rattle.text.specs.Bytes.{Bytes, bytes, span, front, behind, starts, after}
 use Rattle.text.specs.Class.{isQuotable}
 use Rattle.values.specs.declared.Kind.{Kind}
+use Rattle.values.specs.declared.Scalar.{Scalar}
 use Rattle.values.specs.Values.{kindWord}
 use Rattle.values.specs.Answers.{kindAt}
 use Rattle.values.proofs.Laws.{kind-stands}
@@ -31,8 +32,8 @@ quoted-leaves s =
 
 word-length : (k : Kind) → 1 ≤ length (kindWord k)
 word-length Kind.Page = omega arith
-word-length Kind.Number = omega arith
-word-length Kind.Boolean = omega arith
+word-length (Kind.Scalar Scalar.Number) = omega arith
+word-length (Kind.Scalar Scalar.Boolean) = omega arith
 word-length Kind.String = omega arith
 
 kind-leaves : (s : Bytes) → OnSome (Less s) (kindWordAt s)

@@ -5,8 +5,8 @@ use mathlib.Core.List.{List, [], _∷_, List·Memᴰ}
 use Rattle.text.specs.Bytes.{Bytes, same, any}
 use Rattle.values.specs.declared.Kind.{Kind}
 use Rattle.values.specs.Names.{Identifier, sameIdentifier}
-use Rattle.values.specs.Values.{Value, plain, link, kindOf}
-use Rattle.language.specs.Register.{Held, Page, Register, holds, leads, sameKind}
+use Rattle.values.specs.Values.{Value, plain, link, kindOf, sameKind}
+use Rattle.language.specs.Register.{Held, Page, Register, holds, leads}
 use Rattle.language.specs.Semantics.{someOther}
 use Rattle.language.proofs.Members.{any-at, any-same, any-none, any-or, by-test}
 

@@ -21,7 +21,7 @@ use Rattle.language.specs.Joining.{onlyIn, union, likeIn, joinPage, join
 use Rattle.language.proofs.Options.{OnSome}
 use Rattle.language.proofs.Members.{or-false, both-true, all-at, all-of, all-map, map-itself, getD-mapped}
 use Rattle.language.proofs.Rules.{page-rules, rules-page, register-rules, rules-register}
-use Rattle.language.proofs.Agreement.{sameKind-eq}
+use Rattle.values.proofs.Sameness.{kind-eq}
 use Rattle.language.proofs.Unions.{only-all, union-all, union-distinct, only-beside-none, only-self, union-self, like-found, like-self, any-union, like-union, like-likewise, only-kept, like-kept, distinct-kept}
 use Rattle.language.proofs.Sameness.{same-decides, sameHeld-decides, same-likeness, sameHeld-likeness, sameProperty-likeness, samePage-likeness}
 
@@ -131,7 +131,7 @@ module _ (R S : Register) where
       go : (o w : Option Kind) → OnSome (λ j. isOtherKind j w ≡ false) o → hasKind w k ≡ true → hasKind (found o some w) k ≡ true
       go none w n h = h
       go (some j) none n h = absurd (false≢true h)
-      go (some j) (some l) n h = rw (sameKind-eq j l (not-false _ n)) h
+      go (some j) (some l) n h = rw (kind-eq j l (not-false _ n)) h
 
   -- A test that each page of both passes, and the join of two that pass it, is passed by each page of the join.
   pub joined-all : (test : Page → Bool) → all test (R .pages) ≡ true → all test (S .pages) ≡ true

@@ -6,9 +6,9 @@ use mathlib.Core.Bool.{Bool, true, false, _&&_, _||_, false≢true}
 use mathlib.Core.List.{List, List·Memᴰ, map}
 use Rattle.text.specs.Bytes.{Bytes}
 use Rattle.values.specs.declared.Kind.{Kind}
-use Rattle.values.specs.Values.{Constant, number, boolean, string, Value, plain, link, kindOf, kindOfConstant, orderConstants}
+use Rattle.values.specs.Values.{Constant, scalar, string, Value, plain, link, kindOf, kindOfConstant, orderConstants, sameKind}
 use Rattle.language.specs.Answer.{found}
-use Rattle.language.specs.Register.{Page, Register, sameKind, leads}
+use Rattle.language.specs.Register.{Page, Register, leads}
 use Rattle.language.specs.Core.{Selector, Core}
 use Rattle.language.specs.Semantics.{Mixed, stands, Cv, follows, S, Q, someOther, mismatchIn, mismatch}
 use Rattle.language.specs.declared.Comparator.{Comparator}
@@ -19,16 +19,10 @@ module _ (u w : Mixed) where
   -- a value beside a constant of its kind
   compared-free : (c : Comparator) (v : Constant) (a : Value) → sameKind (kindOf a) (kindOfConstant v) ≡ true → Cv u c v a ≡ Cv w c v a
   unfolding Cv
-  compared-free c (number x) (plain (number y)) e = refl
-  compared-free c (number x) (plain (boolean y)) e = absurd (false≢true e)
-  compared-free c (number x) (plain (string y)) e = absurd (false≢true e)
-  compared-free c (number x) (link i) e = absurd (false≢true e)
-  compared-free c (boolean x) (plain (number y)) e = absurd (false≢true e)
-  compared-free c (boolean x) (plain (boolean y)) e = refl
-  compared-free c (boolean x) (plain (string y)) e = absurd (false≢true e)
-  compared-free c (boolean x) (link i) e = absurd (false≢true e)
-  compared-free c (string x) (plain (number y)) e = absurd (false≢true e)
-  compared-free c (string x) (plain (boolean y)) e = absurd (false≢true e)
+  compared-free c (scalar k x) (plain (scalar j y)) e = rw e
+  compared-free c (scalar k x) (plain (string y)) e = absurd (false≢true e)
+  compared-free c (scalar k x) (link i) e = absurd (false≢true e)
+  compared-free c (string x) (plain (scalar k y)) e = absurd (false≢true e)
   compared-free c (string x) (plain (string y)) e = refl
   compared-free c (string x) (link i) e = absurd (false≢true e)
 
@@ -36,8 +30,7 @@ module _ (u w : Mixed) where
     -- a link, followed by tests that answer alike
     followed-free : (f g : Page → Bool) → ((p : Page) → List·Memᴰ p (R .pages) → f p ≡ g p) → (a : Value) → sameKind (kindOf a) Kind.Page ≡ true → follows u R f a ≡ follows w R g a
     unfolding follows
-    followed-free f g r (plain (number x)) e = absurd (false≢true e)
-    followed-free f g r (plain (boolean x)) e = absurd (false≢true e)
+    followed-free f g r (plain (scalar k x)) e = absurd (false≢true e)
     followed-free f g r (plain (string x)) e = absurd (false≢true e)
     followed-free f g r (link i) e = leads-same R f g r (link i)
 

@@ -10,10 +10,11 @@ use lib.Dec.{ltb}
 use lib.ListN.{length}
 use Rattle.text.specs.Bytes.{Bytes, same, any, all}
 use Rattle.values.specs.declared.Kind.{Kind}
-use Rattle.values.specs.Values.{Value, kindOf, readValue}
+use Rattle.values.specs.Values.{Value, kindOf, readValue, sameKind}
 use Rattle.values.proofs.Laws.{read-kind}
+use Rattle.values.proofs.Sameness.{kind-refl}
 use Rattle.language.specs.Answer.{refused, accepted, Check, _if_, judge, _>>=_, found}
-use Rattle.language.specs.Register.{Property, Held, Page, Register, kindAmong, sameKind, hasKind, kindsHold, distinct, sameProperty, samePage, Sound}
+use Rattle.language.specs.Register.{Property, Held, Page, Register, kindAmong, hasKind, kindsHold, distinct, sameProperty, samePage, Sound}
 use Rattle.language.specs.RegisterText.{Entry, prop, page, cat, val, close, entries, breaksRule, sameDeclared, someTwice, properties, isUndeclared, valueOf, isUnfit, isPage, isInner, countOf, overLimits, sameHeld, withCategory, withValue, emptyPage, filled, pagesOf, registerOf, checks, readRegister}
 use Rattle.language.proofs.Options.{OnSome}
 use Rattle.language.proofs.Members.{or-false, both-true}
@@ -29,12 +30,6 @@ pub judge-all : {A : Type 0} (a r : A) → judge [] a ≡ accepted r → a ≡ r
 unfolding judge
 judge-all a r h = cc
 
-pub sameKind-refl : (k : Kind) → sameKind k k ≡ true
-sameKind-refl Kind.Page = refl
-sameKind-refl Kind.Number = refl
-sameKind-refl Kind.Boolean = refl
-sameKind-refl Kind.String = refl
-
 module _ (ps : List Property) where
   abbrev rightly : Held → Bool
   rightly h = hasKind (kindAmong ps (h .property)) (kindOf (h .value))
@@ -46,7 +41,7 @@ module _ (ps : List Property) where
     where
       read : (k : Kind) (o : Option Value) → readValue k v ≡ o → OnSome (λ w. sameKind k (kindOf w) ≡ true) o
       read k none e = tt
-      read k (some w) e = rw (read-kind k v w e) (sameKind-refl k)
+      read k (some w) e = rw (read-kind k v w e) (kind-refl k)
 
       go : (o : Option Kind) → OnSome (λ w. hasKind o (kindOf w) ≡ true) (o >>= λ k. readValue k v)
       go none = tt

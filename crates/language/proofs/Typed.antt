@@ -1,11 +1,12 @@
 -- Type soundness, thesis 5.3.5: a query that elaborates is well-typed by 4.4.3.
+use Prim.Native.Nat.{ℕ}
 use mathlib.Core.Path.{_≡_, refl, sym, ap, _∙_, subst}
 use mathlib.Core.Bool.{Bool, true, false, cond, _&&_}
 use mathlib.Core.Option.{Option, some, none}
 use Rattle.text.specs.Bytes.{Bytes}
 use Rattle.values.specs.declared.Kind.{Kind}
 use Rattle.values.specs.Names.{Reference, bare, qualified, reference, isReference}
-use Rattle.values.specs.Values.{Constant, kindOfConstant, mapOption, number, boolean, string, readNumber, readBoolean, readConstant}
+use Rattle.values.specs.Values.{Constant, kindOfConstant, mapOption, scalar, string, readScalar, readConstant}
 use Rattle.language.specs.Answer.{_>>=_}
 use Rattle.language.specs.Register.{Typing, hasKind}
 use Rattle.language.specs.Surface.{Chain, single, chain, Categories, Identifiers, Alternatives, Query}
@@ -16,21 +17,16 @@ use Rattle.language.specs.declared.Comparator.{Comparator}
 use Rattle.language.specs.declared.SurfaceComparator.{SurfaceComparator}
 use Rattle.language.proofs.Options.{OnSome}
 use Rattle.language.proofs.Members.{both-true}
-use Rattle.language.proofs.Registers.{sameKind-refl}
+use Rattle.values.proofs.Sameness.{kind-refl}
 
 -- the constant of a kind has that kind
 pub constant-kind : (k : Kind) (s : Bytes) → OnSome (λ v. kindOfConstant v ≡ k) (readConstant k s)
 constant-kind Kind.Page s = tt
-constant-kind Kind.Number s = go (readNumber s)
+constant-kind (Kind.Scalar k) s = go (readScalar k s)
   where
-    go : (o : Option _) → OnSome (λ v. kindOfConstant v ≡ Kind.Number) (mapOption number o)
+    go : (o : Option ℕ) → OnSome (λ v. kindOfConstant v ≡ Kind.Scalar k) (mapOption (scalar k) o)
     go none = tt
-    go (some z) = refl
-constant-kind Kind.Boolean s = go (readBoolean s)
-  where
-    go : (o : Option Bool) → OnSome (λ v. kindOfConstant v ≡ Kind.Boolean) (mapOption boolean o)
-    go none = tt
-    go (some b) = refl
+    go (some c) = refl
 constant-kind Kind.String s = refl
 
 module _ (Γ : Typing) where
@@ -85,8 +81,7 @@ module _ (Γ : Typing) where
       go : (b : Bool) → OnSome Typed (cond b (some (Core.select (Selector.subquery x (elaborateReference c (reference v))))) none)
       go true = both-true h (reference-typed c (reference v))
       go false = tt
-  value-typed x c v Kind.Number h = constant-typed x c Kind.Number h (readConstant Kind.Number v) (constant-kind Kind.Number v)
-  value-typed x c v Kind.Boolean h = constant-typed x c Kind.Boolean h (readConstant Kind.Boolean v) (constant-kind Kind.Boolean v)
+  value-typed x c v (Kind.Scalar k) h = constant-typed x c (Kind.Scalar k) h (readConstant (Kind.Scalar k) v) (constant-kind (Kind.Scalar k) v)
   value-typed x c v Kind.String h = constant-typed x c Kind.String h (readConstant Kind.String v) (constant-kind Kind.String v)
 
   piece-typed : (x : Bytes) (c : SurfaceComparator) (v : Bytes) → OnSome Typed (Γ x >>= elaborateValue x c v)
@@ -94,7 +89,7 @@ module _ (Γ : Typing) where
     where
       go : (o : Option Kind) → Γ x ≡ o → OnSome Typed (o >>= elaborateValue x c v)
       go none e = tt
-      go (some k) e = value-typed x c v k (rw e (sameKind-refl k))
+      go (some k) e = value-typed x c v k (rw e (kind-refl k))
 
   inside-typed : (x : Bytes) (o : Option Core) → OnSome Typed o → OnSome Typed (inside x (Γ x) o)
   unfolding inside wellTyped
@@ -104,8 +99,7 @@ module _ (Γ : Typing) where
       go none e o h = tt
       go (some Kind.Page) e none h = tt
       go (some Kind.Page) e (some c) h = both-true (ap (λ k. hasKind k Kind.Page) e) h
-      go (some Kind.Number) e o h = tt
-      go (some Kind.Boolean) e o h = tt
+      go (some (Kind.Scalar k)) e o h = tt
       go (some Kind.String) e o h = tt
 
   joined-typed : (k : Core → Core → Core) → ((a b : Core) → Typed a → Typed b → Typed (k a b)) → (a b : Option Core) → OnSome Typed a → OnSome Typed b → OnSome Typed (joined k a b)

@@ -79,8 +79,7 @@ unfoldable pub meansValue : Register → Bytes → SurfaceComparator → Bytes �
 meansValue R x c v none p = false
 meansValue R x c v (some Kind.Page) p =
     cond (isReference (reference v)) (holds x (leads R (meansReference c (reference v))) p) false
-meansValue R x c v (some Kind.Number) p = found (readConstant Kind.Number v) (λ w. holds x (standsTo c w) p) false
-meansValue R x c v (some Kind.Boolean) p = found (readConstant Kind.Boolean v) (λ w. holds x (standsTo c w) p) false
+meansValue R x c v (some (Kind.Scalar k)) p = found (readConstant (Kind.Scalar k) v) (λ w. holds x (standsTo c w) p) false
 meansValue R x c v (some Kind.String) p = found (readConstant Kind.String v) (λ w. holds x (standsTo c w) p) false
 
 -- "a chain `a.p` wants a link under `a` to one that the rest selects"

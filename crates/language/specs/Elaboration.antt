@@ -70,16 +70,14 @@ subqueryOn x q = Core.select (Selector.subquery x q)
 unfoldable pub elaborateValue : Bytes → SurfaceComparator → Bytes → Kind → Option Core
 elaborateValue x c v Kind.Page =
     cond (isReference (reference v)) (some (subqueryOn x (elaborateReference c (reference v)))) none
-elaborateValue x c v Kind.Number = mapOption (elaborateConstant x c) (readConstant Kind.Number v)
-elaborateValue x c v Kind.Boolean = mapOption (elaborateConstant x c) (readConstant Kind.Boolean v)
+elaborateValue x c v (Kind.Scalar k) = mapOption (elaborateConstant x c) (readConstant (Kind.Scalar k) v)
 elaborateValue x c v Kind.String = mapOption (elaborateConstant x c) (readConstant Kind.String v)
 
 -- A query inside a page property, undefined on the other kinds.
 unfoldable pub inside : Bytes → Option Kind → Option Core → Option Core
 inside x none q = none
 inside x (some Kind.Page) q = mapOption (subqueryOn x) q
-inside x (some Kind.Number) q = none
-inside x (some Kind.Boolean) q = none
+inside x (some (Kind.Scalar k)) q = none
 inside x (some Kind.String) q = none
 
 unfoldable pub joined : (Core → Core → Core) → Option Core → Option Core → Option Core

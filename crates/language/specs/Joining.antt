@@ -5,7 +5,8 @@ use mathlib.Core.Option.{Option, some, none}
 use Rattle.text.specs.Bytes.{Bytes, same, any}
 use Rattle.values.specs.declared.Kind.{Kind}
 use Rattle.language.specs.Answer.{found}
-use Rattle.language.specs.Register.{Property, Page, Register, kindsOf, sameKind, sameProperty, samePage}
+use Rattle.values.specs.Values.{sameKind}
+use Rattle.language.specs.Register.{Property, Page, Register, kindsOf, sameProperty, samePage}
 use Rattle.language.specs.RegisterText.{sameHeld}
 
 -- The register with no properties and no pages.

@@ -8,7 +8,7 @@ use lib.ListN.{length}
 use Rattle.text.specs.Bytes.{Bytes, same, any, all}
 use Rattle.values.specs.declared.Kind.{Kind}
 use Rattle.values.specs.Names.{Identifier, sameIdentifier}
-use Rattle.values.specs.Values.{Value, plain, link, kindOf}
+use Rattle.values.specs.Values.{Value, plain, link, kindOf, sameKind}
 
 -- A declared property.
 pub record Property : Type 0 where
@@ -41,24 +41,6 @@ kindAmong (p ∷ l) x = cond (same (p .name) x) (some (p .kind)) (kindAmong l x)
 
 abbrev pub kindsOf : Register → Typing
 kindsOf R = kindAmong (R .properties)
-
-abbrev pub sameKind : Kind → Kind → Bool
-sameKind Kind.Page Kind.Page = true
-sameKind Kind.Page Kind.Number = false
-sameKind Kind.Page Kind.Boolean = false
-sameKind Kind.Page Kind.String = false
-sameKind Kind.Number Kind.Page = false
-sameKind Kind.Number Kind.Number = true
-sameKind Kind.Number Kind.Boolean = false
-sameKind Kind.Number Kind.String = false
-sameKind Kind.Boolean Kind.Page = false
-sameKind Kind.Boolean Kind.Number = false
-sameKind Kind.Boolean Kind.Boolean = true
-sameKind Kind.Boolean Kind.String = false
-sameKind Kind.String Kind.Page = false
-sameKind Kind.String Kind.Number = false
-sameKind Kind.String Kind.Boolean = false
-sameKind Kind.String Kind.String = true
 
 -- The kind is declared, and is k.
 abbrev pub hasKind : Option Kind → Kind → Bool

@@ -1,15 +1,13 @@
 -- What a register is. Request 9: "From now on a register is anything that keeps the rules behind 3 to 6 and is within the limits,
 -- whether or not one text gives it, and counts as accepted".
-use Prim.Native.Nat.{ℕ, suc, _+_}
+use Prim.Native.Nat.{ℕ, _+_}
 use mathlib.Core.Bool.{Bool, true, false, _&&_}
 use mathlib.Core.List.{List, [], _∷_}
-use lib.Dec.{leb, ltb}
-use lib.IntN.{ℤ, pos, negsuc}
+use lib.Dec.{leb}
 use lib.ListN.{length}
 use Rattle.text.specs.Bytes.{Bytes, same, all}
 use Rattle.values.specs.Names.{Identifier, isName, isPropertyName, isNamespace, isValue}
-use Rattle.values.specs.Values.{Constant, number, boolean, string, Value, plain, link}
-use Rattle.values.specs.Answers.{base}
+use Rattle.values.specs.Values.{Constant, scalar, string, Value, plain, link, inRange}
 use Rattle.values.specs.Spelling.{spelling}
 use Rattle.language.specs.Register.{Property, Held, Page, Register, kindsHold, distinct, sameProperty, samePage}
 use Rattle.language.specs.RegisterText.{sameHeld}
@@ -17,15 +15,9 @@ use Rattle.language.specs.RegisterText.{sameHeld}
 unfoldable pub isIdentifier : Identifier → Bool
 isIdentifier i = isNamespace (i .namespace) && isName (i .article)
 
--- "1 to 15 decimal digits": the number without its sign is below 10^15.
-abbrev pub magnitude : ℤ → ℕ
-magnitude (pos n) = n
-magnitude (negsuc n) = suc n
-
 -- A value keeps its rule. A link does so at its shortest spelling.
 unfoldable pub isStorable : Value → Bool
-isStorable (plain (number z)) = ltb (magnitude z) base
-isStorable (plain (boolean b)) = true
+isStorable (plain (scalar k c)) = inRange k c
 isStorable (plain (string s)) = isValue s
 isStorable (link i) = isIdentifier i && isValue (spelling (link i))
 

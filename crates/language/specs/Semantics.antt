@@ -6,9 +6,9 @@ use mathlib.Core.Option.{Option, some, none}
 use Rattle.text.specs.Bytes.{Bytes, orderOf, same, any}
 use Rattle.text.specs.declared.Order.{Order}
 use Rattle.values.specs.declared.Kind.{Kind}
-use Rattle.values.specs.Values.{Constant, Value, plain, link, kindOf, kindOfConstant, orderConstants}
+use Rattle.values.specs.Values.{Constant, Value, plain, link, kindOf, kindOfConstant, orderConstants, sameKind}
 use Rattle.language.specs.Answer.{Answer, refused, accepted, found}
-use Rattle.language.specs.Register.{Page, Register, Typing, holds, leads, sameKind, hasKind}
+use Rattle.language.specs.Register.{Page, Register, Typing, holds, leads, hasKind}
 use Rattle.language.specs.Core.{Selector, Core}
 use Rattle.language.specs.declared.Comparator.{Comparator}
 

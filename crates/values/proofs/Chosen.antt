@@ -14,6 +14,7 @@ use Rattle.values.specs.Answers.{codeRead}
 use Rattle.values.specs.declared.Kind.{Kind}
 use Rattle.values.specs.declared.Scalar.{Scalar}
 use Rattle.values.specs.declared.CodeRead.{CodeRead}
+use Rattle.values.proofs.Sameness.{same-coded}
 
 pub byte-page : (b : ℕ) → b ≡ 0 → Kind.Page ≡ kindFrom b
 unfolding kindFrom
@@ -32,7 +33,7 @@ unfolding kindFrom
 byte-string b m n h = rw (ne-eqb b 0 m, ne-eqb b 1 n, ne-eqb b 2 h)
 
 pub same-codes : (a b : Kind) (x y : ℕ) → x ≡ kindCode a → y ≡ kindCode b → eqb x y ≡ sameKind a b
-same-codes a b x y e f = rw (e, f)
+same-codes a b x y e f = rw (e, f) (same-coded a b)
 
 module _ (k : Scalar) where
   module _ (s : Bytes) (r : CodeRead) where

@@ -31,7 +31,6 @@ number-injective (pos a) (negsuc b) h k e = absurd (omega arith)
 number-injective (negsuc a) (pos b) h k e = absurd (omega arith)
 number-injective (negsuc a) (negsuc b) h k e = let q : a ≡ b = omega arith in ap negsuc q
 
-
 pub boolean-order : (a b : Bool) → numbers (bit a) (bit b) ≡ orderBooleans a b
 unfolding numbers
 boolean-order true true = refl

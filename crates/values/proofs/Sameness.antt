@@ -5,12 +5,12 @@ use mathlib.Core.Bool.{Bool, true, false, cond, and-eq-true-iff, false≢true}
 use mathlib.Core.Option.{Option, some, none}
 use native.Mathlib.Omega.{arith}
 use lib.Dec.{eqb, ltb}
-use borrow.Author.Tests.{eqb-true, eq-eqb, ltb-false}
+use borrow.Author.Tests.{eqb-true, eq-eqb, ne-eqb, ltb-false}
 use Rattle.text.specs.Bytes.{same, orderOf, numbers}
 use Rattle.text.specs.declared.Order.{Order}
 use Rattle.text.proofs.Laws.{same-eq, same-refl, numbers-equal, order-eq, order-refl}
 use Rattle.values.specs.Names.{Identifier, sameIdentifier}
-use Rattle.values.specs.Values.{Constant, scalar, string, Value, plain, link, kindCode, kindFrom, sameKind, orderConstants, isEqualOrder, sameValue}
+use Rattle.values.specs.Values.{Constant, scalar, string, Value, plain, link, scalarCode, kindCode, kindFrom, sameScalar, sameKind, orderConstants, isEqualOrder, sameValue}
 use Rattle.values.specs.declared.Kind.{Kind}
 use Rattle.values.specs.declared.Scalar.{Scalar}
 
@@ -35,16 +35,34 @@ kind-coded (Kind.Scalar Scalar.Number) = refl
 kind-coded (Kind.Scalar Scalar.Boolean) = refl
 kind-coded Kind.String = refl
 
+codes-apart : (k : Scalar) → (scalarCode k ≡ kindCode Kind.Page → ⊥) × (scalarCode k ≡ kindCode Kind.String → ⊥)
+codes-apart Scalar.Number = (λ e. omega arith, λ e. omega arith)
+codes-apart Scalar.Boolean = (λ e. omega arith, λ e. omega arith)
+
+pub same-coded : (a b : Kind) → eqb (kindCode a) (kindCode b) ≡ sameKind a b
+same-coded Kind.Page Kind.Page = refl
+same-coded Kind.Page (Kind.Scalar k) = ne-eqb _ _ (λ e. codes-apart k .0 (sym e))
+same-coded Kind.Page Kind.String = refl
+same-coded (Kind.Scalar j) Kind.Page = ne-eqb _ _ (codes-apart j .0)
+same-coded (Kind.Scalar j) (Kind.Scalar k) = refl
+same-coded (Kind.Scalar j) Kind.String = ne-eqb _ _ (codes-apart j .1)
+same-coded Kind.String Kind.Page = refl
+same-coded Kind.String (Kind.Scalar k) = ne-eqb _ _ (λ e. codes-apart k .1 (sym e))
+same-coded Kind.String Kind.String = refl
+
 pub kind-eq : (a b : Kind) → sameKind a b ≡ true → a ≡ b
-kind-eq a b h = sym (kind-coded a) ∙ ap kindFrom (eqb-true (kindCode a) (kindCode b) h) ∙ kind-coded b
+kind-eq a b h = sym (kind-coded a) ∙ ap kindFrom (eqb-true (kindCode a) (kindCode b) (same-coded a b ∙ h)) ∙ kind-coded b
 
 pub kind-refl : (a : Kind) → sameKind a a ≡ true
-kind-refl a = eq-eqb (kindCode a) (kindCode a) refl
+kind-refl a = sym (same-coded a a) ∙ eq-eqb (kindCode a) (kindCode a) refl
 
 abbrev scalar-of : Kind → Scalar
 scalar-of Kind.Page = Scalar.Number
 scalar-of (Kind.Scalar k) = k
 scalar-of Kind.String = Scalar.Number
+
+pub scalar-eq : (j k : Scalar) → sameScalar j k ≡ true → j ≡ k
+scalar-eq j k h = ap scalar-of (kind-eq (Kind.Scalar j) (Kind.Scalar k) h)
 
 equal-order : (o : Order) → isEqualOrder (some o) ≡ true → o ≡ Order.Equal
 equal-order Order.Less h = absurd (false≢true h)
@@ -52,13 +70,12 @@ equal-order Order.Equal h = refl
 equal-order Order.Greater h = absurd (false≢true h)
 
 constant-eq : (a b : Constant) → isEqualOrder (orderConstants a b) ≡ true → a ≡ b
-constant-eq (scalar j a) (scalar k b) h = go (sameKind (Kind.Scalar j) (Kind.Scalar k)) refl h
+constant-eq (scalar j a) (scalar k b) h = go (sameScalar j k) refl h
   where
-    go : (t : Bool) → sameKind (Kind.Scalar j) (Kind.Scalar k) ≡ t → isEqualOrder (cond t (some (numbers a b)) none) ≡ true → scalar j a ≡ scalar k b
+    go : (t : Bool) → sameScalar j k ≡ t → isEqualOrder (cond t (some (numbers a b)) none) ≡ true → scalar j a ≡ scalar k b
     go true e h =
-        let q : j ≡ k = ap scalar-of (kind-eq (Kind.Scalar j) (Kind.Scalar k) e) in
         let n : a ≡ b = numbers-eq a b (equal-order (numbers a b) h) in
-        ap (λ (i : Scalar). scalar i a) q ∙ ap (scalar k) n
+        ap (λ (i : Scalar). scalar i a) (scalar-eq j k e) ∙ ap (scalar k) n
     go false e h = absurd (false≢true h)
 constant-eq (scalar k a) (string b) h = absurd (false≢true h)
 constant-eq (string a) (scalar k b) h = absurd (false≢true h)

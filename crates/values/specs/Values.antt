@@ -23,10 +23,13 @@ kindWord (Kind.Scalar Scalar.Boolean) = bytes "boolean"
 kindWord Kind.String = bytes "string"
 
 -- The byte of a kind in held forms, below kindCount.
+abbrev pub scalarCode : Scalar → ℕ
+scalarCode Scalar.Number = 1
+scalarCode Scalar.Boolean = 2
+
 abbrev pub kindCode : Kind → ℕ
 kindCode Kind.Page = 0
-kindCode (Kind.Scalar Scalar.Number) = 1
-kindCode (Kind.Scalar Scalar.Boolean) = 2
+kindCode (Kind.Scalar k) = scalarCode k
 kindCode Kind.String = 3
 
 abbrev pub kindCount : ℕ
@@ -39,8 +42,19 @@ kindFrom n =
     (cond (eqb n 1) (Kind.Scalar Scalar.Number)
     (cond (eqb n 2) (Kind.Scalar Scalar.Boolean) Kind.String))
 
+abbrev pub sameScalar : Scalar → Scalar → Bool
+sameScalar j k = eqb (scalarCode j) (scalarCode k)
+
 abbrev pub sameKind : Kind → Kind → Bool
-sameKind a b = eqb (kindCode a) (kindCode b)
+sameKind Kind.Page Kind.Page = true
+sameKind Kind.Page (Kind.Scalar k) = false
+sameKind Kind.Page Kind.String = false
+sameKind (Kind.Scalar j) Kind.Page = false
+sameKind (Kind.Scalar j) (Kind.Scalar k) = sameScalar j k
+sameKind (Kind.Scalar j) Kind.String = false
+sameKind Kind.String Kind.Page = false
+sameKind Kind.String (Kind.Scalar k) = false
+sameKind Kind.String Kind.String = true
 
 -- What was read, changed by f.
 abbrev pub mapOption : {A B : Type 0} → (A → B) → Option A → Option B
@@ -126,7 +140,7 @@ readValue Kind.String s = mapOption plain (readConstant Kind.String s)
 
 -- The order of two constants of one kind; none for two kinds (thesis 4.5.2).
 abbrev pub orderConstants : Constant → Constant → Option Order
-orderConstants (scalar j a) (scalar k b) = cond (sameKind (Kind.Scalar j) (Kind.Scalar k)) (some (numbers a b)) none
+orderConstants (scalar j a) (scalar k b) = cond (sameScalar j k) (some (numbers a b)) none
 orderConstants (scalar k a) (string b) = none
 orderConstants (string a) (scalar k b) = none
 orderConstants (string a) (string b) = some (orderOf a b)

@@ -16,7 +16,6 @@ pub use kinds::word_length;
 pub use scalars::in_range;
 pub use scalars::read_scalar;
 pub use scalars::scalar_length;
-
 use text::Class;
 use text::Span;
 use text::all_in;

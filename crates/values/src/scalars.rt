@@ -159,8 +159,6 @@ pub fn scalar_length(k: Scalar, c: u64) -> usize
 {
     match k {
         Scalar::Number => number_length(c),
-        Scalar::Boolean => {
-            if c == 1 { 4 } else { 5 }
-        }
+        Scalar::Boolean => { if c == 1 { 4 } else { 5 } }
     }
 }
