@@ -9,7 +9,7 @@ use lib.ListN.{length, getD, length-append, length-map}
 use borrow.Author.Tests.{eqb-true}
 use Rattle.text.specs.Bytes.{Bytes, orderOf}
 use Rattle.values.specs.Names.{Identifier}
-use Rattle.values.specs.Values.{number, boolean, string, Value, plain, link}
+use Rattle.values.specs.Values.{scalar, string, Value, plain, link}
 use Rattle.values.specs.Spelling.{spellIdentifier, spelling}
 use Rattle.language.specs.Register.{Held, Page, Register}
 use Rattle.language.specs.Rules.{total, formsOn, bytesOn, bytesIn, isRegister}
@@ -42,8 +42,7 @@ length-spelled i = go (eqb (length (i .namespace)) 0) refl
 
 value-bytes : (v : Value) → total length (valueTexts v) ≤ suc (length (spelling v))
 unfolding valueTexts spelling total
-value-bytes (plain (number z)) = omega arith
-value-bytes (plain (boolean b)) = omega arith
+value-bytes (plain (scalar k c)) = omega arith
 value-bytes (plain (string s)) = omega (arith, length-labelled [] s)
 value-bytes (link i) = omega (arith, length-labelled (i .namespace) (i .article), length-spelled i)
 

@@ -8,7 +8,7 @@ use lib.Dec.{ltb}
 use lib.ListN.{length, getD, length-map}
 use borrow.Author.Tests.{lt-ltb, le-leb}
 use Rattle.text.specs.Bytes.{Bytes, orderOf, all}
-use Rattle.values.specs.Values.{number, boolean, string, Value, plain, link, kindOf}
+use Rattle.values.specs.Values.{scalar, string, Value, plain, link, kindOf}
 use Rattle.language.specs.Register.{Property, Held, Page, Register}
 use Rattle.sorting.specs.Ascending.{rank}
 use Rattle.language.proofs.Members.{both-true, all-of}
@@ -77,8 +77,7 @@ module _ (R : Register) where
   -- A text that some value has.
   value-labelled : (v : Value) {t : Bytes} → List·Memᴰ t (valueTexts v) → isLabelled t ≡ true
   unfolding valueTexts
-  value-labelled (plain (number z)) m = absurd (List·Memᴰ·not-nil m)
-  value-labelled (plain (boolean b)) m = absurd (List·Memᴰ·not-nil m)
+  value-labelled (plain (scalar k c)) m = absurd (List·Memᴰ·not-nil m)
   value-labelled (plain (string s)) m = rw (List·Memᴰ·eq-of-singleton m) (labelled-is [] s)
   value-labelled (link i) m = rw (List·Memᴰ·eq-of-singleton m) (labelled-is (i .namespace) (i .article))
 
@@ -97,17 +96,14 @@ module _ (R : Register) where
   -- The code of a value is one of its kind.
   code-fits : (v : Value) → ((t : Bytes) → List·Memᴰ t (valueTexts v) → List·Memᴰ t (textsOf R)) → isCode (encode R) (kindOf v) (valueCode (textsOf R) v) ≡ true
   unfolding isCode valueCode valueTexts encode
-  code-fits (plain (number z)) k = refl
-  code-fits (plain (boolean true)) k = refl
-  code-fits (plain (boolean false)) k = refl
+  code-fits (plain (scalar j c)) k = refl
   code-fits (plain (string s)) k = plain-number s (k (plainText s) (List·Memᴰ·head refl))
   code-fits (link i) k = lt-ltb (rank orderOf (identifierText i) (textsOf R)) (length (textsOf R)) (number-small (textsOf R) (texts-up R) (identifierText i) (k (identifierText i) (List·Memᴰ·head refl)))
 
   -- A text of a value is the one that the value's code names.
   code-names : (v : Value) {t : Bytes} → List·Memᴰ t (valueTexts v) → List·Memᴰ (rank orderOf t (textsOf R)) (codeTexts (encode R) (kindOf v) (valueCode (textsOf R) v))
   unfolding codeTexts valueCode valueTexts
-  code-names (plain (number z)) m = absurd (List·Memᴰ·not-nil m)
-  code-names (plain (boolean b)) m = absurd (List·Memᴰ·not-nil m)
+  code-names (plain (scalar k c)) m = absurd (List·Memᴰ·not-nil m)
   code-names (plain (string s)) m = List·Memᴰ·head (ap (λ (t : Bytes). rank orderOf t (textsOf R)) (List·Memᴰ·eq-of-singleton m))
   code-names (link i) m = List·Memᴰ·head (ap (λ (t : Bytes). rank orderOf t (textsOf R)) (List·Memᴰ·eq-of-singleton m))
 

@@ -11,11 +11,11 @@ use lib.Seq.{take-append-seam, drop-append-seam, length-take-le}
 use borrow.Author.Tests.{ltb-true, eqb-true, lt-ltb, le-ltb}
 use Rattle.text.specs.Bytes.{Bytes, orderOf}
 use Rattle.text.specs.Table.{bit}
-use Rattle.values.specs.Values.{number, boolean, string, Value, plain, link, kindOf}
-use Rattle.values.specs.Answers.{base, biased}
-use Rattle.language.specs.Rules.{magnitude, isStorable}
+use Rattle.values.specs.Values.{scalar, string, Value, plain, link, kindOf, base, biased}
+use Rattle.values.proofs.Coded.{range-small}
+use Rattle.language.specs.Rules.{isStorable}
 use Rattle.sorting.specs.Ascending.{ascends}
-use Rattle.register_form.specs.Dictionary.{labelled, spaceOf, nameOf, numberFrom, valueFrom}
+use Rattle.register_form.specs.Dictionary.{labelled, spaceOf, nameOf, valueFrom}
 use Rattle.register_form.specs.Encoding.{plainText, identifierText, valueTexts, valueCode}
 use Rattle.register_form.specs.Tests.{isLabelled, isPlain}
 use Rattle.register_form.proofs.Lists.{number-back, number-small}
@@ -51,46 +51,17 @@ pub labelled-is : (n x : Bytes) → isLabelled (labelled n x) ≡ true
 unfolding labelled isLabelled
 labelled-is n x = lt-ltb (length n) (suc (length (n ++ x))) (omega (arith, lib.ListN.length-append n x))
 
--- Numbers.
-pub number-of-code : (z : ℤ) → magnitude z < base → numberFrom (biased z) ≡ z
-unfolding numberFrom
-number-of-code (pos n) h =
-    let e : base + n - base ≡ n = omega arith in
-    rw (le-ltb (base + n) base (omega arith), e)
-number-of-code (negsuc n) h =
-    let e : base - suc (base - suc n) ≡ n = omega arith in
-    rw (lt-ltb (base - suc n) base (omega arith), e)
-
-pub code-of-number : (c : ℕ) → biased (numberFrom c) ≡ c
-unfolding numberFrom
-code-of-number c = go (ltb c base) refl
-  where
-    go : (b : Bool) → ltb c base ≡ b → biased (cond b (negsuc (base - suc c)) (pos (c - base))) ≡ c
-    go true e = omega (arith, ltb-true c base e)
-    go false e = omega (arith, borrow.Author.Tests.ltb-false c base e)
-
-bit-back : (b : Bool) → eqb (bit b) 1 ≡ b
-bit-back true = refl
-bit-back false = refl
-
 -- Values, by an ascending list that has their texts.
 module _ (l : List Bytes) (up : ascends orderOf l ≡ true) where
   pub value-back : (v : Value) → isStorable v ≡ true → ((t : Bytes) → List·Memᴰ t (valueTexts v) → List·Memᴰ t l) → valueFrom l (kindOf v) (valueCode l v) ≡ v
   unfolding valueCode valueTexts isStorable
-  value-back (plain (number z)) s k = rw (number-of-code z (ltb-true (magnitude z) base s))
-  value-back (plain (boolean b)) s k = rw (bit-back b)
+  value-back (plain (scalar j c)) s k = refl
   value-back (plain (string x)) s k = rw (number-back l up (plainText x) (k (plainText x) (List·Memᴰ·head refl)), name-back [] x)
   value-back (link i) s k =
       rw (number-back l up (identifierText i) (k (identifierText i) (List·Memᴰ·head refl)), space-back (i .namespace) (i .article), name-back (i .namespace) (i .article))
 
-  biased-small : (z : ℤ) → magnitude z < base → biased z < 2 ^ 64
-  biased-small (pos n) h = omega arith
-  biased-small (negsuc n) h = omega arith
-
   pub code-small : (v : Value) → isStorable v ≡ true → length l < 65536 → ((t : Bytes) → List·Memᴰ t (valueTexts v) → List·Memᴰ t l) → valueCode l v < 2 ^ 64
   unfolding valueCode valueTexts isStorable
-  code-small (plain (number z)) s few k = biased-small z (ltb-true (magnitude z) base s)
-  code-small (plain (boolean true)) s few k = omega arith
-  code-small (plain (boolean false)) s few k = omega arith
+  code-small (plain (scalar j c)) s few k = range-small j c s
   code-small (plain (string x)) s few k = omega (arith, number-small l up (plainText x) (k (plainText x) (List·Memᴰ·head refl)))
   code-small (link i) s few k = omega (arith, number-small l up (identifierText i) (k (identifierText i) (List·Memᴰ·head refl)))

@@ -218,8 +218,7 @@ module _ (d : Dictionary) where
     value-text-in Kind.Page n h m =
         let b = ltb-true n (length (d .texts)) h in
         Memᴰ·cast (List·Memᴰ·eq-of-singleton m ∙ ident-text n b) (mem-at (d .texts) n [] b)
-    value-text-in Kind.Number n h m = absurd (List·Memᴰ·not-nil m)
-    value-text-in Kind.Boolean n h m = absurd (List·Memᴰ·not-nil m)
+    value-text-in (Kind.Scalar k) n h m = absurd (List·Memᴰ·not-nil m)
     value-text-in Kind.String n h m = Memᴰ·cast (List·Memᴰ·eq-of-singleton m ∙ plain-text n h) (mem-at (d .texts) n [] (plain-below n h))
 
     pub value-text-out : (k : Kind) (n : ℕ) → isCode d k n ≡ true → {i : ℕ} → List·Memᴰ i (codeTexts d k n) → List·Memᴰ (textIn d i) (valueTexts (valueFrom (d .texts) k n))
@@ -227,8 +226,7 @@ module _ (d : Dictionary) where
     value-text-out Kind.Page n h m =
         let e = List·Memᴰ·eq-of-singleton m in
         List·Memᴰ·head (ap (textIn d) e ∙ sym (ident-text n (ltb-true n (length (d .texts)) h)))
-    value-text-out Kind.Number n h m = absurd (List·Memᴰ·not-nil m)
-    value-text-out Kind.Boolean n h m = absurd (List·Memᴰ·not-nil m)
+    value-text-out (Kind.Scalar k) n h m = absurd (List·Memᴰ·not-nil m)
     value-text-out Kind.String n h m = let e = List·Memᴰ·eq-of-singleton m in List·Memᴰ·head (ap (textIn d) e ∙ sym (plain-text n h))
 
     -- The texts of what is described are those of the dictionary.

@@ -19,7 +19,7 @@ use Rattle.language.specs.Rules.{isStorable, isPage, total, formsOn, bytesIn, i
 use Rattle.language.proofs.Members.{and-true, by-test, any-at, all-at, all-of, all-map, getD-mapped}
 use Rattle.language.proofs.Unions.{by-key, distinct-kept}
 use Rattle.language.proofs.Sameness.{same-likeness, sameHeld-likeness, samePage-likeness}
-use Rattle.language.proofs.Registers.{sameKind-refl}
+use Rattle.values.proofs.Sameness.{kind-refl}
 use Rattle.language.proofs.Rules.{RuledPage, rules-page, rules-register}
 use Rattle.register_form.specs.Dictionary.{PageRow, Dictionary, spaceOf, nameOf, groupOf, termCode, isCategory, valueFrom, textIn, termIn, propertyIn, noProperty, heldOf, categoriesIn, valuesIn, decodeProperty, decodePage, decode}
 use Rattle.register_form.specs.Form.{formsOf}
@@ -47,8 +47,7 @@ kind-once (p ∷ l) (suc i) e h b =
 -- The value of a kind that a code tells is of that kind.
 pub value-from-kind : (texts : List Bytes) (k : Kind) (c : ℕ) → kindOf (valueFrom texts k c) ≡ k
 value-from-kind texts Kind.Page c = refl
-value-from-kind texts Kind.Number c = refl
-value-from-kind texts Kind.Boolean c = refl
+value-from-kind texts (Kind.Scalar k) c = refl
 value-from-kind texts Kind.String c = refl
 
 -- The forms of a page of a draft, categories first, of those with one new number the first.
@@ -74,7 +73,7 @@ module _ (d : Dictionary) (k : Draft d) where
       let kind = kind-once (map (decodeProperty d) (d .properties)) i none (k .propertiesOnce) (omega arith) in
       let found : kindAmong (map (decodeProperty d) (d .properties)) (nameOf (textIn d (propertyIn d i .name))) ≡ some (propertyIn d i .kind) =
       ap (λ (p : Property). kindAmong (map (decodeProperty d) (d .properties)) (p .name)) (sym at) ∙ kind ∙ ap (λ (p : Property). some (p .kind)) at in
-      rw (found, value-from-kind (d .texts) (propertyIn d i .kind) (termCode t)) (sameKind-refl (propertyIn d i .kind))
+      rw (found, value-from-kind (d .texts) (propertyIn d i .kind) (termCode t)) (kind-refl (propertyIn d i .kind))
 
   -- What is tested of each page.
   drafted-pages : (p : Page → Bool) → ((r : PageRow) → List·Memᴰ r (d .pages) → p (pageOnce (decodePage d r)) ≡ true) → all p (drafted d .pages) ≡ true

@@ -18,7 +18,6 @@ use Rattle.register_form.specs.Dictionary.{PropertyRow, PageRow, Diction
 use Rattle.register_form.specs.Encoding.{plainText, identifierText, valueTexts, pageTexts, textsIn, textsOf, placeAmong, valueCode, categoryTerm, valueTerm, pageTerms, termsOf, encodeProperty, encodePage, encode}
 use Rattle.register_form.specs.Tests.{isPlainNumber, isCode, inOrder, codeTexts, termTexts, textUses}
 use Rattle.register_form.proofs.Lists.{mem-place, mem-flat, of-flat, used-mem, number-at, sorted-is}
-use Rattle.register_form.proofs.Codes.{code-of-number}
 use Rattle.register_form.proofs.Rules.{undeclared}
 use Rattle.register_form.proofs.Canonical.{text-from}
 use Rattle.register_form.proofs.Described.{Canon, Shaped, place-once, category-mem, value-mem, category-name, held-value, ident-text, plain-below, plain-text, category-fits, value-code-fits, page-below, form-below, forms-ordered, page-term-mem, term-on, value-text-out, from-in, Use, use-of, decoded-name, declared}
@@ -78,13 +77,7 @@ module _ (d : Dictionary) (c : Canon d) where
   code-back : (k : Kind) (n : ℕ) → isCode d k n ≡ true → valueCode (textsOf (decode d)) (valueFrom (d .texts) k n) ≡ n
   unfolding valueCode isCode
   code-back Kind.Page n h = ident-number-back n (ltb-true n (length (d .texts)) h)
-  code-back Kind.Number n h = code-of-number n
-  code-back Kind.Boolean n h = truth n (ltb-true n 2 h)
-    where
-      truth : (n : ℕ) → n < 2 → bit (eqb n 1) ≡ n
-      truth zero b = refl
-      truth (suc zero) b = refl
-      truth (suc (suc n)) b = absurd (omega arith)
+  code-back (Kind.Scalar j) n h = refl
   code-back Kind.String n h = plain-number-back n h
 
   module _ (once : distinct sameProperty (decode d .properties) ≡ true) (shaped : Shaped d) where

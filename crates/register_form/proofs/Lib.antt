@@ -27,4 +27,3 @@ pub mod Renumbered
 pub mod Arranged
 pub mod Assembled
 pub mod Drafting
-pub mod Digits

@@ -8,31 +8,19 @@ use lib.ListN.{length, getD, length-map, List·getD-map}
 use Rattle.text.specs.Bytes.{Bytes, part}
 use Rattle.text.specs.Table.{tabulate}
 use Rattle.text.proofs.Tables.{is-tabulate}
+use Rattle.values.specs.Values.{kindCode, kindFrom}
 use Rattle.values.specs.declared.Kind.{Kind}
 use Rattle.buffer.specs.Numbers.{twoBytes, twoAt, padded, startsFrom}
 use Rattle.register_form.specs.Dictionary.{Dictionary, PageRow, noProperty, propertyIn, termIn, textIn}
-use Rattle.register_form.specs.Form.{formsOf, joined, countBytes, propertyBytes, numberBytes, bytesOf, kindCode, kindFrom, propertyAt, formStart, formAt, pageAt, termAt, textStart, textAt, dictionaryIn}
+use Rattle.register_form.specs.Form.{formsOf, joined, countBytes, propertyBytes, numberBytes, bytesOf, propertyAt, formStart, formAt, pageAt, termAt, textStart, textAt, dictionaryIn}
 use Rattle.register_form.specs.Tests.{Bounded, Small, termUses}
 use Rattle.buffer.proofs.Parts.{getD-part, part-part, flat-map}
 use Rattle.buffer.proofs.Numbers.{two-there}
 use Rattle.buffer.proofs.Regions.{part-region}
 use Rattle.register_form.proofs.Rows.{row-in, number-in}
+use Rattle.values.proofs.Sameness.{kind-coded}
 use Rattle.register_form.proofs.Starts.{length-starts, start-most, table-step, table-most, table-piece, table-piece-at}
 use Rattle.register_form.proofs.Holding.{Holds, holds-bytes}
-
--- A kind's byte tells it.
-pub kind-back : (k : Kind) → kindFrom (kindCode k) ≡ k
-unfolding kindFrom
-kind-back Kind.Page = refl
-kind-back Kind.Number = refl
-kind-back Kind.Boolean = refl
-kind-back Kind.String = refl
-
-pub kind-small : (k : Kind) → kindCode k < 4
-kind-small Kind.Page = omega arith
-kind-small Kind.Number = omega arith
-kind-small Kind.Boolean = omega arith
-kind-small Kind.String = omega arith
 
 -- the starts of lists, in a region
 starts-in : (h : Bytes) (base size : ℕ) (l : List Bytes) → part h base size ≡ padded size (numberBytes (startsFrom 0 l)) → 2 * suc (length l) ≤ size → length (joined l) < 65536 → (i : ℕ) → i < suc (length l) → twoAt h (base + 2 * i) ≡ getD (startsFrom 0 l) i 0
@@ -84,7 +72,7 @@ module _ (h : Bytes) (d : Dictionary) (e : Holds h d) (b : Bounded d) where
 
     property-back : propertyIn d i ≡ propertyAt h i
     unfolding propertyAt
-    property-back = λ j. record { kind = sym (ap kindFrom kind-there ∙ kind-back (propertyIn d i .kind)) j; name = sym name-there j }
+    property-back = λ j. record { kind = sym (ap kindFrom kind-there ∙ kind-coded (propertyIn d i .kind)) j; name = sym name-there j }
 
   -- Pages.
   pub form-start : (i : ℕ) → i < suc (length (map formsOf (d .pages))) → formStart h i ≡ getD (startsFrom 0 (map formsOf (d .pages))) i 0

@@ -89,8 +89,7 @@ module _ (d : Dictionary) (k : Draft d) where
     where
       go : (l : Kind) → termCode (termOf (groupOf t) (newCode d l (termCode t))) ≡ newCode d l (termCode t)
       go Kind.Page = number-code (groupOf t) (termCode t)
-      go Kind.Number = ap termCode (draft-shaped t m)
-      go Kind.Boolean = ap termCode (draft-shaped t m)
+      go (Kind.Scalar k) = ap termCode (draft-shaped t m)
       go Kind.String = number-code (groupOf t) (termCode t)
 
   -- They are the categories and the values that they were.
@@ -101,8 +100,7 @@ module _ (d : Dictionary) (k : Draft d) where
   value-kept : (l : Kind) (c : ℕ) → isCode d l c ≡ true → valueFrom (assembled d .texts) l (newCode d l c) ≡ valueFrom (d .texts) l c
   unfolding newCode isCode
   value-kept Kind.Page c h = rw (new-text c (ltb-true c (length (d .texts)) h))
-  value-kept Kind.Number c h = refl
-  value-kept Kind.Boolean c h = refl
+  value-kept (Kind.Scalar k) c h = refl
   value-kept Kind.String c h = rw (new-text c (plain-below d c h))
 
   pub held-kept : {t : Bytes} → List·Memᴰ t (d .terms) → isCategory t ≡ false → heldOf (assembled d) (newTerm d t) ≡ heldOf d t
@@ -119,8 +117,7 @@ module _ (d : Dictionary) (k : Draft d) where
   code-fits : (l : Kind) (c : ℕ) → isCode d l c ≡ true → isCode (assembled d) l (newCode d l c) ≡ true
   unfolding isCode newCode
   code-fits Kind.Page c h = lt-ltb (newNumber d c) (length (assembled d .texts)) (new-below c (ltb-true c (length (d .texts)) h))
-  code-fits Kind.Number c h = h
-  code-fits Kind.Boolean c h = h
+  code-fits (Kind.Scalar k) c h = h
   code-fits Kind.String c h = new-plain c h
 
   pub properties-many : length (assembled d .properties) ≡ length (d .properties)
@@ -150,8 +147,7 @@ module _ (d : Dictionary) (k : Draft d) where
   code-names : (l : Kind) (c : ℕ) {x : ℕ} → List·Memᴰ x (codeTexts d l c) → List·Memᴰ (newNumber d x) (codeTexts (assembled d) l (newCode d l c))
   unfolding codeTexts newCode
   code-names Kind.Page c m = List·Memᴰ·head (ap (newNumber d) (List·Memᴰ·eq-of-singleton m))
-  code-names Kind.Number c m = absurd (List·Memᴰ·not-nil m)
-  code-names Kind.Boolean c m = absurd (List·Memᴰ·not-nil m)
+  code-names (Kind.Scalar k) c m = absurd (List·Memᴰ·not-nil m)
   code-names Kind.String c m = List·Memᴰ·head (ap (newNumber d) (List·Memᴰ·eq-of-singleton m))
 
   pub new-names : {t : Bytes} {x : ℕ} → List·Memᴰ t (d .terms) → List·Memᴰ x (termTexts d t) → List·Memᴰ (newNumber d x) (termTexts (assembled d) (newTerm d t))

@@ -10,25 +10,18 @@ use lib.Seq.{drop-cons}
 use Rattle.text.specs.Bytes.{Bytes, part}
 use Rattle.text.specs.Table.{tabulate}
 use Rattle.text.proofs.Tables.{length-tabulate, getD-tabulate}
+use Rattle.values.specs.Values.{kindCode, kindFrom}
 use Rattle.buffer.specs.Numbers.{twoBytes, twoAt, padded, startsFrom}
-use Rattle.register_form.specs.Form.{formsOf, joined, countBytes, propertyBytes, numberBytes, bytesOf, kindCode, kindFrom, propertyAt, formStart, formAt, pageAt, termAt, textStart, textAt, dictionaryIn}
+use Rattle.register_form.specs.Form.{formsOf, joined, countBytes, propertyBytes, numberBytes, bytesOf, propertyAt, formStart, formAt, pageAt, termAt, textStart, textAt, dictionaryIn}
 use Rattle.register_form.specs.Tests.{isLaid, Bounded, Small, termUses}
 use Rattle.buffer.proofs.Parts.{both, length-part, part-add, flat-map, map-tabulate}
 use Rattle.buffer.proofs.Numbers.{two-here, two-small}
 use Rattle.buffer.proofs.Regions.{region, zeros-one-more}
 use Rattle.register_form.proofs.Rows.{region-rows, region-numbers}
+use Rattle.values.proofs.Sameness.{code-told}
 use Rattle.register_form.proofs.Starts.{starts-tabulate, pieces-joined}
 use Rattle.register_form.proofs.Laying.{rises-to, Laid, laid-facts}
 use Rattle.register_form.proofs.Holding.{Holds, bytes-held}
-
--- A byte below 4 is that of the kind it tells.
-pub kind-again : (n : ℕ) → n < 4 → kindCode (kindFrom n) ≡ n
-unfolding kindFrom
-kind-again zero b = refl
-kind-again (suc zero) b = refl
-kind-again (suc (suc zero)) b = refl
-kind-again (suc (suc (suc zero))) b = refl
-kind-again (suc (suc (suc (suc n)))) b = absurd (omega arith)
 
 -- A table cut in two.
 pub tabulate-add : {A : Type 0} (f : ℕ → A) (n m : ℕ) → tabulate (n + m) f ≡ tabulate n f ++ tabulate m (λ j. f (n + j))
@@ -54,7 +47,7 @@ module _ (h : Bytes) (l : Laid h) (s : (i : ℕ) → getD h i 0 < 256) where
   property-bytes i b =
       let next : suc (8 + 3 * i) ≡ 9 + 3 * i = omega arith in
       ap (take 3) (drop-cons h (8 + 3 * i) 0 (omega arith))
-      ∙ ap₂ (λ (k : ℕ) (r : Bytes). k ∷ r) (sym (kind-again (getD h (8 + 3 * i) 0) (l .kinds i b))) (ap (λ k. part h k 2) next ∙ two-here h (9 + 3 * i) (omega arith) s)
+      ∙ ap₂ (λ (k : ℕ) (r : Bytes). k ∷ r) (sym (code-told (getD h (8 + 3 * i) 0) (l .kinds i b))) (ap (λ k. part h k 2) next ∙ two-here h (9 + 3 * i) (omega arith) s)
 
   -- Forms: the pages' are pieces of one table.
   page-forms : map formsOf (dictionaryIn h .pages) ≡ tabulate (twoAt h 2) (λ i. tabulate (formStart h (suc i) - formStart h i) (λ j. formAt h (formStart h i + j)))

@@ -12,6 +12,7 @@ use Rattle.text.specs.Bytes.{Bytes, same, all}
 use Rattle.values.specs.declared.Kind.{Kind}
 use Rattle.values.specs.Names.{isName, isPropertyName}
 use Rattle.values.specs.Values.{kindOf}
+use Rattle.values.proofs.Sameness.{kind-refl}
 use Rattle.language.specs.Register.{Property, Held, Page, kindAmong, kindsOf, hasKind, kindsHold, distinct, sameProperty}
 use Rattle.language.specs.RegisterText.{sameHeld}
 use Rattle.language.specs.Rules.{isIdentifier, isStorable, isPage, isWithinLimits, isRegister}
@@ -40,8 +41,7 @@ kind-placed (p ∷ l) x e h = go (same (p .name) x) h (kind-placed l x e)
 -- What a code tells by a kind is of that kind.
 kind-told : (l : List Bytes) (k : Kind) (n : ℕ) → hasKind (some k) (kindOf (valueFrom l k n)) ≡ true
 kind-told l Kind.Page n = refl
-kind-told l Kind.Number n = refl
-kind-told l Kind.Boolean n = refl
+kind-told l (Kind.Scalar k) n = kind-refl (Kind.Scalar k)
 kind-told l Kind.String n = refl
 
 module _ (d : Dictionary) (c : Canon d) where

@@ -11,12 +11,12 @@ use borrow.Author.Tests.{leb-true}
 use Rattle.text.specs.Bytes.{Bytes, same, all}
 use Rattle.text.proofs.Laws.{same-eq}
 use Rattle.values.specs.declared.Kind.{Kind}
-use Rattle.values.specs.Values.{number, boolean, string, Value, plain, link, kindOf}
+use Rattle.values.specs.Values.{scalar, string, Value, plain, link, kindOf}
 use Rattle.language.specs.Register.{Property, Held, Page, Register, kindAmong, kindsOf, hasKind, kindsHold}
 use Rattle.language.specs.Rules.{isStorable, isPage, total, formsOn, bytesIn, isWithinLimits}
 use Rattle.language.proofs.Members.{all-at}
 use Rattle.language.proofs.Rules.{Ruled, page-rules}
-use Rattle.language.proofs.Agreement.{sameKind-eq}
+use Rattle.values.proofs.Sameness.{kind-eq}
 use Rattle.register_form.proofs.Truths.{each}
 use Rattle.register_form.proofs.Totals.{total-most, total-same, total-suc, length-flat, length-sorted}
 use Rattle.register_form.specs.Encoding.{plainText, valueTexts, pageTexts, textsIn, textsOf, placeAmong, categoryTerm, valueTerm, pageTerms, termsOf}
@@ -58,7 +58,7 @@ place-known [] x k d h = absurd (false≢true h)
 place-known (p ∷ l) x k d h = go (same (p .name) x) refl h (place-known l x k d)
   where
     go : (b : Bool) → same (p .name) x ≡ b → hasKind (cond b (some (p .kind)) (kindAmong l x)) k ≡ true → (hasKind (kindAmong l x) k ≡ true → (placeAmong l x < length l) × (getD l (placeAmong l x) d .name ≡ x) × (getD l (placeAmong l x) d .kind ≡ k)) → (cond b 0 (suc (placeAmong l x)) < length (p ∷ l)) × (getD (p ∷ l) (cond b 0 (suc (placeAmong l x))) d .name ≡ x) × (getD (p ∷ l) (cond b 0 (suc (placeAmong l x))) d .kind ≡ k)
-    go true e i ih = (omega arith, same-eq (p .name) x e, sameKind-eq (p .kind) k i)
+    go true e i ih = (omega arith, same-eq (p .name) x e, kind-eq (p .kind) k i)
     go false e i ih = let r = ih i in let n = r .0 in (omega arith, r .1, r .2)
 
 -- How long the lists are.
@@ -68,8 +68,7 @@ values-few [] = omega arith
 values-few (h ∷ l) = omega (arith, length-append (valueTexts (h .value)) (flatMap (λ h. valueTexts (h .value)) l), one (h .value), values-few l)
   where
     one : (v : Value) → length (valueTexts v) ≤ 1
-    one (plain (number z)) = omega arith
-    one (plain (boolean b)) = omega arith
+    one (plain (scalar k c)) = omega arith
     one (plain (string s)) = omega arith
     one (link i) = omega arith
 

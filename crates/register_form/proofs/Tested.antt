@@ -15,7 +15,8 @@ use Rattle.buffer.proofs.Regions.{zeros-one-more, zeros-region}
 use Rattle.register_form.proofs.Starts.{table-last, table-rises}
 use Rattle.register_form.proofs.Laying.{Padded, Laid, facts-laid}
 use Rattle.register_form.proofs.Holding.{Holds, Lengths, lengths, holds-bytes, length-bytes}
-use Rattle.register_form.proofs.ReadBack.{kind-small, count-properties, count-pages, count-terms, count-texts, kind-there, form-start, text-start}
+use Rattle.values.proofs.Sameness.{code-below}
+use Rattle.register_form.proofs.ReadBack.{count-properties, count-pages, count-terms, count-texts, kind-there, form-start, text-start}
 
 module _ (h : Bytes) (d : Dictionary) (e : Holds h d) (b : Bounded d) where
   joined-forms : length (joined (map formsOf (d .pages))) ≡ length (termUses d)
@@ -55,7 +56,7 @@ module _ (h : Bytes) (d : Dictionary) (e : Holds h d) (b : Bounded d) where
       record {
         size = size;
         counted = omega arith;
-        kinds = λ i l. let k : i < length (d .properties) = omega arith in rw (kind-there h d e b i k) (kind-small (propertyIn d i .kind));
+        kinds = λ i l. let k : i < length (d .properties) = omega arith in rw (kind-there h d e b i k) (code-below (propertyIn d i .kind));
         forms = table-rises (formStart h) (map formsOf (d .pages)) (form-start h d e b) (twoAt h 2) 2048 (length-map (d .pages) formsOf ∙ sym c₂) (omega (arith, joined-forms));
         texts = table-rises (textStart h) (d .texts) (text-start h d e b) (twoAt h 6) 35136 (sym c₆) (omega arith);
         zeros = padding-there;

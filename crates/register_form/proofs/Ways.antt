@@ -6,27 +6,12 @@ use borrow.Author.Tests.{eq-eqb, ne-eqb}
 use lib.ListN.{length, getD, take, drop, length-drop}
 use lib.Seq.{drop-drop, take-all}
 use Rattle.text.specs.Bytes.{Bytes, part}
+use Rattle.values.specs.Values.{kindFrom}
 use Rattle.values.specs.declared.Kind.{Kind}
 use Rattle.buffer.specs.Numbers.{twoAt, eightAt}
 use Rattle.register_form.specs.Dictionary.{spaceOf, nameOf, groupOf, termCode}
-use Rattle.register_form.specs.Form.{kindFrom, propertyAt, pageAt, formStart, formAt, termAt, textStart, textAt}
+use Rattle.register_form.specs.Form.{propertyAt, pageAt, formStart, formAt, termAt, textStart, textAt}
 use Rattle.buffer.proofs.Parts.{getD-part}
-
-pub kind-page : (b : ℕ) → b ≡ 0 → Kind.Page ≡ kindFrom b
-unfolding kindFrom
-kind-page b e = rw (eq-eqb b 0 e)
-
-pub kind-number : (b : ℕ) → (b ≡ 0 → ⊥) → b ≡ 1 → Kind.Number ≡ kindFrom b
-unfolding kindFrom
-kind-number b e f = rw (ne-eqb b 0 e, eq-eqb b 1 f)
-
-pub kind-boolean : (b : ℕ) → (b ≡ 0 → ⊥) → (b ≡ 1 → ⊥) → b ≡ 2 → Kind.Boolean ≡ kindFrom b
-unfolding kindFrom
-kind-boolean b e f g = rw (ne-eqb b 0 e, ne-eqb b 1 f, eq-eqb b 2 g)
-
-pub kind-string : (b : ℕ) → (b ≡ 0 → ⊥) → (b ≡ 1 → ⊥) → (b ≡ 2 → ⊥) → Kind.String ≡ kindFrom b
-unfolding kindFrom
-kind-string b e f g = rw (ne-eqb b 0 e, ne-eqb b 1 f, ne-eqb b 2 g)
 
 module _ (h : Bytes) where
   pub kind-row : (p b : ℕ) (k : Kind) → b ≡ getD h (8 + 3 * p) 0 → k ≡ kindFrom b → k ≡ propertyAt h p .kind
@@ -115,4 +100,4 @@ pub name-there : (h : Bytes) (x : ℕ) (t r : Bytes) → t ≡ textAt h x → r 
 name-there h x t r e f = f ∙ ap nameOf e
 
 pub ruleset reading =
-    (kind-page, kind-number, kind-boolean, kind-string, kind-row, kind-byte, name-row, identifier-row, form-start, form-end, form-row, term-row, group-is, code-is, text-begin, text-stop, text-is, space-is, name-is, space-there, name-there)
+    (kind-row, kind-byte, name-row, identifier-row, form-start, form-end, form-row, term-row, group-is, code-is, text-begin, text-stop, text-is, space-is, name-is, space-there, name-there)

@@ -9,8 +9,7 @@ use lib.ListN.{length, getD, take, drop}
 use Rattle.text.specs.Bytes.{Bytes}
 use Rattle.values.specs.declared.Kind.{Kind}
 use Rattle.values.specs.Names.{Identifier}
-use Rattle.values.specs.Values.{Constant, number, boolean, string, Value, plain, link}
-use Rattle.values.specs.Answers.{base}
+use Rattle.values.specs.Values.{Constant, scalar, string, Value, plain, link}
 use Rattle.language.specs.Register.{Property, Held, Page, Register}
 use Rattle.buffer.specs.Numbers.{eightBytes, eightAt}
 
@@ -57,15 +56,10 @@ termCode t = eightAt t 1
 abbrev pub isCategory : Bytes → Bool
 isCategory t = eqb (groupOf t) 0
 
--- The number that a code tells: 10^15 less.
-unfoldable pub numberFrom : ℕ → ℤ
-numberFrom c = cond (ltb c base) (negsuc (base - suc c)) (pos (c - base))
-
--- The value of a kind that a code tells: a text's number, a number with 10^15 added, or a truth value.
+-- The value of a kind that a code tells: a scalar's own code, or a text's number.
 abbrev pub valueFrom : List Bytes → Kind → ℕ → Value
 valueFrom texts Kind.Page c = link (identifierOf (getD texts c []))
-valueFrom texts Kind.Number c = plain (number (numberFrom c))
-valueFrom texts Kind.Boolean c = plain (boolean (eqb c 1))
+valueFrom texts (Kind.Scalar k) c = plain (scalar k c)
 valueFrom texts Kind.String c = plain (string (nameOf (getD texts c [])))
 
 module _ (d : Dictionary) where

@@ -62,8 +62,7 @@ module _ (d : Dictionary) where
 
   unfoldable pub newCode : Kind → ℕ → ℕ
   newCode Kind.Page c = newNumber c
-  newCode Kind.Number c = c
-  newCode Kind.Boolean c = c
+  newCode (Kind.Scalar k) c = c
   newCode Kind.String c = newNumber c
 
   -- A term of the draft with the new number of its text.

@@ -3,11 +3,9 @@ use Prim.Native.Nat.{ℕ, suc}
 use mathlib.Core.Bool.{Bool, cond}
 use mathlib.Core.List.{List, [], _∷_, _++_, map, flatMap}
 use Rattle.text.specs.Bytes.{Bytes, orderOf, same}
-use Rattle.text.specs.Table.{bit}
 use Rattle.values.specs.declared.Kind.{Kind}
 use Rattle.values.specs.Names.{Identifier}
-use Rattle.values.specs.Values.{Constant, number, boolean, string, Value, plain, link}
-use Rattle.values.specs.Answers.{biased}
+use Rattle.values.specs.Values.{Constant, scalar, string, Value, plain, link}
 use Rattle.language.specs.Register.{Property, Held, Page, Register}
 use Rattle.sorting.specs.Ascending.{sorted, rank}
 use Rattle.register_form.specs.Dictionary.{PropertyRow, PageRow, Dictionary, labelled, termOf}
@@ -20,8 +18,7 @@ identifierText i = labelled (i .namespace) (i .article)
 
 -- The texts of a value, of a page and of a register, as often as they occur.
 unfoldable pub valueTexts : Value → List Bytes
-valueTexts (plain (number z)) = []
-valueTexts (plain (boolean b)) = []
+valueTexts (plain (scalar k c)) = []
 valueTexts (plain (string s)) = plainText s ∷ []
 valueTexts (link i) = identifierText i ∷ []
 
@@ -42,8 +39,7 @@ placeAmong (p ∷ l) x = cond (same (p .name) x) 0 (suc (placeAmong l x))
 
 -- The code of a value, by the texts of a dictionary.
 unfoldable pub valueCode : List Bytes → Value → ℕ
-valueCode texts (plain (number z)) = biased z
-valueCode texts (plain (boolean b)) = bit b
+valueCode texts (plain (scalar k c)) = c
 valueCode texts (plain (string s)) = rank orderOf (plainText s) texts
 valueCode texts (link i) = rank orderOf (identifierText i) texts
 

@@ -7,7 +7,7 @@ use mathlib.Core.Option.{Option, some}
 use lib.ListN.{length, getD, take, drop}
 use Rattle.text.specs.Bytes.{Bytes, part, same}
 use Rattle.text.specs.Table.{tabulate}
-use Rattle.values.specs.declared.Kind.{Kind}
+use Rattle.values.specs.Values.{kindCode, kindFrom}
 use Rattle.language.specs.Answer.{Answer, refused, accepted, onlyIf}
 use Rattle.language.specs.Register.{Register}
 use Rattle.language.specs.Rules.{isRegister}
@@ -17,12 +17,6 @@ use Rattle.register_form.specs.Encoding.{encode}
 
 abbrev pub registerSize : ℕ
 registerSize = 63628
-
-abbrev pub kindCode : Kind → ℕ
-kindCode Kind.Page = 0
-kindCode Kind.Number = 1
-kindCode Kind.Boolean = 2
-kindCode Kind.String = 3
 
 abbrev pub formsOf : PageRow → List ℕ
 formsOf p = p .forms
@@ -64,10 +58,7 @@ placed bytes b = cond (ltb (length b) registerSize) (refused 8) (accepted (bytes
 unfoldable pub stored : Register → Bytes → Answer Bytes
 stored R b = placed (formOf R) b
 
--- What bytes hold, whatever they are. A kind's byte above 3 is read as 3.
-unfoldable pub kindFrom : ℕ → Kind
-kindFrom n = cond (eqb n 0) Kind.Page (cond (eqb n 1) Kind.Number (cond (eqb n 2) Kind.Boolean Kind.String))
-
+-- What bytes hold, whatever they are.
 module _ (h : Bytes) where
   -- How many properties, pages, terms and texts there are.
   abbrev pub propertyCount : ℕ

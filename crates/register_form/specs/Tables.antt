@@ -4,9 +4,9 @@ use mathlib.Core.List.{List}
 use lib.ListN.{getD}
 use Rattle.text.specs.Bytes.{Bytes}
 use Rattle.text.specs.Table.{tabulate}
+use Rattle.values.specs.Values.{kindFrom}
 use Rattle.dictionary.specs.Items.{textAt}
 use Rattle.register_form.specs.Dictionary.{PropertyRow, PageRow, Dictionary, termOf}
-use Rattle.register_form.specs.Form.{kindFrom}
 
 -- Text i is the part of s that starts and lens tell; property p has the kind of a byte and a text for its name; page i has a text for its
 -- identifier, and the forms from firsts i up to the next; form f is a term with a group and a code. There are m texts, np properties, ng

@@ -62,8 +62,7 @@ module _ (d : Dictionary) where
   -- A code that some value of the kind has.
   unfoldable pub isCode : Kind → ℕ → Bool
   isCode Kind.Page c = ltb c (length (d .texts))
-  isCode Kind.Number c = true
-  isCode Kind.Boolean c = ltb c 2
+  isCode (Kind.Scalar k) c = true
   isCode Kind.String c = isPlainNumber c
 
   unfoldable pub isTerm : Bytes → Bool
@@ -75,8 +74,7 @@ module _ (d : Dictionary) where
   -- The number of the text that a term names, if it names one.
   unfoldable pub codeTexts : Kind → ℕ → List ℕ
   codeTexts Kind.Page c = c ∷ []
-  codeTexts Kind.Number c = []
-  codeTexts Kind.Boolean c = []
+  codeTexts (Kind.Scalar k) c = []
   codeTexts Kind.String c = c ∷ []
 
   unfoldable pub termTexts : Bytes → List ℕ

@@ -75,8 +75,3 @@ pub const DRAFT_TERM_BYTES: usize = 9 * DRAFT_FORMS;
 pub const DRAFT_TEXTS: usize = 2 * TEXT_ROOM;
 
 pub const DRAFT_TEXT_BYTES: usize = 2 * TEXT_BYTES;
-
-// The kinds of properties; 0 is a page's, and what is none of these is a string's.
-pub const NUMBER: u8 = 1;
-
-pub const BOOLEAN: u8 = 2;

@@ -1,11 +1,11 @@
 // The held register: reading its rows. Every number is one of 16 bits, so that no place overflows; what lies behind the bytes is 0.
 ghost use mathlib.Core.Path.{_≡_};
 ghost use Prim.Native.Nat.{suc, _+_, _*_, _-_};
+ghost use Rattle.values.specs.Values.{kindFrom};
 ghost use Rattle.register_form.specs.Dictionary.{spaceOf, nameOf, groupOf, termCode};
-ghost use Rattle.register_form.specs.Form.{kindByte, pageCount, propertyCount, termCount, textCount, kindFrom, propertyAt, pageAt, formStart, formAt, termAt, textStart, textAt};
+ghost use Rattle.register_form.specs.Form.{kindByte, pageCount, propertyCount, termCount, textCount, propertyAt, pageAt, formStart, formAt, termAt, textStart, textAt};
 
 pub mod layout; // layout.rt: where the regions begin, and how many rows they have room for
-pub mod spelled; // spelled.rt: how long a number is, spelled
 
 use buffer::eight_at;
 use buffer::two_at;
@@ -15,6 +15,7 @@ use tables::widen;
 use text::byte_at;
 use text::part;
 use values::Kind;
+use values::kind_from;
 
 // How many properties, pages, terms and texts there are.
 pub fn property_count(h: &[u8]) -> u16
@@ -46,23 +47,6 @@ pub fn kind_byte(h: &[u8], p: u16) -> u8
     ensures { λ r. ⌜ r ≡ kindByte (now (h .entry)) p ⌝ }
 {
     byte_at(h, layout::PROPERTIES + 3 * widen(p))
-}
-
-// The kind that a byte tells.
-pub fn kind_from(b: u8) -> Kind
-    ensures { λ r. ⌜ r ≡ kindFrom b ⌝ }
-{
-    if b == 0 {
-        return Kind::Page;
-    }
-    if b == layout::NUMBER {
-        return Kind::Number;
-    }
-    if b == layout::BOOLEAN {
-        Kind::Boolean
-    } else {
-        Kind::String
-    }
 }
 
 pub fn kind_at(h: &[u8], p: u16) -> Kind

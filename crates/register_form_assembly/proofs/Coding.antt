@@ -9,10 +9,11 @@ use lib.Seq.{set-out, getD-set-same, getD-set-other}
 use borrow.Author.Tests.{eq-eqb, ne-eqb}
 use Rattle.text.specs.Bytes.{Bytes}
 use Rattle.text.proofs.Tables.{length-tabulate, getD-tabulate}
+use Rattle.values.specs.Values.{kindFrom}
 use Rattle.values.specs.declared.Kind.{Kind}
 use Rattle.buffer.specs.Numbers.{eightBytes}
 use Rattle.register_form.specs.Dictionary.{termOf}
-use Rattle.register_form.specs.Form.{kindFrom, joined}
+use Rattle.register_form.specs.Form.{joined}
 use Rattle.buffer.specs.Writing.{written}
 use Rattle.buffer.proofs.Written.{written-past, next}
 use Rattle.buffer.proofs.Looping.{Rowing, rows-none, rows-more, rows-all}

@@ -9,12 +9,12 @@ use lib.Seq.{drop-cons}
 use borrow.Author.Tests.{eq-eqb, ne-eqb}
 use Rattle.text.specs.Bytes.{Bytes}
 use Rattle.text.proofs.Tables.{length-tabulate, getD-tabulate}
+use Rattle.values.specs.Values.{kindFrom}
 use Rattle.values.specs.declared.Kind.{Kind}
 use Rattle.values.specs.Spelling.{spellNumber}
 use Rattle.language.specs.Rules.{total}
 use Rattle.dictionary.specs.Items.{textAt}
 use Rattle.register_form.specs.Dictionary.{numberFrom}
-use Rattle.register_form.specs.Form.{kindFrom}
 use Rattle.register_form_bytes.specs.Writing.{firstOf}
 use Rattle.register_form_assembly.specs.Counting.{booleanBytes, textBytes, linkBytes, valueBytes, formBytes, termBytesBy}
 

@@ -6,11 +6,11 @@ use lib.Dec.{eqb}
 use lib.ListN.{length, getD}
 use Rattle.text.specs.Bytes.{Bytes}
 use Rattle.text.specs.Table.{bit}
+use Rattle.values.specs.Values.{kindFrom}
 use Rattle.values.specs.declared.Kind.{Kind}
 use Rattle.values.specs.Spelling.{spellNumber}
 use Rattle.dictionary.specs.Items.{textAt}
 use Rattle.register_form.specs.Dictionary.{numberFrom}
-use Rattle.register_form.specs.Form.{kindFrom}
 
 -- Of a truth value: "true" or "false".
 unfoldable pub booleanBytes : ℕ → ℕ

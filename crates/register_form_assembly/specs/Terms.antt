@@ -7,15 +7,14 @@ use lib.Dec.{eqb}
 use lib.ListN.{length, getD}
 use Rattle.text.specs.Bytes.{Bytes}
 use Rattle.text.specs.Table.{tabulate, Tabled}
+use Rattle.values.specs.Values.{kindFrom}
 use Rattle.values.specs.declared.Kind.{Kind}
 use Rattle.register_form.specs.Dictionary.{termOf}
-use Rattle.register_form.specs.Form.{kindFrom}
 
 -- The new code of a value of a kind: the new number of its text, where it has one.
 abbrev pub codeFor : Kind → List ℕ → ℕ → ℕ
 codeFor Kind.Page numbers c = getD numbers c 0
-codeFor Kind.Number numbers c = c
-codeFor Kind.Boolean numbers c = c
+codeFor (Kind.Scalar k) numbers c = c
 codeFor Kind.String numbers c = getD numbers c 0
 
 unfoldable pub codeBy : List ℕ → List ℕ → ℕ → ℕ → ℕ

@@ -6,11 +6,12 @@ use native.Mathlib.Omega.{arith}
 use borrow.Author.Tests.{ne-eqb}
 use lib.ListN.{length, getD, drop, length-take}
 use Rattle.text.specs.Bytes.{Bytes}
+use Rattle.values.specs.Values.{kindCode, kindFrom}
 use Rattle.dictionary.specs.Items.{textAt}
 use Rattle.buffer.specs.Numbers.{twoBytes}
 use Rattle.buffer.specs.Writing.{written}
 use Rattle.buffer.proofs.Written.{next, written-past}
-use Rattle.register_form.specs.Form.{kindCode, kindFrom, propertyBytes}
+use Rattle.register_form.specs.Form.{propertyBytes}
 use Rattle.register_form_bytes.specs.Writing.{rowOf, fourBytes}
 
 module _ (h : Bytes) (at : ℕ) where

@@ -4,10 +4,11 @@ use mathlib.Core.List.{List, [], _∷_, _++_, map, flatMap}
 use lib.ListN.{getD}
 use Rattle.text.specs.Bytes.{Bytes}
 use Rattle.text.specs.Table.{tabulate}
+use Rattle.values.specs.Values.{kindFrom}
 use Rattle.buffer.specs.Numbers.{twoBytes, startsFrom}
 use Rattle.buffer.specs.Writing.{written}
 use Rattle.register_form.specs.Dictionary.{PropertyRow, Dictionary}
-use Rattle.register_form.specs.Form.{formsOf, joined, countBytes, propertyBytes, numberBytes, kindFrom}
+use Rattle.register_form.specs.Form.{formsOf, joined, countBytes, propertyBytes, numberBytes}
 
 -- The property that a kind's byte and a text's number tell.
 abbrev pub rowOf : ℕ → ℕ → PropertyRow

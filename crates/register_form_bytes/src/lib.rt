@@ -1,7 +1,8 @@
 // The rows of the regions of a held register, written into a buffer as far as there is room.
 ghost use mathlib.Core.Path.{_≡_};
+ghost use Rattle.values.specs.Values.{kindCode, kindFrom};
 ghost use Rattle.buffer.specs.Writing.{written};
-ghost use Rattle.register_form.specs.Form.{kindCode, kindFrom, propertyBytes};
+ghost use Rattle.register_form.specs.Form.{propertyBytes};
 ghost use Rattle.register_form_bytes.specs.Writing.{rowOf, fourBytes};
 use buffer::put_byte;
 use buffer::put_two;

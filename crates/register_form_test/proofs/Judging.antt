@@ -10,9 +10,8 @@ use lib.ListN.{length, getD}
 use borrow.Author.Tests.{ltb-true, ltb-false, leb-true, eqb-false, lt-ltb, le-leb, ne-eqb}
 use Rattle.text.specs.Bytes.{Bytes, any}
 use Rattle.values.specs.declared.Kind.{Kind}
-use Rattle.values.specs.Answers.{base}
 use Rattle.values.specs.Names.{isName, isValue}
-use Rattle.values.specs.Values.{plain, link}
+use Rattle.values.specs.Values.{plain, link, base}
 use Rattle.values.specs.Spelling.{spellNumber, spellBoolean, spellIdentifier, spelling}
 use Rattle.values.proofs.Spelled.{name-keeps, value-short}
 use Rattle.language.specs.Rules.{isIdentifier, magnitude, isStorable}

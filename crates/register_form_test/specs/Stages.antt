@@ -6,8 +6,8 @@ use mathlib.Core.List.{List}
 use lib.Dec.{ltb, leb, eqb}
 use lib.ListN.{length, getD}
 use Rattle.text.specs.Bytes.{Bytes}
+use Rattle.values.specs.Values.{base}
 use Rattle.values.specs.declared.Kind.{Kind}
-use Rattle.values.specs.Answers.{base}
 use Rattle.values.specs.Names.{isPropertyName}
 use Rattle.values.specs.ByteRules.{nameClass}
 use Rattle.values.specs.Spelling.{spellNumber}

@@ -12,8 +12,8 @@ use Rattle.text.specs.Bytes.{Bytes, orderOf, same, any}
 use Rattle.text.specs.declared.Order.the-variants.{Less, Greater}
 use Rattle.text.proofs.Laws.{same-eq, same-refl}
 use Rattle.values.specs.declared.Kind.{Kind}
-use Rattle.values.specs.Values.{kindOf}
-use Rattle.language.specs.Register.{Property, Held, Page, Register, holds, sameKind}
+use Rattle.values.specs.Values.{kindOf, sameKind}
+use Rattle.language.specs.Register.{Property, Held, Page, Register, holds}
 use Rattle.language.specs.Semantics.{someOther}
 use Rattle.language.proofs.Members.{and-true, both-true, any-found, any-mem}
 use Rattle.sorting.specs.Ascending.{isLess, rank}

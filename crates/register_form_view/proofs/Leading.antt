@@ -12,8 +12,7 @@ use Rattle.text.specs.Bytes.{Bytes, orderOf, any}
 use Rattle.text.specs.Parts.{partOf}
 use Rattle.text.specs.Table.{bit}
 use Rattle.values.specs.Names.{Identifier, sameIdentifier}
-use Rattle.values.specs.Values.{number, boolean, string, Value, plain, link, kindOf}
-use Rattle.values.specs.Answers.{base}
+use Rattle.values.specs.Values.{scalar, string, Value, plain, link, kindOf, base}
 use Rattle.values.proofs.Sameness.{identifier-eq, identifier-refl}
 use Rattle.language.specs.Register.{Held, Page, Register, leads, distinct, samePage}
 use Rattle.language.specs.RegisterText.{emptyPage}
@@ -100,8 +99,7 @@ module _ {h : Bytes} {R : Register} (d : Known h R) {p : Page} {v : Held} (m : L
       go : (u : Value) → v .value ≡ u → valueAt h (kindOf u) form ≡ u → ((t : Bytes) → List·Memᴰ t (valueTexts u) → List·Memᴰ t (textsOf R)) → (w : Constant) → ConstantRank h q w r → standsAt h q r c w (kindOf u) form ≡ Cv noMixed c (constantBy q w) u
       go u e at texts (Constant.Number b) f = ap (Cv noMixed c (constantBy q (Constant.Number b))) at
       go u e at texts (Constant.Boolean b) f = ap (Cv noMixed c (constantBy q (Constant.Boolean b))) at
-      go (plain (number z)) e at texts (Constant.String p) f = refl
-      go (plain (boolean b)) e at texts (Constant.String p) f = refl
+      go (plain (scalar k c)) e at texts (Constant.String p) f = refl
       go (link i) e at texts (Constant.String p) f = refl
       go (plain (string s)) e at texts (Constant.String p) f =
           let there = texts (plainText s) (List·Memᴰ·head refl) in
@@ -169,8 +167,7 @@ module _ {h : Bytes} {places : List ℕ} {R : Register} (o : Opened h places R) 
       by-mark (suc k) = refl
 
       go : (u : Value) → v .value ≡ u → ((t : Bytes) → List·Memᴰ t (valueTexts u) → List·Memᴰ t (textsOf R)) → leadsInto h places marks (kindOf u) (form (known o) m n) ≡ follows noMixed R inner u
-      go (plain (number z)) e texts = refl
-      go (plain (boolean b)) e texts = refl
+      go (plain (scalar k c)) e texts = refl
       go (plain (string s)) e texts = refl
       go (link i) e texts =
           let d = known o in

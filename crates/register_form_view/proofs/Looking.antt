@@ -15,8 +15,7 @@ use Rattle.text.specs.declared.Order.{Order}
 use Rattle.text.specs.declared.Span.{Span}
 use Rattle.text.proofs.Laws.{numbers-less, numbers-greater, numbers-like, any-append}
 use Rattle.values.specs.declared.Kind.{Kind}
-use Rattle.values.specs.Values.{orderNumbers, orderBooleans}
-use Rattle.values.specs.Answers.{base}
+use Rattle.values.specs.Values.{orderNumbers, orderBooleans, base}
 use Rattle.language.specs.Semantics.{stands, Cv}
 use Rattle.language.specs.declared.Comparator.{Comparator}
 use Rattle.query_core.specs.declared.Constant.{Constant}

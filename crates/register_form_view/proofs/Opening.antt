@@ -14,7 +14,7 @@ use Rattle.text.specs.declared.Order.{Order}
 use Rattle.text.specs.declared.Order.the-variants.{Less, Equal, Greater}
 use Rattle.text.proofs.Laws.{same-eq}
 use Rattle.text.proofs.Tables.{length-tabulate, getD-tabulate, tabulate-ext}
-use Rattle.values.specs.Values.{number, boolean, string, Value, plain, link}
+use Rattle.values.specs.Values.{scalar, string, Value, plain, link}
 use Rattle.values.specs.Spelling.{spelling, spellIdentifier}
 use Rattle.language.specs.Register.{Property, Page, Register}
 use Rattle.language.specs.RegisterText.{emptyPage}
@@ -88,8 +88,7 @@ long-total (x ∷ l) = omega (arith, long-total l)
 
 value-short : (v : Value) → total short (valueTexts v) ≤ length (spelling v)
 unfolding total valueTexts spelling spellIdentifier
-value-short (plain (number z)) = omega arith
-value-short (plain (boolean b)) = omega arith
+value-short (plain (scalar k c)) = omega arith
 value-short (plain (string s)) = omega (arith, short-plain s)
 value-short (link i) = omega (arith, short-text (i .namespace) (i .article), spelled (eqb (length (i .namespace)) 0) refl)
   where

@@ -7,8 +7,9 @@ use native.Mathlib.Omega.{arith}
 use lib.Dec.{ltb}
 use lib.ListN.{length, getD}
 use Rattle.text.specs.Bytes.{Bytes, orderOf}
+use Rattle.values.specs.Values.{sameKind}
 use Rattle.values.specs.declared.Kind.{Kind}
-use Rattle.language.specs.Register.{Register, sameKind}
+use Rattle.language.specs.Register.{Register}
 use Rattle.language.specs.Semantics.{someOther}
 use Rattle.sorting.specs.Ascending.{ascends, rank}
 use Rattle.register_form.specs.Dictionary.{PropertyRow, termOf}

@@ -11,7 +11,7 @@ use Rattle.text.specs.Parts.{partOf}
 use Rattle.text.specs.Table.{tabulate}
 use Rattle.values.specs.declared.Kind.{Kind}
 use Rattle.values.specs.declared.KindRead.{KindRead}
-use Rattle.values.specs.Values.{number, boolean, string, Value, plain, link}
+use Rattle.values.specs.Values.{scalar, string, Value, plain, link}
 use Rattle.language.specs.Register.{Page, Register}
 use Rattle.language.specs.Semantics.{stands, Ca, Cv, noMixed}
 use Rattle.language.specs.declared.Comparator.{Comparator}
@@ -45,8 +45,7 @@ module _ (h : Bytes) where
 abbrev pub standsAt : Bytes → Bytes → Rank → Comparator → Constant → Kind → ℕ → Bool
 standsAt h q r c (Constant.String p) Kind.String f = stands c (nameOrder h (partOf q p) r (textNumber h f))
 standsAt h q r c (Constant.String p) Kind.Page f = false
-standsAt h q r c (Constant.String p) Kind.Number f = false
-standsAt h q r c (Constant.String p) Kind.Boolean f = false
+standsAt h q r c (Constant.String p) (Kind.Scalar k) f = false
 standsAt h q r c (Constant.Number b) k f = Cv noMixed c (constantBy q (Constant.Number b)) (valueAt h k f)
 standsAt h q r c (Constant.Boolean b) k f = Cv noMixed c (constantBy q (Constant.Boolean b)) (valueAt h k f)
 
@@ -58,8 +57,7 @@ marked marks (suc k) = getD marks k false
 -- The value of term f leads to a page of the set, by the table of the pages' places.
 abbrev pub leadsInto : Bytes → List ℕ → List Bool → Kind → ℕ → Bool
 leadsInto h places marks Kind.Page f = marked marks (getD places (textNumber h f) 0)
-leadsInto h places marks Kind.Number f = false
-leadsInto h places marks Kind.Boolean f = false
+leadsInto h places marks (Kind.Scalar k) f = false
 leadsInto h places marks Kind.String f = false
 
 -- The bytes of the forms from one place among all forms up to another; the numbers in bytes.

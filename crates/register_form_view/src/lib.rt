@@ -1,7 +1,7 @@
 // What is asked of a held register: its properties by name, its pages by place, its texts and terms by number.
 ghost use mathlib.Core.Path.{_≡_};
-ghost use Rattle.values.specs.Values.{orderBooleans};
-ghost use Rattle.language.specs.Register.{kindsOf, sameKind};
+ghost use Rattle.values.specs.Values.{orderBooleans, sameKind};
+ghost use Rattle.language.specs.Register.{kindsOf};
 ghost use Rattle.language.specs.Semantics.{stands};
 ghost use Rattle.register_form.specs.Dictionary.{spaceOf, nameOf, textIn};
 ghost use Rattle.register_form.specs.Encoding.{placeAmong};

@@ -11,6 +11,7 @@ use lib.ListN.{length, getD}
 use Rattle.text.specs.Bytes.{orderOf, any}
 use Rattle.text.specs.Table.{tabulate}
 use Rattle.text.proofs.Tables.{length-tabulate, getD-tabulate}
+use Rattle.values.specs.Values.{kindFrom}
 use Rattle.values.specs.declared.Kind.{Kind}
 use Rattle.values.specs.Spelling.{spelling}
 use Rattle.language.specs.Rules.{total}
@@ -20,7 +21,7 @@ use Rattle.sorting.proofs.Numbers.{numbered-below, numbered-names}
 use Rattle.sorting.proofs.Orders.{bytes-total}
 use Rattle.dictionary.specs.Items.{textAt}
 use Rattle.register_form.specs.Dictionary.{PropertyRow, spaceOf, nameOf, termOf, termCode, valueFrom, textIn, termIn, propertyIn, noProperty, categoryOf, heldOf}
-use Rattle.register_form.specs.Form.{formsOf, joined, kindFrom}
+use Rattle.register_form.specs.Form.{formsOf, joined}
 use Rattle.register_form.specs.Tests.{isLabelled, isPlain, isCode, termUses, termBytes, countedBytes}
 use Rattle.register_form.specs.Draft.{onceBehind}
 use Rattle.register_form.proofs.Lists.{mem-at, mem-place, of-flat}
@@ -86,8 +87,7 @@ module _ (t : Tables) (v : Found) (r : Renumbering t v) (c : Capacity t) where
   -- The code of a value, and its bytes.
   code-small : (k : Kind) (x : ℕ) → isCode (draftIn t) k x ≡ true → x < 2 ^ 64 → codeFor k (v .numbers) x < 2 ^ 64
   code-small Kind.Page x h s = number-small x (page-below t x h)
-  code-small Kind.Number x h s = s
-  code-small Kind.Boolean x h s = s
+  code-small (Kind.Scalar k) x h s = s
   code-small Kind.String x h s = number-small x (string-below t x h .0)
 
   value-length : (k : Kind) (x : ℕ) → isCode (draftIn t) k x ≡ true → length (spelling (valueFrom (tabled t v .texts) k (codeFor k (v .numbers) x))) ≡ valueBytes (t .s) (t .starts) (t .lens) k x

@@ -12,7 +12,7 @@ use Rattle.text.specs.Bytes.{Bytes, orderOf}
 use Rattle.text.specs.declared.Order.{Order}
 use Rattle.text.specs.declared.Order.the-variants.{Less, Equal, Greater}
 use Rattle.values.specs.Names.{Identifier}
-use Rattle.values.specs.Values.{number, boolean, string, Value, plain, link}
+use Rattle.values.specs.Values.{scalar, string, Value, plain, link}
 use Rattle.values.specs.Spelling.{spelling, spellIdentifier}
 use Rattle.language.specs.Register.{Held, Page, Register}
 use Rattle.language.specs.Rules.{total, formsOn, bytesOn, bytesIn}
@@ -82,8 +82,7 @@ spelled-size i = go (eqb (length (i .namespace)) 0) refl
 
 value-size : (v : Value) → total length (valueTexts v) ≤ suc (length (spelling v))
 unfolding valueTexts spelling total
-value-size (plain (number z)) = omega arith
-value-size (plain (boolean b)) = omega arith
+value-size (plain (scalar k c)) = omega arith
 value-size (plain (string s)) = omega (arith, plain-size s)
 value-size (link i) = omega (arith, identifier-size i, spelled-size i)
 

@@ -10,13 +10,13 @@ use borrow.Author.Tests.{ltb-true, leb-true, eqb-false}
 use Rattle.text.specs.Bytes.{Bytes, orderOf}
 use Rattle.text.specs.Table.{tabulate}
 use Rattle.text.proofs.Tables.{length-tabulate, getD-tabulate, tabulate-ext}
+use Rattle.values.specs.Values.{kindFrom}
 use Rattle.values.specs.declared.Kind.{Kind}
 use Rattle.language.proofs.Members.{and-true, all-at}
 use Rattle.sorting.specs.Ascending.{sorted, rank}
 use Rattle.sorting.specs.Listing.{listed, Numbered}
 use Rattle.dictionary.specs.Items.{textAt}
 use Rattle.register_form.specs.Dictionary.{PropertyRow, termOf, groupOf, termCode, textIn, termIn, propertyIn, noProperty}
-use Rattle.register_form.specs.Form.{kindFrom}
 use Rattle.register_form.specs.Tests.{isPlain, isPlainNumber, isCode, isTerm}
 use Rattle.register_form.specs.Draft.{Draft, sortedTexts, newNumber, newCode, newTerm, sortedTerms, newForm}
 use Rattle.register_form.proofs.Lists.{mem-at}
@@ -124,8 +124,7 @@ module _ (t : Tables) (refs : List ℕ) (nx : ℕ) (numbers : List ℕ) (q : Num
     code-is : (k : Kind) (c : ℕ) → isCode (draftIn t) k c ≡ true → newCode (draftIn t) k c ≡ codeFor k numbers c
     unfolding newCode
     code-is Kind.Page c h = number-is c (page-below t c h)
-    code-is Kind.Number c h = refl
-    code-is Kind.Boolean c h = refl
+    code-is (Kind.Scalar k) c h = refl
     code-is Kind.String c h = number-is c (string-below t c h .0)
 
     pub term-is : (f : ℕ) → f < t .nf → termBy (t .kinds) numbers (t .groups) (t .codes) f ≡ newTerm (draftIn t) (termIn (draftIn t) f)

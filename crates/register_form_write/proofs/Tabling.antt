@@ -11,13 +11,14 @@ use borrow.Author.Tests.{ltb-true}
 use Rattle.text.specs.Bytes.{orderOf}
 use Rattle.text.specs.Table.{tabulate}
 use Rattle.text.proofs.Tables.{length-tabulate, getD-tabulate, tabulate-ext}
+use Rattle.values.specs.Values.{kindFrom}
 use Rattle.language.proofs.Members.{all-at, map-same}
 use Rattle.sorting.specs.Listing.{Numbered}
 use Rattle.sorting.proofs.Numbers.{numbered-below}
 use Rattle.sorting.proofs.Orders.{bytes-total}
 use Rattle.dictionary.specs.Items.{textAt}
 use Rattle.register_form.specs.Dictionary.{PageRow, isCategory, termIn, noProperty}
-use Rattle.register_form.specs.Form.{formsOf, kindFrom}
+use Rattle.register_form.specs.Form.{formsOf}
 use Rattle.register_form.specs.Tests.{isPlain, isPlainNumber}
 use Rattle.register_form.specs.Draft.{Draft, onceBehind, filtered, newNumber, newForm, newForms, assembled}
 use Rattle.register_form.proofs.Lists.{mem-at, mem-flat}

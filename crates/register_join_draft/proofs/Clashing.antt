@@ -13,14 +13,15 @@ use Rattle.text.specs.Bytes.{Bytes, same, any}
 use Rattle.text.specs.Table.{tabulate}
 use Rattle.text.proofs.Laws.{any-append}
 use Rattle.text.proofs.Tables.{length-tabulate, getD-tabulate}
+use Rattle.values.specs.Values.{sameKind, kindCode, kindFrom}
 use Rattle.values.specs.declared.Kind.{Kind}
-use Rattle.language.specs.Register.{Property, kindAmong, sameKind, distinct}
+use Rattle.language.specs.Register.{Property, kindAmong, distinct}
 use Rattle.language.specs.Joining.{isOtherKind, kindsClash}
 use Rattle.language.proofs.Members.{any-mem, any-same, both-false, all-at}
-use Rattle.language.proofs.Agreement.{sameKind-eq}
+use Rattle.values.proofs.Sameness.{kind-eq}
 use Rattle.register_form.specs.Dictionary.{PropertyRow, Dictionary, nameOf, textIn, propertyIn, noProperty, decodeProperty, decode}
 use Rattle.register_form.specs.Opened.{next}
-use Rattle.register_form.specs.Form.{kindByte, propertyCount, kindCode, kindFrom, propertyAt, dictionaryIn, registerIn}
+use Rattle.register_form.specs.Form.{kindByte, propertyCount, propertyAt, dictionaryIn, registerIn}
 use Rattle.register_form.specs.Tests.{isPlainNumber}
 use Rattle.register_form.specs.Draft.{onceBehind}
 use Rattle.register_form.proofs.Lists.{mem-at, mem-place}
@@ -95,14 +96,13 @@ kind-placed e item x y (r ∷ l) h = rw (h r (List·Memᴰ·head refl)) (go (eqb
 -- Kinds are the same where their bytes are.
 kind-same : (k : Kind) → sameKind k k ≡ true
 kind-same Kind.Page = refl
-kind-same Kind.Number = refl
-kind-same Kind.Boolean = refl
+kind-same (Kind.Scalar k) = refl
 kind-same Kind.String = refl
 
 kinds-by-byte : (a b : ℕ) → a < 4 → b < 4 → sameKind (kindFrom b) (kindFrom a) ≡ eqb a b
 kinds-by-byte a b s t =
     decided (sameKind (kindFrom b) (kindFrom a)) a b
-    (λ e. sym (kind-again a s) ∙ ap kindCode (sym (sameKind-eq (kindFrom b) (kindFrom a) e)) ∙ kind-again b t)
+    (λ e. sym (kind-again a s) ∙ ap kindCode (sym (kind-eq (kindFrom b) (kindFrom a) e)) ∙ kind-again b t)
     (λ e. ap (λ (n : ℕ). sameKind (kindFrom b) (kindFrom n)) e ∙ kind-same (kindFrom b))
 
 kind-byte : (h : Bytes) (p : ℕ) → propertyAt h p .kind ≡ kindFrom (kindByte h p)

@@ -14,11 +14,11 @@ use lib.Seq.{getD-append-seam, getD-set-same, getD-set-other}
 use borrow.Author.Tests.{eqb-true, eq-eqb, ne-eqb, not-true}
 use Rattle.text.specs.Bytes.{any}
 use Rattle.text.specs.Table.{tabulate}
+use Rattle.values.specs.Values.{kindFrom}
 use Rattle.values.specs.declared.Kind.{Kind}
 use Rattle.language.proofs.Members.{or-false, by-test}
 use Rattle.language.proofs.Unions.{Likeness}
 use Rattle.register_form.specs.Dictionary.{PropertyRow}
-use Rattle.register_form.specs.Form.{kindFrom}
 use Rattle.register_form.specs.Opened.{next}
 use Rattle.register_form.specs.Draft.{onceBehind}
 use Rattle.register_join_draft.specs.Joined.{sameRow, nameIn, placeIn}

@@ -90,15 +90,13 @@ module _ (d D : Dictionary) (item : ℕ → ℕ) (s : Source d D item) where
   value-code : (g : ℕ) (k : Kind) {t : Bytes} → List·Memᴰ t (d .terms) → isCode d k (termCode t) ≡ true → termCode (termOf g (codeBy item k (termCode t))) ≡ codeBy item k (termCode t)
   unfolding codeBy isCode
   value-code g Kind.Page {t} m h = item-code g (termCode t) (ltb-true (termCode t) (length (d .texts)) h)
-  value-code g Kind.Number m h = code-kept g m
-  value-code g Kind.Boolean m h = code-kept g m
+  value-code g (Kind.Scalar k) m h = code-kept g m
   value-code g Kind.String {t} m h = item-code g (termCode t) (plain-below d (termCode t) h)
 
   value-from : (k : Kind) (n : ℕ) → isCode d k n ≡ true → valueFrom (D .texts) k (codeBy item k n) ≡ valueFrom (d .texts) k n
   unfolding codeBy isCode
   value-from Kind.Page n h = rw (s .items .text n (ltb-true n (length (d .texts)) h))
-  value-from Kind.Number n h = refl
-  value-from Kind.Boolean n h = refl
+  value-from (Kind.Scalar k) n h = refl
   value-from Kind.String n h = rw (s .items .text n (plain-below d n h))
 
   value-is : (k : Kind) (n : ℕ) → isCode d k n ≡ true → isCode D k (codeBy item k n) ≡ true
@@ -111,8 +109,7 @@ module _ (d D : Dictionary) (item : ℕ → ℕ) (s : Source d D item) where
   value-names : (k : Kind) (n : ℕ) {i : ℕ} → List·Memᴰ i (codeTexts d k n) → List·Memᴰ (item i) (codeTexts D k (codeBy item k n))
   unfolding codeBy codeTexts
   value-names Kind.Page n m = List·Memᴰ·head (ap item (List·Memᴰ·eq-of-singleton m))
-  value-names Kind.Number n m = absurd (List·Memᴰ·not-nil m)
-  value-names Kind.Boolean n m = absurd (List·Memᴰ·not-nil m)
+  value-names (Kind.Scalar k) n m = absurd (List·Memᴰ·not-nil m)
   value-names Kind.String n m = List·Memᴰ·head (ap item (List·Memᴰ·eq-of-singleton m))
 
   -- Values.

@@ -1,4 +1,5 @@
 -- The properties of a draft of a join are those of the join, and each property of either register stands among them.
+use Rattle.values.specs.Values.{sameKind}
 use Rattle.language.proofs.Rules.{Ruled}
 use Prim.Native.Nat.{ℕ, _<_}
 use mathlib.Core.Path.{_≡_, refl, sym, ap, ap₂, _∙_, subst}
@@ -13,10 +14,10 @@ use borrow.Author.Tests.{not-true, not-false, eqb-true, eq-eqb}
 use Rattle.text.specs.Bytes.{Bytes, same, any, all}
 use Rattle.text.proofs.Laws.{same-refl, same-eq}
 use Rattle.values.specs.declared.Kind.{Kind}
-use Rattle.language.specs.Register.{Property, Register, kindAmong, sameKind, distinct, sameProperty}
+use Rattle.language.specs.Register.{Property, Register, kindAmong, distinct, sameProperty}
 use Rattle.language.specs.Joining.{onlyIn, union, join, isOtherKind, kindsClash}
 use Rattle.language.proofs.Members.{and-true, all-at, any-at, any-found, any-same, map-same, by-test}
-use Rattle.language.proofs.Agreement.{sameKind-eq}
+use Rattle.values.proofs.Sameness.{kind-eq}
 use Rattle.language.proofs.Unions.{Likeness, by-key, only-member, union-distinct}
 use Rattle.language.proofs.Sameness.{sameProperty-likeness}
 use Rattle.register_form.specs.Dictionary.{PropertyRow, Dictionary, nameOf, textIn, decodeProperty, decode}
@@ -69,7 +70,7 @@ unfolding kindsClash
 kinds-agree R S once clear {p} {q} m n e =
     let no = any-at (λ p. isOtherKind (p .kind) (kindAmong (S .properties) (p .name))) clear m in
     let at : kindAmong (S .properties) (p .name) ≡ some (q .kind) = ap (kindAmong (S .properties)) e ∙ kind-there (S .properties) once n in
-    sameKind-eq (p .kind) (q .kind) (not-false _ (ap (isOtherKind (p .kind)) (sym at) ∙ no))
+    kind-eq (p .kind) (q .kind) (not-false _ (ap (isOtherKind (p .kind)) (sym at) ∙ no))
 
 -- One dictionary's rows in a draft.
 module _ (d D : Dictionary) (item : ℕ → ℕ) (p : Proper d) (i : Itemed d (D .texts) item) where

@@ -12,6 +12,7 @@ use borrow.Author.Tests.{ltb-true, ltb-false}
 use Rattle.text.specs.Bytes.{Bytes}
 use Rattle.text.specs.Table.{tabulate}
 use Rattle.text.proofs.Tables.{length-tabulate, getD-tabulate, tabulate-ext, is-tabulate}
+use Rattle.values.specs.Values.{kindFrom}
 use Rattle.values.specs.declared.Kind.{Kind}
 use Rattle.language.specs.Register.{distinct}
 use Rattle.language.specs.Joining.{onlyIn, union}
@@ -19,7 +20,7 @@ use Rattle.language.proofs.Members.{by-test, getD-mapped}
 use Rattle.language.proofs.Unions.{only-member}
 use Rattle.dictionary.specs.Items.{textAt as itemAt}
 use Rattle.register_form.specs.Dictionary.{PropertyRow, PageRow, Dictionary, termOf}
-use Rattle.register_form.specs.Form.{pageCount, propertyCount, kindFrom, propertyAt, pageAt, dictionaryIn}
+use Rattle.register_form.specs.Form.{pageCount, propertyCount, propertyAt, pageAt, dictionaryIn}
 use Rattle.register_form.specs.Tests.{termUses}
 use Rattle.register_form.specs.Draft.{onceBehind, once}
 use Rattle.register_form.specs.Tables.{draftIn}

@@ -9,9 +9,10 @@ use lib.ListN.{length, getD, set, length-set, length-map}
 use borrow.Author.Tests.{eq-eqb, ne-eqb}
 use Rattle.text.specs.Bytes.{Bytes, any}
 use Rattle.text.specs.Table.{tabulate}
+use Rattle.values.specs.Values.{kindFrom}
 use Rattle.values.specs.declared.Kind.{Kind}
 use Rattle.register_form.specs.Dictionary.{PropertyRow}
-use Rattle.register_form.specs.Form.{kindByte, pageCount, propertyCount, kindFrom, propertyAt, pageAt}
+use Rattle.register_form.specs.Form.{kindByte, pageCount, propertyCount, propertyAt, pageAt}
 use Rattle.register_form.specs.Draft.{onceBehind}
 use Rattle.register_join_draft.specs.Joined.{sameRow, nameIn, codeBy}
 use Rattle.register_join_draft.specs.Drafting.{itemsIn, Listed, Entering, Rowed, PropertiesPut, IdentifiersPut, newGroup, newCode}

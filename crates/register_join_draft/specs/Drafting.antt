@@ -7,11 +7,12 @@ use lib.Dec.{eqb}
 use lib.ListN.{length, getD}
 use Rattle.text.specs.Bytes.{Bytes, any}
 use Rattle.text.specs.Table.{tabulate}
+use Rattle.values.specs.Values.{kindFrom}
 use Rattle.values.specs.declared.Kind.{Kind}
 use Rattle.language.specs.Joining.{kindsClash}
 use Rattle.dictionary.specs.Items.{textAt as itemAt}
 use Rattle.register_form.specs.Dictionary.{PropertyRow, PageRow, Dictionary, termOf, groupOf, termCode, noProperty}
-use Rattle.register_form.specs.Form.{kindByte, pageCount, propertyCount, kindFrom, propertyAt, pageAt, formAt, termAt, dictionaryIn, registerIn}
+use Rattle.register_form.specs.Form.{kindByte, pageCount, propertyCount, propertyAt, pageAt, formAt, termAt, dictionaryIn, registerIn}
 use Rattle.register_form.specs.Draft.{onceBehind}
 use Rattle.register_form.specs.Tables.{tablesOf, draftIn}
 use Rattle.register_form.specs.Formed.{Formed}

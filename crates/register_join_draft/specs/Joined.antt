@@ -35,8 +35,7 @@ formsIn l (suc i) = getD l i noPage .forms
 -- The code of a value of a kind, with the item of its text.
 unfoldable pub codeBy : (ℕ → ℕ) → Kind → ℕ → ℕ
 codeBy item Kind.Page c = item c
-codeBy item Kind.Number c = c
-codeBy item Kind.Boolean c = c
+codeBy item (Kind.Scalar k) c = c
 codeBy item Kind.String c = item c
 
 -- A dictionary's rows and terms with items for the numbers of texts.

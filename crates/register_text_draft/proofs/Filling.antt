@@ -17,14 +17,14 @@ use Rattle.text.proofs.Tables.{length-tabulate, tabulate-ext, is-tabulate}
 use Rattle.values.specs.declared.Kind.{Kind}
 use Rattle.values.specs.declared.Split.{Split}
 use Rattle.values.specs.Names.{Identifier, reference, identifier}
-use Rattle.values.specs.Values.{mapOption, Constant, number, boolean, string, Value, plain, link, readNumber, readBoolean, readLink, readValue}
+use Rattle.values.specs.Values.{mapOption, Constant, scalar, string, Value, plain, link, readNumber, readBoolean, readLink, readValue, kindCode, kindFrom}
 use Rattle.values.specs.Answers.{Splits, splitOf}
 use Rattle.values.proofs.Spelled.{link-read}
 use Rattle.language.proofs.Members.{by-test}
 use Rattle.dictionary.specs.Items.{textAt}
 use Rattle.register_form.specs.Dictionary.{PropertyRow, PageRow, Dictionary, labelled, termOf}
 use Rattle.register_form.specs.Encoding.{identifierText, valueTexts}
-use Rattle.register_form.specs.Form.{kindCode, kindFrom, joined}
+use Rattle.register_form.specs.Form.{joined}
 use Rattle.register_form.specs.Tables.{draftIn}
 use Rattle.buffer.proofs.Parts.{part-before}
 use Rattle.register_text_draft.specs.declared.Counts.{Counts}

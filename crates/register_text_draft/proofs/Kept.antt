@@ -13,7 +13,7 @@ use Rattle.text.specs.Bytes.{Bytes, all}
 use Rattle.text.specs.Table.{tabulate}
 use Rattle.text.proofs.Laws.{all-append}
 use Rattle.text.proofs.Tables.{length-tabulate, getD-tabulate}
-use Rattle.values.specs.Values.{Constant, number, boolean, string, Value, plain, link}
+use Rattle.values.specs.Values.{Constant, scalar, string, Value, plain, link}
 use Rattle.language.specs.Answer.{found}
 use Rattle.language.specs.Register.{Property, Register, distinct, sameProperty}
 use Rattle.language.specs.RegisterText.{Entry, prop, page, cat, val, close, line, properties, valueOf, pagesOf, registerOf}
@@ -81,8 +81,7 @@ mem-more P l b h k a m = ⊎-elim (h a) (λ (n : List·Memᴰ a (b ∷ [])). sub
 
 labels-value : (v : Value) → all isLabelled (valueTexts v) ≡ true
 unfolding valueTexts all
-labels-value (plain (number z)) = refl
-labels-value (plain (boolean b)) = refl
+labels-value (plain (scalar k c)) = refl
 labels-value (plain (string x)) = all-one isLabelled (plainText x) (labelled-is [] x)
 labels-value (link i) = all-one isLabelled (identifierText i) (labelled-is (i .namespace) (i .article))
 

@@ -12,9 +12,9 @@ use lib.Seq.{getD-set-same, getD-set-other}
 use Rattle.text.specs.Bytes.{Bytes}
 use Rattle.text.specs.Table.{tabulate}
 use Rattle.text.proofs.Tables.{tabulate-ext}
+use Rattle.values.specs.Values.{kindCode, kindFrom}
 use Rattle.values.specs.declared.Kind.{Kind}
 use Rattle.register_form.specs.Dictionary.{PropertyRow, PageRow, termOf}
-use Rattle.register_form.specs.Form.{kindCode, kindFrom}
 use Rattle.register_text_draft.specs.Drafting.{withForm, onLast}
 use Rattle.register_text_draft.specs.Tables.{propertyIn, Properties, pageIn, Pages, termIn, Terms, FormsPushed}
 use Rattle.register_text_draft.proofs.Pages.{on-last}
@@ -31,8 +31,7 @@ other t n v i b = getD-set-other t n i v 0 (λ e. omega arith)
 kind-back : (k : Kind) → kindFrom (kindCode k) ≡ k
 unfolding kindFrom
 kind-back Kind.Page = refl
-kind-back Kind.Number = refl
-kind-back Kind.Boolean = refl
+kind-back (Kind.Scalar k) = refl
 kind-back Kind.String = refl
 
 -- A property.

@@ -14,8 +14,7 @@ use Rattle.text.specs.Bytes.{Bytes, same}
 use Rattle.text.specs.Table.{bit}
 use Rattle.text.proofs.Laws.{same-eq}
 use Rattle.values.specs.declared.Kind.{Kind}
-use Rattle.values.specs.Values.{Constant, number, boolean, string, Value, plain, link, kindOf}
-use Rattle.values.specs.Answers.{base, biased}
+use Rattle.values.specs.Values.{Constant, scalar, string, Value, plain, link, kindOf, base, biased}
 use Rattle.language.specs.Register.{Property, Held, kindAmong}
 use Rattle.language.specs.Rules.{magnitude, isStorable}
 use Rattle.language.proofs.Members.{both-true, getD-mapped}
@@ -51,8 +50,7 @@ module _ (D : Dictionary) (l : List Bytes) where
   -- the code is one of the kind
   code-told : (v : Value) → Behind v → isCode D (kindOf v) (codeIn (length l) v) ≡ true
   unfolding valueTexts isCode
-  code-told (plain (number z)) f = refl
-  code-told (plain (boolean true)) f = refl
+  code-told (plain (scalar k c)) f = refl
   code-told (plain (boolean false)) f = refl
   code-told (plain (string x)) f = plain-number x f
   code-told (link i) f = lt-ltb (length l) (length (D .texts)) (front-there l [] (identifierText i) f)
@@ -72,8 +70,7 @@ module _ (D : Dictionary) (l : List Bytes) where
 
   texts-told : (v : Value) (i : ℕ) → length l ≤ i → i < length (l ++ valueTexts v) → List·Memᴰ i (codeTexts D (kindOf v) (codeIn (length l) v))
   unfolding valueTexts codeTexts
-  texts-told (plain (number z)) i a b = absurd (omega (arith, length-append l []))
-  texts-told (plain (boolean c)) i a b = absurd (omega (arith, length-append l []))
+  texts-told (plain (scalar k c)) i a b = absurd (omega (arith, length-append l []))
   texts-told (plain (string x)) i a b = one (plainText x) i a b
   texts-told (link j) i a b = one (identifierText j) i a b
 

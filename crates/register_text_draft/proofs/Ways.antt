@@ -13,9 +13,9 @@ use Rattle.text.specs.Bytes.{Bytes, part}
 use Rattle.values.specs.declared.Kind.{Kind}
 use Rattle.values.specs.declared.NumberRead.{NumberRead}
 use Rattle.values.specs.declared.BooleanRead.{BooleanRead}
-use Rattle.values.specs.Values.{mapOption, Constant, number, boolean, string, Value, plain, link, readNumber, readBoolean, readLink, readValue}
+use Rattle.values.specs.Values.{mapOption, Constant, scalar, string, Value, plain, link, readNumber, readBoolean, readLink, readValue, biased}
 use Rattle.values.specs.Names.{Identifier}
-use Rattle.values.specs.Answers.{biased, numberRead, booleanRead}
+use Rattle.values.specs.Answers.{numberRead, booleanRead}
 use Rattle.register_text_draft.specs.Drafting.{codeIn}
 use Rattle.register_text_draft.specs.Tables.{Copied}
 

@@ -5,8 +5,7 @@ use lib.ListN.{length}
 use Rattle.text.specs.Bytes.{Bytes}
 use Rattle.text.specs.Table.{bit}
 use Rattle.values.specs.declared.Kind.{Kind}
-use Rattle.values.specs.Values.{Constant, number, boolean, string, Value, plain, link}
-use Rattle.values.specs.Answers.{biased}
+use Rattle.values.specs.Values.{Constant, scalar, string, Value, plain, link, biased}
 use Rattle.language.specs.Answer.{found}
 use Rattle.language.specs.Register.{Property}
 use Rattle.language.specs.RegisterText.{Entry, prop, page, cat, val, close, valueOf}

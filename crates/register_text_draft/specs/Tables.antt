@@ -6,6 +6,7 @@ use mathlib.Core.Option.{some}
 use lib.ListN.{length, getD, take}
 use Rattle.text.specs.Bytes.{Bytes, part}
 use Rattle.text.specs.Table.{tabulate}
+use Rattle.values.specs.Values.{kindFrom}
 use Rattle.language.specs.Answer.{numberOf}
 use Rattle.language.specs.Register.{Property}
 use Rattle.language.specs.RegisterText.{Entry, entries, readRegister}
@@ -13,7 +14,7 @@ use Rattle.register_text_entries.specs.Table.{entriesIn}
 use Rattle.register_text_verdict.specs.Checks.{rowsThat}
 use Rattle.register_text_verdict.specs.declared.Declared.{Declared}
 use Rattle.register_form.specs.Dictionary.{PropertyRow, PageRow, Dictionary, termOf}
-use Rattle.register_form.specs.Form.{kindFrom, joined}
+use Rattle.register_form.specs.Form.{joined}
 use Rattle.register_text_draft.specs.declared.Counts.{Counts}
 use Rattle.register_text_draft.specs.declared.Ends.{Ends}
 use Rattle.register_text_draft.specs.Drafting.{onLast}

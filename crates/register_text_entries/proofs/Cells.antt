@@ -62,8 +62,7 @@ pub ruleset codes = (tag-prop, tag-page, tag-cat, tag-val, tag-close, kind-numbe
 pub code-back : (t : Tag) (k : Kind) (a b : Bytes) → entryFrom (entryCode t k % 65536) a b ≡ entryBy t k a b
 unfolding entryFrom tagFrom kindFrom
 code-back Tag.Prop Kind.Page a b = refl
-code-back Tag.Prop Kind.Number a b = refl
-code-back Tag.Prop Kind.Boolean a b = refl
+code-back Tag.Prop (Kind.Scalar k) a b = refl
 code-back Tag.Prop Kind.String a b = refl
 code-back Tag.Page k a b = refl
 code-back Tag.Cat k a b = refl

@@ -16,7 +16,7 @@ use Rattle.values.specs.declared.KindRead.{KindRead}
 use Rattle.values.specs.declared.NumberRead.{NumberRead}
 use Rattle.values.specs.declared.BooleanRead.{BooleanRead}
 use Rattle.values.specs.Names.{isName, isPropertyName, isNamespace, isValue, isReference, reference, identifier}
-use Rattle.values.specs.Values.{mapOption, number, boolean, plain, link, readNumber, readBoolean, readLink, readValue}
+use Rattle.values.specs.Values.{mapOption, scalar, plain, link, readNumber, readBoolean, readLink, readValue}
 use Rattle.values.specs.Answers.{numberRead, booleanRead, kindRead}
 use Rattle.language.specs.Answer.{_>>=_, found}
 use Rattle.language.specs.Register.{Typing}

@@ -1,7 +1,7 @@
 -- Laws of scalars: codes keep the order of what they tell and lose nothing, what is read is in range, and spelled it is hardly longer.
-use Prim.Native.Nat.{ℕ, suc, _+_, _-_, _*_, _≤_, _<_}
+use Prim.Native.Nat.{ℕ, suc, _+_, _-_, _*_, _^_, _≤_, _<_}
 use mathlib.Core.Path.{_≡_, refl, ap, sym, _∙_, subst}
-use mathlib.Core.Bool.{Bool, true, false, cond, _&&_}
+use mathlib.Core.Bool.{Bool, true, false, cond, _&&_, and-eq-true-iff}
 use mathlib.Core.Option.{Option, some, none}
 use native.Mathlib.Omega.{arith}
 use lib.Dec.{eqb, ltb}
@@ -56,6 +56,11 @@ bit-in-range false = refl
 pub read-in-range : (k : Scalar) (s : Bytes) (c : ℕ) → readScalar k s ≡ some c → inRange k c ≡ true
 read-in-range Scalar.Number s c = on-mapped (λ c. inRange Scalar.Number c ≡ true) biased (readNumber s) c (λ z e. small-in-range z (read-small s z e))
 read-in-range Scalar.Boolean s c = on-mapped (λ c. inRange Scalar.Boolean c ≡ true) bit (readBoolean s) c (λ b e. bit-in-range b)
+
+-- A code has 64 bits.
+pub range-small : (k : Scalar) (c : ℕ) → inRange k c ≡ true → c < 2 ^ 64
+range-small Scalar.Number c h = omega (arith, ltb-true c (2 * base) (and-eq-true-iff (ltb 0 c) (ltb c (2 * base)) .0 h .1))
+range-small Scalar.Boolean c h = omega (arith, ltb-true c 2 h)
 
 -- Spelled, it is at most four bytes longer: `0` and `false`.
 spelled-bit : (b : Bool) → spellScalar Scalar.Boolean (bit b) ≡ spellBoolean b

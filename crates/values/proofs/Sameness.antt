@@ -1,5 +1,5 @@
 -- Values that are the same are one value.
-use Prim.Native.Nat.{ℕ}
+use Prim.Native.Nat.{ℕ, zero, suc, _<_}
 use mathlib.Core.Path.{_≡_, refl, sym, ap, _∙_}
 use mathlib.Core.Bool.{Bool, true, false, cond, and-eq-true-iff, false≢true}
 use mathlib.Core.Option.{Option, some, none}
@@ -10,7 +10,7 @@ use Rattle.text.specs.Bytes.{same, orderOf, numbers}
 use Rattle.text.specs.declared.Order.{Order}
 use Rattle.text.proofs.Laws.{same-eq, same-refl, numbers-equal, order-eq, order-refl}
 use Rattle.values.specs.Names.{Identifier, sameIdentifier}
-use Rattle.values.specs.Values.{Constant, scalar, string, Value, plain, link, scalarCode, kindCode, kindFrom, sameScalar, sameKind, orderConstants, isEqualOrder, sameValue}
+use Rattle.values.specs.Values.{Constant, scalar, string, Value, plain, link, scalarCode, kindCode, kindCount, kindFrom, sameScalar, sameKind, orderConstants, isEqualOrder, sameValue}
 use Rattle.values.specs.declared.Kind.{Kind}
 use Rattle.values.specs.declared.Scalar.{Scalar}
 
@@ -34,6 +34,20 @@ kind-coded Kind.Page = refl
 kind-coded (Kind.Scalar Scalar.Number) = refl
 kind-coded (Kind.Scalar Scalar.Boolean) = refl
 kind-coded Kind.String = refl
+
+pub code-told : (n : ℕ) → n < kindCount → kindCode (kindFrom n) ≡ n
+unfolding kindFrom
+code-told zero b = refl
+code-told (suc zero) b = refl
+code-told (suc (suc zero)) b = refl
+code-told (suc (suc (suc zero))) b = refl
+code-told (suc (suc (suc (suc n)))) b = absurd (omega arith)
+
+pub code-below : (k : Kind) → kindCode k < kindCount
+code-below Kind.Page = omega arith
+code-below (Kind.Scalar Scalar.Number) = omega arith
+code-below (Kind.Scalar Scalar.Boolean) = omega arith
+code-below Kind.String = omega arith
 
 codes-apart : (k : Scalar) → (scalarCode k ≡ kindCode Kind.Page → ⊥) × (scalarCode k ≡ kindCode Kind.String → ⊥)
 codes-apart Scalar.Number = (λ e. omega arith, λ e. omega arith)
