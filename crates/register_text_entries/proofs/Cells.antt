@@ -1,5 +1,5 @@
 -- Laws of the table: codes, the rows that a store leaves, the entries in the first rows.
-use Prim.Native.Nat.{ℕ, zero, suc, _+_, _*_, _/_, _%_, _≤_, _<_}
+use Prim.Native.Nat.{ℕ, zero, suc, _+_, _-_, _*_, _/_, _%_, _≤_, _<_}
 use mathlib.Core.Path.{_≡_, refl, sym, _∙_}
 use mathlib.Core.List.{List, [], _∷_, _++_}
 use native.Mathlib.Omega.{arith}
@@ -7,68 +7,62 @@ use native.Mathlib.Nat.{add-zero, add-suc, suc-add}
 use native.Mathlib.Numerals.{add-one}
 use lib.ListN.{length, getD, set, length-set, List·getD-eq-default}
 use lib.Seq.{sets, set-out, length-sets, getD-set-same, getD-set-other}
-use borrow.Author.Tests.{lt-ltb, le-ltb, ne-eqb}
+use borrow.Author.Tests.{ne-eqb}
 use Rattle.text.specs.Bytes.{Bytes, part}
 use Rattle.text.specs.Parts.{partOf, Within}
 use Rattle.text.specs.Table.{tabulate}
 use Rattle.text.proofs.Tables.{length-tabulate, getD-tabulate, tabulate-ext}
 use Rattle.values.specs.declared.Kind.{Kind}
+use Rattle.values.specs.Values.{kindCode, kindFrom}
+use Rattle.values.proofs.Sameness.{code-below, kind-coded}
 use Rattle.language.specs.RegisterText.{Entry}
 use Rattle.register_text_entries.specs.declared.Tag.{Tag}
 use Rattle.register_text_entries.specs.declared.Item.{Item}
 use Rattle.register_text_entries.specs.Items.{entryBy, entryIn}
-use Rattle.register_text_entries.specs.Table.{entryCode, tagFrom, kindFrom, entryFrom, entryAt, entriesIn, row, withRow}
+use Rattle.register_text_entries.specs.Table.{entryCode, tagFrom, kindOfCode, entryFrom, entryAt, entriesIn, row, withRow}
 
 -- Codes.
 module _ (c : ℕ) where
-  pub tag-prop : c < 4 → Tag.Prop ≡ tagFrom c
-  unfolding tagFrom
-  tag-prop h = rw (lt-ltb c 4 h)
-
-  pub tag-page : c ≡ 4 → Tag.Page ≡ tagFrom c
+  pub tag-page : c ≡ 0 → Tag.Page ≡ tagFrom c
   unfolding tagFrom
   tag-page h = rw h
 
-  pub tag-cat : c ≡ 5 → Tag.Cat ≡ tagFrom c
+  pub tag-cat : c ≡ 1 → Tag.Cat ≡ tagFrom c
   unfolding tagFrom
   tag-cat h = rw h
 
-  pub tag-val : c ≡ 6 → Tag.Val ≡ tagFrom c
+  pub tag-val : c ≡ 2 → Tag.Val ≡ tagFrom c
   unfolding tagFrom
   tag-val h = rw h
 
-  pub tag-close : 4 ≤ c → (c ≡ 4 → ⊥) → (c ≡ 5 → ⊥) → (c ≡ 6 → ⊥) → Tag.Close ≡ tagFrom c
+  pub tag-close : c ≡ 3 → Tag.Close ≡ tagFrom c
   unfolding tagFrom
-  tag-close h x y z = rw (le-ltb c 4 h, ne-eqb c 4 x, ne-eqb c 5 y, ne-eqb c 6 z)
+  tag-close h = rw h
 
-  pub kind-number : c ≡ 1 → Kind.Number ≡ kindFrom c
-  unfolding kindFrom
-  kind-number h = rw h
+  pub tag-prop : (c ≡ 0 → ⊥) → (c ≡ 1 → ⊥) → (c ≡ 2 → ⊥) → (c ≡ 3 → ⊥) → Tag.Prop ≡ tagFrom c
+  unfolding tagFrom
+  tag-prop w x y z = rw (ne-eqb c 0 w, ne-eqb c 1 x, ne-eqb c 2 y, ne-eqb c 3 z)
 
-  pub kind-boolean : c ≡ 2 → Kind.Boolean ≡ kindFrom c
-  unfolding kindFrom
-  kind-boolean h = rw h
+  pub kind-none : (r : Kind) → c < 4 → r ≡ kindFrom 0 → r ≡ kindOfCode c
+  kind-none r h e = let n : (c - 4) % 256 ≡ 0 = omega arith in rw n e
 
-  pub kind-string : c ≡ 3 → Kind.String ≡ kindFrom c
-  unfolding kindFrom
-  kind-string h = rw h
+pub code-prop : (t : Tag) (k : Kind) (b c : ℕ) → t ≡ Tag.Prop → b ≡ kindCode k → c ≡ b → 4 + c ≡ entryCode t k
+code-prop t k b c e f g = rw (e, g, f)
 
-  pub kind-page : (c ≡ 1 → ⊥) → (c ≡ 2 → ⊥) → (c ≡ 3 → ⊥) → Kind.Page ≡ kindFrom c
-  unfolding kindFrom
-  kind-page x y z = rw (ne-eqb c 1 x, ne-eqb c 2 y, ne-eqb c 3 z)
-
-pub ruleset codes = (tag-prop, tag-page, tag-cat, tag-val, tag-close, kind-number, kind-boolean, kind-string, kind-page)
+pub ruleset codes = (code-prop, tag-page, tag-cat, tag-val, tag-close, tag-prop, kind-none)
 
 pub code-back : (t : Tag) (k : Kind) (a b : Bytes) → entryFrom (entryCode t k % 65536) a b ≡ entryBy t k a b
-unfolding entryFrom tagFrom kindFrom
-code-back Tag.Prop Kind.Page a b = refl
-code-back Tag.Prop (Kind.Scalar k) a b = refl
-code-back Tag.Prop Kind.String a b = refl
+unfolding entryFrom tagFrom
 code-back Tag.Page k a b = refl
 code-back Tag.Cat k a b = refl
 code-back Tag.Val k a b = refl
 code-back Tag.Close k a b = refl
 code-back Tag.Broken k a b = refl
+code-back Tag.Prop k a b =
+    let l = code-below k in
+    let c = (4 + kindCode k) % 65536 in
+    let e : (c - 4) % 256 ≡ kindCode k = omega arith in
+    rw (← tag-prop c (omega arith) (omega arith) (omega arith) (omega arith), e, kind-coded k)
 
 -- What a run of stores leaves: past the end nothing, below it what was there, in it what was stored.
 module _ {A : Type 0} where

@@ -1,44 +1,42 @@
 -- Working definitions: the entries of a text as rows of a table, five numbers a row: a code, and the start and length of two
 -- parts of the text.
-use Prim.Native.Nat.{ℕ, _+_, _*_, _%_, _≤_}
+use Prim.Native.Nat.{ℕ, _+_, _-_, _*_, _%_, _≤_}
 use mathlib.Core.Path.{_≡_}
 use mathlib.Core.Bool.{true, false, cond}
 use mathlib.Core.List.{List, [], _∷_, map}
 use mathlib.Core.Option.{Option, some, none}
-use lib.Dec.{ltb, eqb}
+use lib.Dec.{eqb}
 use lib.ListN.{length, getD}
 use lib.Seq.{sets}
 use Rattle.text.specs.Bytes.{Bytes, part}
 use Rattle.text.specs.Table.{tabulate}
 use Rattle.values.specs.declared.Kind.{Kind}
+use Rattle.values.specs.Values.{kindCode, kindFrom}
 use Rattle.language.specs.RegisterText.{Entry, entries}
 use Rattle.register_text_entries.specs.Items.{entryBy}
 use Rattle.register_text_entries.specs.declared.Tag.{Tag}
 use Rattle.register_text_entries.specs.declared.Item.{Item}
 use Rattle.register_text_entries.specs.declared.Rows.{Rows}
 
--- The code of an entry: 0 to 3 a property of one of the kinds, 4 a page, 5 a cat form, 6 a val form, 7 the end of a page.
+-- The code of an entry: 0 a page, 1 a cat form, 2 a val form, 3 the end of a page, from 4 on a property of one of the kinds.
 abbrev pub entryCode : Tag → Kind → ℕ
-entryCode Tag.Prop Kind.Page = 0
-entryCode Tag.Prop Kind.Number = 1
-entryCode Tag.Prop Kind.Boolean = 2
-entryCode Tag.Prop Kind.String = 3
-entryCode Tag.Page k = 4
-entryCode Tag.Cat k = 5
-entryCode Tag.Val k = 6
-entryCode Tag.Close k = 7
-entryCode Tag.Broken k = 7
+entryCode Tag.Page k = 0
+entryCode Tag.Cat k = 1
+entryCode Tag.Val k = 2
+entryCode Tag.Close k = 3
+entryCode Tag.Broken k = 3
+entryCode Tag.Prop k = 4 + kindCode k
 
 unfoldable pub tagFrom : ℕ → Tag
 tagFrom c =
-    cond (ltb c 4) Tag.Prop (cond (eqb c 4) Tag.Page (cond (eqb c 5) Tag.Cat (cond (eqb c 6) Tag.Val Tag.Close)))
+    cond (eqb c 0) Tag.Page (cond (eqb c 1) Tag.Cat (cond (eqb c 2) Tag.Val (cond (eqb c 3) Tag.Close Tag.Prop)))
 
-unfoldable pub kindFrom : ℕ → Kind
-kindFrom c = cond (eqb c 1) Kind.Number (cond (eqb c 2) Kind.Boolean (cond (eqb c 3) Kind.String Kind.Page))
+abbrev pub kindOfCode : ℕ → Kind
+kindOfCode c = kindFrom ((c - 4) % 256)
 
 -- An entry by its code.
 unfoldable pub entryFrom : ℕ → Bytes → Bytes → Entry
-entryFrom c a b = entryBy (tagFrom c) (kindFrom c) a b
+entryFrom c a b = entryBy (tagFrom c) (kindOfCode c) a b
 
 -- The entry in row i.
 unfoldable pub entryAt : Bytes → List ℕ → ℕ → Entry

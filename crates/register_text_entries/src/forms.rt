@@ -17,6 +17,7 @@ use text::word_at;
 use values::Kind;
 use values::KindRead;
 use values::kind_at;
+use values::word_length;
 
 // The place behind the word w, where it stands at a place.
 pub fn after_word(s: &[u8], at: usize, w: &[u8]) -> Found
@@ -68,18 +69,6 @@ pub fn framed_at(s: &[u8], at: usize, w: &[u8], v: &[u8]) -> Quoted
     Quoted::Text(text, next)
 }
 
-// How long a kind's word is.
-pub fn word_len(kind: Kind) -> usize
-    ensures { λ r. ⌜ r ≡ length (kindWord kind) ⌝ }
-{
-    match kind {
-        Kind::Page => 4,
-        Kind::Number => 6,
-        Kind::Boolean => 7,
-        Kind::String => 6,
-    }
-}
-
 // The kind word at a place.
 pub fn kind_word(s: &[u8], at: usize) -> KindFound
     ensures { λ r. ⌜ kindIn (now (s .entry)) r ≡ kindWordAt (drop at (now (s .entry))) ⌝ }
@@ -87,7 +76,7 @@ pub fn kind_word(s: &[u8], at: usize) -> KindFound
     let KindRead::Kind(kind) = kind_at(s, at) else {
         return KindFound::Nothing;
     };
-    KindFound::At(kind, at + word_len(kind))
+    KindFound::At(kind, at + word_length(kind))
 }
 
 // No entry.

@@ -5,13 +5,16 @@ ghost use lib.ListN.{getD, set};
 ghost use Rattle.text.specs.Bytes.{Bytes};
 ghost use Rattle.text.specs.Parts.{partOf};
 ghost use Rattle.register_text_entries.specs.Items.{entryIn};
-ghost use Rattle.register_text_entries.specs.Table.{entryCode, tagFrom, kindFrom, entryFrom, entryAt, withRow};
+ghost use Rattle.register_text_entries.specs.Table.{entryCode, tagFrom, kindOfCode, entryFrom, entryAt, withRow};
 use super::Item;
 use super::Tag;
 use tables::narrow;
 use tables::num_at;
 use text::Span;
+use text::widen;
 use values::Kind;
+use values::kind_code;
+use values::kind_from;
 
 // Writes a number at a place of a table, where there is room.
 pub fn put(t: &mut [u16], at: usize, v: usize)
@@ -25,17 +28,12 @@ pub fn code_of(tag: Tag, kind: Kind) -> usize
     ensures { λ r. ⌜ r ≡ entryCode tag kind ⌝ }
 {
     match tag {
-        Tag::Prop => match kind {
-            Kind::Page => 0,
-            Kind::Number => 1,
-            Kind::Boolean => 2,
-            Kind::String => 3,
-        },
-        Tag::Page => 4,
-        Tag::Cat => 5,
-        Tag::Val => 6,
-        Tag::Close => 7,
-        Tag::Broken => 7,
+        Tag::Page => 0,
+        Tag::Cat => 1,
+        Tag::Val => 2,
+        Tag::Close => 3,
+        Tag::Broken => 3,
+        Tag::Prop => 4 + widen(kind_code(kind)),
     }
 }
 
@@ -61,29 +59,26 @@ pub fn put_item(t: &mut [u16], n: usize, item: Item)
 pub fn tag_of(code: usize) -> Tag
     ensures { λ r. ⌜ r ≡ tagFrom code ⌝ }
 {
-    if code < 4 {
-        return Tag::Prop;
-    }
-    if code == 4 {
+    if code == 0 {
         return Tag::Page;
     }
-    if code == 5 {
+    if code == 1 {
         return Tag::Cat;
     }
-    if code == 6 { Tag::Val } else { Tag::Close }
+    if code == 2 {
+        return Tag::Val;
+    }
+    if code == 3 { Tag::Close } else { Tag::Prop }
 }
 
 // The kind of a property's code.
 pub fn kind_of(code: usize) -> Kind
-    ensures { λ r. ⌜ r ≡ kindFrom code ⌝ }
+    ensures { λ r. ⌜ r ≡ kindOfCode code ⌝ }
 {
-    if code == 1 {
-        return Kind::Number;
+    if code < 4 {
+        return kind_from(0);
     }
-    if code == 2 {
-        return Kind::Boolean;
-    }
-    if code == 3 { Kind::String } else { Kind::Page }
+    kind_from(((code - 4) % 256) as u8)
 }
 
 // The item of a code and two parts.

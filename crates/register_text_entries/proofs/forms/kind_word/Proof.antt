@@ -16,8 +16,8 @@ enum-told c = search needs
 returns : tie.Need-returns
 returns c = search kinds
 
-word-len-requires : tie.Need-word-len-requires
-word-len-requires c κs = search needs
+word-length-requires : tie.Need-word-length-requires
+word-length-requires c κs = search needs
 
 add-t6 : tie.Need-add-t6
 add-t6 c = omega (arith, kind-fits _ (c .before .before .before .before .before .before .args .at) _ (c .before .before .before .before .kind-at .ensures) _ (c .before .before .kind .given .1))
@@ -33,6 +33,6 @@ kind-word-spec =
     enum-known-kind
     enum-told
     returns
-    word-len-requires
+    word-length-requires
     add-t6
     returns-2)
