@@ -6,18 +6,17 @@ use mathlib.Core.List.{List}
 use mathlib.Core.Option.{Option, some, none}
 use native.Mathlib.Numerals.{add-one}
 use native.Mathlib.Omega.{arith}
-use lib.IntN.{ℤ}
 use lib.ListN.{length, getD, take, drop, length-take, drop-of-length-le}
 use lib.Seq.{drop-cons, getD-take}
 use Rattle.text.specs.Bytes.{Bytes, same, part}
 use Rattle.text.specs.Parts.{partOf}
 use Rattle.values.specs.declared.Kind.{Kind}
 use Rattle.values.specs.declared.KindRead.{KindRead}
-use Rattle.values.specs.declared.NumberRead.{NumberRead}
-use Rattle.values.specs.declared.BooleanRead.{BooleanRead}
+use Rattle.values.specs.declared.Scalar.{Scalar}
+use Rattle.values.specs.declared.CodeRead.{CodeRead}
 use Rattle.values.specs.Names.{isName, isPropertyName, isNamespace, isValue, isReference, reference, identifier}
-use Rattle.values.specs.Values.{mapOption, scalar, plain, link, readNumber, readBoolean, readLink, readValue}
-use Rattle.values.specs.Answers.{numberRead, booleanRead, kindRead}
+use Rattle.values.specs.Values.{mapOption, scalar, plain, link, readScalar, readLink, readValue}
+use Rattle.values.specs.Answers.{codeRead, kindRead}
 use Rattle.language.specs.Answer.{_>>=_, found}
 use Rattle.language.specs.Register.{Typing}
 use Rattle.language.specs.RegisterText.{breaksRule, sameDeclared}
@@ -56,56 +55,30 @@ some-cond : {A : Type 0} (b : Bool) (a : A) → b ≡ found (cond b (some a) non
 some-cond true a = refl
 some-cond false a = refl
 
-is-number : (o : Option ℤ) (n : ℕ) → numberRead o ≡ NumberRead.Number n → true ≡ found o (λ w. true) false
-is-number none n h = cc
-is-number (some z) n h = refl
+is-code : (o : Option ℕ) (n : ℕ) → codeRead o ≡ CodeRead.Code n → true ≡ found o (λ w. true) false
+is-code none n h = cc
+is-code (some z) n h = refl
 
-no-number : (o : Option ℤ) → numberRead o ≡ NumberRead.Unfit → false ≡ found o (λ w. true) false
-no-number none h = refl
-no-number (some z) h = cc
-
-is-true : (o : Option Bool) → booleanRead o ≡ BooleanRead.True → true ≡ found o (λ w. true) false
-is-true none h = cc
-is-true (some b) h = refl
-
-is-false : (o : Option Bool) → booleanRead o ≡ BooleanRead.False → true ≡ found o (λ w. true) false
-is-false none h = cc
-is-false (some b) h = refl
-
-no-boolean : (o : Option Bool) → booleanRead o ≡ BooleanRead.Unfit → false ≡ found o (λ w. true) false
-no-boolean none h = refl
-no-boolean (some true) h = cc
-no-boolean (some false) h = cc
+no-code : (o : Option ℕ) → codeRead o ≡ CodeRead.Unfit → false ≡ found o (λ w. true) false
+no-code none h = refl
+no-code (some z) h = cc
 
 module _ (v : Bytes) (k : Kind) where
   pub fits-page : (r : Bool) → k ≡ Kind.Page → r ≡ isReference (reference v) → r ≡ found (readValue k v) (λ w. true) false
   unfolding readLink
   fits-page r h e = rw h (e ∙ some-cond (isReference (reference v)) (identifier (reference v)) ∙ some-map link (readLink v))
 
-  module _ (h : k ≡ Kind.Number) (r : NumberRead) (e : r ≡ numberRead (readNumber v)) where
-    as-number : found (readNumber v) (λ w. true) false ≡ found (readValue k v) (λ w. true) false
-    as-number = rw h (some-map number (readNumber v) ∙ some-map plain (mapOption number (readNumber v)))
+  module _ (j : Scalar) (h : k ≡ Kind.Scalar j) (r : CodeRead) (e : r ≡ codeRead (readScalar j v)) where
+    as-scalar : found (readScalar j v) (λ w. true) false ≡ found (readValue k v) (λ w. true) false
+    as-scalar = rw h (some-map (scalar j) (readScalar j v) ∙ some-map plain (mapOption (scalar j) (readScalar j v)))
 
-    pub fits-number : (n : ℕ) → r ≡ NumberRead.Number n → true ≡ found (readValue k v) (λ w. true) false
-    fits-number n f = is-number (readNumber v) n (sym e ∙ f) ∙ as-number
+    pub fits-scalar : (n : ℕ) → r ≡ CodeRead.Code n → true ≡ found (readValue k v) (λ w. true) false
+    fits-scalar n f = is-code (readScalar j v) n (sym e ∙ f) ∙ as-scalar
 
-    pub unfit-number : r ≡ NumberRead.Unfit → false ≡ found (readValue k v) (λ w. true) false
-    unfit-number f = no-number (readNumber v) (sym e ∙ f) ∙ as-number
+    pub unfit-scalar : r ≡ CodeRead.Unfit → false ≡ found (readValue k v) (λ w. true) false
+    unfit-scalar f = no-code (readScalar j v) (sym e ∙ f) ∙ as-scalar
 
-  module _ (h : k ≡ Kind.Boolean) (r : BooleanRead) (e : r ≡ booleanRead (readBoolean v)) where
-    as-boolean : found (readBoolean v) (λ w. true) false ≡ found (readValue k v) (λ w. true) false
-    as-boolean = rw h (some-map boolean (readBoolean v) ∙ some-map plain (mapOption boolean (readBoolean v)))
-
-    pub fits-true : r ≡ BooleanRead.True → true ≡ found (readValue k v) (λ w. true) false
-    fits-true f = is-true (readBoolean v) (sym e ∙ f) ∙ as-boolean
-
-    pub fits-false : r ≡ BooleanRead.False → true ≡ found (readValue k v) (λ w. true) false
-    fits-false f = is-false (readBoolean v) (sym e ∙ f) ∙ as-boolean
-
-    pub unfit-boolean : r ≡ BooleanRead.Unfit → false ≡ found (readValue k v) (λ w. true) false
-    unfit-boolean f = no-boolean (readBoolean v) (sym e ∙ f) ∙ as-boolean
-
-pub ruleset fit = (fits-page, fits-number, unfit-number, fits-true, fits-false, unfit-boolean)
+pub ruleset fit = (fits-page, fits-scalar, unfit-scalar)
 
 -- The kind of a property.
 module _ (x : Bytes) where

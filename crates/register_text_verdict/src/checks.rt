@@ -18,17 +18,15 @@ use register_text_entries::table::item_at;
 use tables::num_at;
 use text::part;
 use text::same_bytes;
-use values::BooleanRead;
+use values::CodeRead;
 use values::Kind;
 use values::KindRead;
-use values::NumberRead;
 use values::is_name;
 use values::is_namespace;
 use values::is_property_name;
 use values::is_reference;
 use values::is_value;
-use values::read_boolean;
-use values::read_number;
+use values::read_scalar;
 
 // Whether an entry declares what is looked for.
 pub fn is_declared(what: Declared, tag: Tag) -> bool
@@ -89,14 +87,9 @@ pub fn value_fits(kind: Kind, v: &[u8]) -> bool
 {
     match kind {
         Kind::Page => is_reference(v),
-        Kind::Number => match read_number(v) {
-            NumberRead::Number(_) => true,
-            NumberRead::Unfit => false,
-        },
-        Kind::Boolean => match read_boolean(v) {
-            BooleanRead::True => true,
-            BooleanRead::False => true,
-            BooleanRead::Unfit => false,
+        Kind::Scalar(k) => match read_scalar(k, v) {
+            CodeRead::Code(_) => true,
+            CodeRead::Unfit => false,
         },
         Kind::String => true,
     }
