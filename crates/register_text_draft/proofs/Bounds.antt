@@ -88,8 +88,7 @@ unfolding valueTexts
 value-short k s v h =
     of-read (λ v. Short (length s + 4) (valueTexts v)) s
     (λ i e. short-one _ (identifierText i) (omega (arith, length-labelled (i .namespace) (i .article), link-le i, spelled-link-le s i e)))
-    (λ z e. short-none _)
-    (λ b e. short-none _)
+    (λ j c e. short-none _)
     (short-one _ (plainText s) (omega (arith, length-labelled [] s)))
     k v h
 

@@ -15,9 +15,10 @@ use Rattle.text.specs.Bytes.{Bytes, part}
 use Rattle.text.specs.Table.{tabulate}
 use Rattle.text.proofs.Tables.{length-tabulate, tabulate-ext, is-tabulate}
 use Rattle.values.specs.declared.Kind.{Kind}
+use Rattle.values.specs.declared.Scalar.{Scalar}
 use Rattle.values.specs.declared.Split.{Split}
 use Rattle.values.specs.Names.{Identifier, reference, identifier}
-use Rattle.values.specs.Values.{mapOption, Constant, scalar, string, Value, plain, link, readNumber, readBoolean, readLink, readValue, kindCode, kindFrom}
+use Rattle.values.specs.Values.{mapOption, Constant, scalar, string, Value, plain, link, readScalar, readLink, readValue, kindCode, kindFrom}
 use Rattle.values.specs.Answers.{Splits, splitOf}
 use Rattle.values.proofs.Spelled.{link-read}
 use Rattle.language.proofs.Members.{by-test}
@@ -177,10 +178,6 @@ module _ (heap starts lens : List ℕ) (m at : ℕ) (k : Kind) (v : Bytes) (w : 
   none-pushed : valueTexts w ≡ [] → Pushed heap starts lens m at (valueTexts w) heap starts lens (record { texts = m; bytes = at })
   none-pushed n = record { texts = λ l t few fit. rw (n, append-nil l) t }
 
-  pub value-number : k ≡ Kind.Number → Pushed heap starts lens m at (valueTexts w) heap starts lens (record { texts = m; bytes = at })
+  pub value-scalar : (j : Scalar) → k ≡ Kind.Scalar j → Pushed heap starts lens m at (valueTexts w) heap starts lens (record { texts = m; bytes = at })
   unfolding valueTexts
-  value-number q = none-pushed (no-texts number (readNumber v) w (λ z. refl) (rw q at e))
-
-  pub value-boolean : k ≡ Kind.Boolean → Pushed heap starts lens m at (valueTexts w) heap starts lens (record { texts = m; bytes = at })
-  unfolding valueTexts
-  value-boolean q = none-pushed (no-texts boolean (readBoolean v) w (λ b. refl) (rw q at e))
+  value-scalar j q = none-pushed (no-texts (scalar j) (readScalar j v) w (λ c. refl) (rw q at e))

@@ -13,6 +13,7 @@ use Rattle.text.specs.Bytes.{Bytes}
 use Rattle.text.specs.Table.{tabulate}
 use Rattle.text.proofs.Tables.{tabulate-ext}
 use Rattle.values.specs.Values.{kindCode, kindFrom}
+use Rattle.values.proofs.Sameness.{kind-coded}
 use Rattle.values.specs.declared.Kind.{Kind}
 use Rattle.register_form.specs.Dictionary.{PropertyRow, PageRow, termOf}
 use Rattle.register_text_draft.specs.Drafting.{withForm, onLast}
@@ -28,13 +29,6 @@ table-more {A} n f g l a e h k = rw (add-one n) (ap₂ (λ (x : List A) (y : A).
 other : (t : List ℕ) (n v i : ℕ) → i < n → getD (set t n v) i 0 ≡ getD t i 0
 other t n v i b = getD-set-other t n i v 0 (λ e. omega arith)
 
-kind-back : (k : Kind) → kindFrom (kindCode k) ≡ k
-unfolding kindFrom
-kind-back Kind.Page = refl
-kind-back (Kind.Scalar k) = refl
-kind-back Kind.String = refl
-
--- A property.
 module _ (kinds names : List ℕ) (n : ℕ) (k : Kind) (x : ℕ) (i v : ℕ) (ei : i ≡ n) (ev : v ≡ kindCode k) (kinds′ : List ℕ) (ek : kinds′ ≡ set kinds i v) (j : ℕ) (ej : j ≡ n) (names′ : List ℕ) (en : names′ ≡ set names j x) where
   pub property-pushed : (l : List PropertyRow) → Properties kinds names n l → n < 64 → Properties kinds′ names′ (n + 1) (l ++ (record { kind = k; name = x } ∷ []))
   property-pushed l t b =
@@ -42,7 +36,7 @@ module _ (kinds names : List ℕ) (n : ℕ) (k : Kind) (x : ℕ) (i v : ℕ) (ei
         rows =
             table-more n (propertyIn kinds names) (propertyIn (set kinds n (kindCode k)) (set names n x)) l (record { kind = k; name = x }) (t .rows)
             (λ p c. rw (other kinds n (kindCode k) p c, other names n x p c))
-            (rw (getD-set-same kinds n (kindCode k) 0 (omega (arith, t .kindsRoom)), getD-set-same names n x 0 (omega (arith, t .namesRoom)), kind-back k));
+            (rw (getD-set-same kinds n (kindCode k) 0 (omega (arith, t .kindsRoom)), getD-set-same names n x 0 (omega (arith, t .namesRoom)), kind-coded k));
         kindsRoom = omega (arith, t .kindsRoom, length-set kinds n (kindCode k));
         namesRoom = omega (arith, t .namesRoom, length-set names n x);
       })

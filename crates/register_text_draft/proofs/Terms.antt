@@ -14,15 +14,16 @@ use Rattle.text.specs.Bytes.{Bytes, same}
 use Rattle.text.specs.Table.{bit}
 use Rattle.text.proofs.Laws.{same-eq}
 use Rattle.values.specs.declared.Kind.{Kind}
-use Rattle.values.specs.Values.{Constant, scalar, string, Value, plain, link, kindOf, base, biased}
+use Rattle.values.specs.Values.{Constant, scalar, string, Value, plain, link, kindOf}
 use Rattle.language.specs.Register.{Property, Held, kindAmong}
-use Rattle.language.specs.Rules.{magnitude, isStorable}
+use Rattle.values.proofs.Coded.{range-small}
+use Rattle.language.specs.Rules.{isStorable}
 use Rattle.language.proofs.Members.{both-true, getD-mapped}
 use Rattle.register_form.specs.Dictionary.{PropertyRow, Dictionary, nameOf, termOf, groupOf, termCode, isCategory, valueFrom, textIn, propertyIn, noProperty, categoryOf, heldOf, decodeProperty}
 use Rattle.register_form.specs.Encoding.{plainText, identifierText, valueTexts, placeAmong}
 use Rattle.register_form.specs.Tests.{isPlainNumber, isCode, isTerm, codeTexts, termTexts}
 use Rattle.register_form.proofs.Numbers.{code-back}
-use Rattle.register_form.proofs.Codes.{space-back, name-back, plain-plain, number-of-code}
+use Rattle.register_form.proofs.Codes.{space-back, name-back, plain-plain}
 use Rattle.register_text_draft.specs.Drafting.{codeIn}
 use Rattle.register_text_draft.proofs.Growing.{Front, front-there, front-at}
 use Rattle.register_text_draft.specs.Sizes.{Valued}
@@ -40,9 +41,7 @@ module _ (D : Dictionary) (l : List Bytes) where
   -- the value by its code
   value-told : (v : Value) → isStorable v ≡ true → Behind v → valueFrom (D .texts) (kindOf v) (codeIn (length l) v) ≡ v
   unfolding valueTexts isStorable
-  value-told (plain (number z)) s f = rw (number-of-code z (ltb-true (magnitude z) base s))
-  value-told (plain (boolean true)) s f = refl
-  value-told (plain (boolean false)) s f = refl
+  value-told (plain (scalar k c)) s f = refl
   value-told (plain (string x)) s f = rw (front-at l [] (plainText x) f, name-back [] x)
   value-told (link i) s f =
       rw (front-at l [] (identifierText i) f, space-back (i .namespace) (i .article), name-back (i .namespace) (i .article))
@@ -51,16 +50,12 @@ module _ (D : Dictionary) (l : List Bytes) where
   code-told : (v : Value) → Behind v → isCode D (kindOf v) (codeIn (length l) v) ≡ true
   unfolding valueTexts isCode
   code-told (plain (scalar k c)) f = refl
-  code-told (plain (boolean false)) f = refl
   code-told (plain (string x)) f = plain-number x f
   code-told (link i) f = lt-ltb (length l) (length (D .texts)) (front-there l [] (identifierText i) f)
 
   code-small : (v : Value) → isStorable v ≡ true → Behind v → length (D .texts) ≤ 2368 → codeIn (length l) v < 2 ^ 64
   unfolding valueTexts isStorable
-  code-small (plain (number (pos n))) s f few = omega (arith, ltb-true n base s)
-  code-small (plain (number (negsuc n))) s f few = omega (arith, ltb-true (suc n) base s)
-  code-small (plain (boolean true)) s f few = omega arith
-  code-small (plain (boolean false)) s f few = omega arith
+  code-small (plain (scalar k c)) s f few = range-small k c s
   code-small (plain (string x)) s f few = omega (arith, front-there l [] (plainText x) f)
   code-small (link i) s f few = omega (arith, front-there l [] (identifierText i) f)
 

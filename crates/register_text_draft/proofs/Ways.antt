@@ -11,11 +11,11 @@ use lib.ListN.{length, getD, take, drop, set}
 use lib.Seq.{paste, paste-zero, paste-suc, length-paste, take-paste, take-all}
 use Rattle.text.specs.Bytes.{Bytes, part}
 use Rattle.values.specs.declared.Kind.{Kind}
-use Rattle.values.specs.declared.NumberRead.{NumberRead}
-use Rattle.values.specs.declared.BooleanRead.{BooleanRead}
-use Rattle.values.specs.Values.{mapOption, Constant, scalar, string, Value, plain, link, readNumber, readBoolean, readLink, readValue, biased}
+use Rattle.values.specs.declared.CodeRead.{CodeRead}
+use Rattle.values.specs.declared.Scalar.{Scalar}
+use Rattle.values.specs.Values.{mapOption, Constant, scalar, string, Value, plain, link, readScalar, readLink, readValue}
 use Rattle.values.specs.Names.{Identifier}
-use Rattle.values.specs.Answers.{numberRead, booleanRead}
+use Rattle.values.specs.Answers.{codeRead}
 use Rattle.register_text_draft.specs.Drafting.{codeIn}
 use Rattle.register_text_draft.specs.Tables.{Copied}
 
@@ -48,23 +48,13 @@ code-link : (o : Option Identifier) (n : ℕ) (w : Value) → mapOption link o �
 code-link none n w h = absurd (let z : _≡_ {A = ℕ} 0 1 = cc in omega arith)
 code-link (some i) n w h = let e : link i ≡ w = cc in ap (codeIn n) e
 
-code-of-number : (o : Option ℤ) (c n : ℕ) (w : Value) → numberRead o ≡ NumberRead.Number c → mapOption plain (mapOption number o) ≡ some w → c ≡ codeIn n w
-code-of-number none c n w e h = absurd (let z : _≡_ {A = ℕ} 0 1 = cc in omega arith)
-code-of-number (some y) c n w e h = let f : plain (number y) ≡ w = cc in let g : c ≡ biased y = cc in g ∙ ap (codeIn n) f
+code-of-scalar : (k : Scalar) (o : Option ℕ) (c n : ℕ) (w : Value) → codeRead o ≡ CodeRead.Code c → mapOption plain (mapOption (scalar k) o) ≡ some w → c ≡ codeIn n w
+code-of-scalar k none c n w e h = absurd (let z : _≡_ {A = ℕ} 0 1 = cc in omega arith)
+code-of-scalar k (some y) c n w e h = let f : plain (scalar k y) ≡ w = cc in let g : c ≡ y = cc in g ∙ ap (codeIn n) f
 
-no-number : (o : Option ℤ) (c n : ℕ) (w : Value) → numberRead o ≡ NumberRead.Unfit → mapOption plain (mapOption number o) ≡ some w → c ≡ codeIn n w
-no-number none c n w e h = absurd (let z : _≡_ {A = ℕ} 0 1 = cc in omega arith)
-no-number (some y) c n w e h = absurd (let z : _≡_ {A = ℕ} 0 1 = cc in omega arith)
-
-abbrev codeRead : BooleanRead → ℕ
-codeRead BooleanRead.True = 1
-codeRead BooleanRead.False = 0
-codeRead BooleanRead.Unfit = 0
-
-code-of-boolean : (o : Option Bool) (n : ℕ) (w : Value) → mapOption plain (mapOption boolean o) ≡ some w → codeRead (booleanRead o) ≡ codeIn n w
-code-of-boolean none n w h = absurd (let z : _≡_ {A = ℕ} 0 1 = cc in omega arith)
-code-of-boolean (some true) n w h = let f : plain (boolean true) ≡ w = cc in ap (codeIn n) f
-code-of-boolean (some false) n w h = let f : plain (boolean false) ≡ w = cc in ap (codeIn n) f
+no-scalar : (k : Scalar) (o : Option ℕ) (c n : ℕ) (w : Value) → codeRead o ≡ CodeRead.Unfit → mapOption plain (mapOption (scalar k) o) ≡ some w → c ≡ codeIn n w
+no-scalar k none c n w e h = absurd (let z : _≡_ {A = ℕ} 0 1 = cc in omega arith)
+no-scalar k (some y) c n w e h = absurd (let z : _≡_ {A = ℕ} 0 1 = cc in omega arith)
 
 module _ (k : Kind) (v : Bytes) (n : ℕ) (w : Value) (h : readValue k v ≡ some w) where
   pub code-page : k ≡ Kind.Page → (c : ℕ) → c ≡ n → c ≡ codeIn n w
@@ -73,12 +63,9 @@ module _ (k : Kind) (v : Bytes) (n : ℕ) (w : Value) (h : readValue k v ≡ som
   pub code-string : k ≡ Kind.String → (c : ℕ) → c ≡ n → c ≡ codeIn n w
   code-string e c f = let q : plain (string v) ≡ w = (let g : readValue Kind.String v ≡ some w = rw e at h in cc) in f ∙ ap (codeIn n) q
 
-  module _ (e : k ≡ Kind.Number) (r : NumberRead) (f : r ≡ numberRead (readNumber v)) where
-    pub code-number : (c : ℕ) → r ≡ NumberRead.Number c → c ≡ codeIn n w
-    code-number c g = code-of-number (readNumber v) c n w (sym f ∙ g) (rw e at h)
+  module _ (j : Scalar) (e : k ≡ Kind.Scalar j) (r : CodeRead) (f : r ≡ codeRead (readScalar j v)) where
+    pub code-scalar : (c : ℕ) → r ≡ CodeRead.Code c → c ≡ codeIn n w
+    code-scalar c g = code-of-scalar j (readScalar j v) c n w (sym f ∙ g) (rw e at h)
 
-    pub code-unfit : (c : ℕ) → r ≡ NumberRead.Unfit → c ≡ codeIn n w
-    code-unfit c g = no-number (readNumber v) c n w (sym f ∙ g) (rw e at h)
-
-  pub code-boolean : k ≡ Kind.Boolean → (r : BooleanRead) → r ≡ booleanRead (readBoolean v) → (b : BooleanRead) → r ≡ b → codeRead b ≡ codeIn n w
-  code-boolean e r f b g = ap codeRead (sym g ∙ f) ∙ code-of-boolean (readBoolean v) n w (rw e at h)
+    pub code-unfit : (c : ℕ) → r ≡ CodeRead.Unfit → c ≡ codeIn n w
+    code-unfit c g = no-scalar j (readScalar j v) c n w (sym f ∙ g) (rw e at h)

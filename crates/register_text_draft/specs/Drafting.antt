@@ -5,7 +5,7 @@ use lib.ListN.{length}
 use Rattle.text.specs.Bytes.{Bytes}
 use Rattle.text.specs.Table.{bit}
 use Rattle.values.specs.declared.Kind.{Kind}
-use Rattle.values.specs.Values.{Constant, scalar, string, Value, plain, link, biased}
+use Rattle.values.specs.Values.{Constant, scalar, string, Value, plain, link}
 use Rattle.language.specs.Answer.{found}
 use Rattle.language.specs.Register.{Property}
 use Rattle.language.specs.RegisterText.{Entry, prop, page, cat, val, close, valueOf}
@@ -39,8 +39,7 @@ withTerm g c d = record { properties = d .properties; pages = onLast (length (d 
 
 -- The code of a value whose text, if it has one, is text n.
 abbrev pub codeIn : ℕ → Value → ℕ
-codeIn n (plain (number z)) = biased z
-codeIn n (plain (boolean b)) = bit b
+codeIn n (plain (scalar k c)) = c
 codeIn n (plain (string s)) = n
 codeIn n (link i) = n
 

@@ -27,18 +27,7 @@ use tables::put_code;
 use tables::widen;
 use text::part;
 use values::Kind;
-
-// The byte of a kind.
-fn kind_code(kind: Kind) -> u8
-    ensures { λ r. ⌜ r ≡ kindCode kind ⌝ }
-{
-    match kind {
-        Kind::Page => 0,
-        Kind::Number => 1,
-        Kind::Boolean => 2,
-        Kind::String => 3,
-    }
-}
+use values::kind_code;
 
 // Adds a property behind n properties.
 fn push_property(kinds: &mut [u8], names: &mut [u16], n: u16, kind: Kind, name: u16)

@@ -21,11 +21,9 @@ use tables::put_code;
 use tables::put_start;
 use tables::widen;
 use text::part;
-use values::BooleanRead;
+use values::CodeRead;
 use values::Kind;
-use values::NumberRead;
-use values::read_boolean;
-use values::read_number;
+use values::read_scalar;
 use values::split_reference;
 
 // The lowest 8 bits of a number, and a number of 16 bits as one of 32.
@@ -120,11 +118,7 @@ pub fn push_value(
 {
     match kind {
         Kind::Page => push_link(heap, starts, lens, m, at, v),
-        Kind::Number => Ends {
-            texts: m,
-            bytes: at,
-        },
-        Kind::Boolean => Ends {
+        Kind::Scalar(_) => Ends {
             texts: m,
             bytes: at,
         },
@@ -138,14 +132,9 @@ pub fn value_code(kind: Kind, v: &[u8], n: u16) -> u64
 {
     match kind {
         Kind::Page => long(n),
-        Kind::Number => match read_number(v) {
-            NumberRead::Number(z) => z,
-            NumberRead::Unfit => 0,
-        },
-        Kind::Boolean => match read_boolean(v) {
-            BooleanRead::True => 1,
-            BooleanRead::False => 0,
-            BooleanRead::Unfit => 0,
+        Kind::Scalar(k) => match read_scalar(k, v) {
+            CodeRead::Code(c) => c,
+            CodeRead::Unfit => 0,
         },
         Kind::String => long(n),
     }
