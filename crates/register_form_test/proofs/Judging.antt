@@ -11,16 +11,16 @@ use borrow.Author.Tests.{ltb-true, ltb-false, leb-true, eqb-false, lt-ltb, le-le
 use Rattle.text.specs.Bytes.{Bytes, any}
 use Rattle.values.specs.declared.Kind.{Kind}
 use Rattle.values.specs.Names.{isName, isValue}
-use Rattle.values.specs.Values.{plain, link, base}
-use Rattle.values.specs.Spelling.{spellNumber, spellBoolean, spellIdentifier, spelling}
+use Rattle.values.specs.Values.{plain, link, inRange}
+use Rattle.values.specs.Spelling.{spellScalar, spellIdentifier, spelling}
 use Rattle.values.proofs.Spelled.{name-keeps, value-short}
-use Rattle.language.specs.Rules.{isIdentifier, magnitude, isStorable}
+use Rattle.language.specs.Rules.{isIdentifier, isStorable}
 use Rattle.sorting.proofs.Canonical.{same-truth, left-of, right-of, both}
-use Rattle.register_form.specs.Dictionary.{nameOf, identifierOf, groupOf, termCode, numberFrom, valueFrom, textIn, propertyIn, categoryOf, heldOf}
+use Rattle.register_form.specs.Dictionary.{nameOf, identifierOf, groupOf, termCode, valueFrom, textIn, propertyIn, categoryOf, heldOf}
 use Rattle.register_form.specs.Form.{propertyCount, textCount, propertyAt, termAt, textAt, dictionaryIn}
 use Rattle.register_form.specs.Tests.{isLabelled, isPlain, isPlainNumber, isCode, isTerm, codeTexts, termTexts, keepsTerm, termBytes}
 use Rattle.register_form.proofs.Laying.{Laid}
-use Rattle.register_form_test.specs.Stages.{classOf, noText, booleanLength, spelledLength, judgedIn, judgedText, judgedValue, judgedGroup, judgedTerm}
+use Rattle.register_form_test.specs.Stages.{classOf, noText, spelledLength, judgedIn, judgedText, judgedValue, judgedGroup, judgedTerm}
 use Rattle.register_form_test.specs.declared.Judged.{Judged}
 use Rattle.buffer.proofs.Testing.{and-true}
 use Rattle.register_form_test.proofs.Classes.{class-link, class-category, class-string, class-spaced, length-name, length-spelled, storable-link}
@@ -44,31 +44,6 @@ right-plain ok n m e = record { is = refl; names = λ k x b. ne-eqb x 65535 (λ 
 short : (b : Bool) (n : ℕ) → (b ≡ true → n ≤ 64) → (b && leb n 64) ≡ b
 short true n h = le-leb n 64 (h refl)
 short false n h = refl
-
--- Numbers.
-number-ok : (c : ℕ) → ltb (magnitude (numberFrom c)) base ≡ (ltb 0 c && ltb c (2 * base))
-unfolding numberFrom
-number-ok c = go (ltb c base) refl
-  where
-    go : (t : Bool) → ltb c base ≡ t → ltb (magnitude (cond t (negsuc (base - suc c)) (pos (c - base)))) base ≡ (ltb 0 c && ltb c (2 * base))
-    go true e =
-        let k : c < base = ltb-true c base e in
-        same-truth (ltb (suc (base - suc c)) base) (ltb 0 c && ltb c (2 * base))
-        (λ l. both (ltb 0 c) (ltb c (2 * base)) (lt-ltb 0 c (omega (arith, ltb-true (suc (base - suc c)) base l))) (lt-ltb c (2 * base) (omega arith)))
-        (λ l. lt-ltb (suc (base - suc c)) base (omega (arith, ltb-true 0 c (left-of (ltb 0 c) (ltb c (2 * base)) l))))
-    go false e =
-        let k : base ≤ c = ltb-false c base e in
-        same-truth (ltb (c - base) base) (ltb 0 c && ltb c (2 * base))
-        (λ l. both (ltb 0 c) (ltb c (2 * base)) (lt-ltb 0 c (omega arith)) (lt-ltb c (2 * base) (omega (arith, ltb-true (c - base) base l))))
-        (λ l. lt-ltb (c - base) base (omega (arith, ltb-true c (2 * base) (right-of (ltb 0 c) (ltb c (2 * base)) l))))
-
-boolean-length : (c : ℕ) → booleanLength c ≡ length (spellBoolean (eqb c 1))
-unfolding booleanLength
-boolean-length c = go (eqb c 1)
-  where
-    go : (b : Bool) → cond b 4 5 ≡ length (spellBoolean b)
-    go true = refl
-    go false = refl
 
 module _
     (h : Bytes)
@@ -128,8 +103,7 @@ module _
     right-value : (k : Kind) (c : ℕ) → Right (judgedValue h classes k c) (isCode (dictionaryIn h) k c && isStorable (valueFrom (dictionaryIn h .texts) k c)) (codeTexts (dictionaryIn h) k c) (length (spelling (valueFrom (dictionaryIn h .texts) k c)))
     unfolding judgedValue isCode isStorable codeTexts spelling
     right-value Kind.Page c = right-link c
-    right-value Kind.Number c = rw (number-ok c) (right-plain (ltb 0 c && ltb c (2 * base)) (length (spellNumber (numberFrom c))) (length (spellNumber (numberFrom c))) refl)
-    right-value Kind.Boolean c = rw (and-true (ltb c 2)) (right-plain (ltb c 2) (length (spellBoolean (eqb c 1))) (booleanLength c) (boolean-length c))
+    right-value (Kind.Scalar k) c = right-plain (inRange k c) (length (spellScalar k c)) (length (spellScalar k c)) refl
     right-value Kind.String c = right-name 1 2 isValue class-string value-short c
 
     -- a value of the property of a group

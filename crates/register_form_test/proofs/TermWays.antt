@@ -12,13 +12,15 @@ use Rattle.text.specs.Keys.{keyTo}
 use Rattle.text.specs.declared.Order.the-variants.{Less, Equal, Greater}
 use Rattle.text.proofs.Keys.{Small, part-small, key-take, key-order}
 use Rattle.values.specs.declared.Kind.{Kind}
-use Rattle.values.specs.Spelling.{spellNumber}
+use Rattle.values.specs.declared.Scalar.{Scalar}
+use Rattle.values.specs.Values.{inRange}
+use Rattle.values.specs.Spelling.{spellScalar}
 use Rattle.sorting.specs.Ascending.{isLess}
-use Rattle.register_form.specs.Dictionary.{groupOf, termCode, numberFrom}
+use Rattle.register_form.specs.Dictionary.{groupOf, termCode}
 use Rattle.register_form.specs.Form.{propertyCount, textCount, propertyAt, termAt}
 use Rattle.buffer.specs.Tests.{allTo}
 use Rattle.register_form_test.specs.Loops.{climbs}
-use Rattle.register_form_test.specs.Stages.{textLength, noText, booleanLength, spelledLength, judgedIn, judgedText, judgedValue, judgedGroup, judgedTerm, termTest}
+use Rattle.register_form_test.specs.Stages.{textLength, noText, spelledLength, judgedIn, judgedText, judgedValue, judgedGroup, judgedTerm, termTest}
 use Rattle.register_form_test.specs.declared.Judged.{Judged}
 use Rattle.buffer.proofs.Testing.{all-more}
 
@@ -34,14 +36,6 @@ less-number x y = go (ltb x y) (ltb y x)
 pub no-text-is : (ok : Bool) (n : ℕ) → record { ok = ok; text = 65535; bytes = n } ≡ noText ok n
 unfolding noText
 no-text-is ok n = refl
-
-pub boolean-true : (c : ℕ) → c ≡ 1 → 4 ≡ booleanLength c
-unfolding booleanLength
-boolean-true c e = rw (eq-eqb c 1 e)
-
-pub boolean-false : (c : ℕ) → (c ≡ 1 → ⊥) → 5 ≡ booleanLength c
-unfolding booleanLength
-boolean-false c e = rw (ne-eqb c 1 e)
 
 module _ (j k : Judged) (e : j ≡ k) where
   pub text-of : j .text ≡ k .text
@@ -91,13 +85,9 @@ module _ (h : Bytes) where
       unfolding judgedValue
       value-page e f = f ∙ rw e
 
-      pub value-number : (b : ℕ) → k ≡ Kind.Number → b ≡ length (spellNumber (numberFrom c)) → r ≡ noText (ltb 0 c && ltb c 2000000000000000) b → r ≡ judgedValue h classes k c
+      pub value-scalar : (j : Scalar) (t : Bool) (b : ℕ) → k ≡ Kind.Scalar j → t ≡ inRange j c → b ≡ length (spellScalar j c) → r ≡ noText t b → r ≡ judgedValue h classes k c
       unfolding judgedValue
-      value-number b e f g = g ∙ rw (e, f)
-
-      pub value-boolean : (b : ℕ) → k ≡ Kind.Boolean → b ≡ booleanLength c → r ≡ noText (ltb c 2) b → r ≡ judgedValue h classes k c
-      unfolding judgedValue
-      value-boolean b e f g = g ∙ rw (e, f)
+      value-scalar j t b e f g i = i ∙ rw (e, f, g)
 
       pub value-string : k ≡ Kind.String → r ≡ judgedText h classes 1 2 c → r ≡ judgedValue h classes k c
       unfolding judgedValue
@@ -126,4 +116,4 @@ module _ (h : Bytes) where
       term-more ok t g k = all-more (termTest h classes) f ok (j .ok && t) g (rw (e, k))
 
 pub ruleset terms =
-    (no-text-is, boolean-true, boolean-false, spelled-spaced, spelled-plain, in-is, text-past, text-there, value-page, value-number, value-boolean, value-string, group-category, group-property, group-none, term-is)
+    (no-text-is, spelled-spaced, spelled-plain, in-is, text-past, text-there, value-page, value-scalar, value-string, group-category, group-property, group-none, term-is)

@@ -8,6 +8,7 @@ use lib.ListN.{length, getD}
 use borrow.Author.Tests.{eq-eqb, ne-eqb, not-true, not-false}
 use Rattle.text.specs.Bytes.{Bytes}
 use Rattle.buffer.specs.Numbers.{twoAt}
+use Rattle.values.specs.Values.{kindCount}
 use Rattle.register_form.specs.Form.{pageCount, propertyCount, termCount, textCount, registerSize, formStart, textStart}
 use Rattle.register_form.specs.Tests.{rises, isCounted, isPadded, isLaid}
 use Rattle.buffer.specs.Tests.{allTo, zerosAt}
@@ -57,7 +58,7 @@ module _ (h : Bytes) where
   unfolding isCounted
   counted-is a b c d e f g i = rw (e, f, g, i)
 
-  pub kind-tested : (p b : ℕ) → b ≡ getD h (8 + 3 * p) 0 → ltb b 4 ≡ kindTest h p
+  pub kind-tested : (p b : ℕ) → b ≡ getD h (8 + 3 * p) 0 → ltb b kindCount ≡ kindTest h p
   unfolding kindTest
   kind-tested p b e = rw e
 

@@ -6,14 +6,14 @@ use mathlib.Core.List.{List}
 use lib.Dec.{ltb, leb, eqb}
 use lib.ListN.{length, getD}
 use Rattle.text.specs.Bytes.{Bytes}
-use Rattle.values.specs.Values.{base}
+use Rattle.values.specs.Values.{inRange, kindCount}
 use Rattle.values.specs.declared.Kind.{Kind}
 use Rattle.values.specs.Names.{isPropertyName}
 use Rattle.values.specs.ByteRules.{nameClass}
-use Rattle.values.specs.Spelling.{spellNumber}
+use Rattle.values.specs.Spelling.{spellScalar}
 use Rattle.language.specs.Rules.{isIdentifier}
 use Rattle.buffer.specs.Numbers.{twoAt}
-use Rattle.register_form.specs.Dictionary.{nameOf, identifierOf, groupOf, termCode, isCategory, numberFrom}
+use Rattle.register_form.specs.Dictionary.{nameOf, identifierOf, groupOf, termCode, isCategory}
 use Rattle.register_form.specs.Form.{pageCount, propertyCount, termCount, textCount, propertyAt, pageAt, formStart, formAt, termAt, textStart, textAt}
 use Rattle.register_form.specs.Tests.{isLabelled, isPlain}
 use Rattle.buffer.specs.Tests.{allTo, zerosAt}
@@ -33,10 +33,6 @@ classOf t =
 unfoldable pub noText : Bool → ℕ → Judged
 noText ok n = record { ok = ok; text = 65535; bytes = n }
 
--- How long `true` or `false` is.
-unfoldable pub booleanLength : ℕ → ℕ
-booleanLength c = cond (eqb c 1) 4 5
-
 -- Of a text, over the tables of the texts used and of places: it is used.
 unfoldable pub usedTest : List ℕ → List ℕ → ℕ → Bool
 usedTest used places x = isSet used x || isSet places x
@@ -51,7 +47,7 @@ module _ (h : Bytes) where
       && zerosAt h (1226 + 2 * formStart h (pageCount h)) (4096 - 2 * formStart h (pageCount h))
 
   unfoldable pub kindTest : ℕ → Bool
-  kindTest p = ltb (getD h (8 + 3 * p) 0) 4
+  kindTest p = ltb (getD h (8 + 3 * p) 0) kindCount
 
   unfoldable pub startAt : ℕ → ℕ → ℕ
   startAt table i = twoAt h (table + 2 * i)
@@ -110,8 +106,7 @@ module _ (h : Bytes) where
 
     unfoldable pub judgedValue : Kind → ℕ → Judged
     judgedValue Kind.Page c = judgedText 2 3 c
-    judgedValue Kind.Number c = noText (ltb 0 c && ltb c (2 * base)) (length (spellNumber (numberFrom c)))
-    judgedValue Kind.Boolean c = noText (ltb c 2) (booleanLength c)
+    judgedValue (Kind.Scalar k) c = noText (inRange k c) (length (spellScalar k c))
     judgedValue Kind.String c = judgedText 1 2 c
 
     unfoldable pub judgedGroup : ℕ → ℕ → Judged

@@ -17,6 +17,7 @@ use register_form::term_count;
 use register_form::text_count;
 use register_form::text_start;
 use tables::widen;
+use values::KIND_COUNT;
 
 // The layout's numbers in 16 bits.
 const FORMS: u16 = layout::FORMS as u16;
@@ -95,7 +96,7 @@ fn is_counted(h: &[u8]) -> bool
 fn is_kind(h: &[u8], p: u16) -> bool
     ensures { λ r. ⌜ r ≡ kindTest (now (h .entry)) p ⌝ }
 {
-    kind_byte(h, p) < 4
+    kind_byte(h, p) < KIND_COUNT
 }
 
 fn are_kinds(h: &[u8]) -> bool

@@ -1,11 +1,10 @@
 // The tests of terms.
 ghost use mathlib.Core.Path.{_≡_};
 ghost use lib.ListN.{length};
-ghost use Rattle.values.specs.Spelling.{spellNumber};
-ghost use Rattle.register_form.specs.Dictionary.{numberFrom};
+ghost use Rattle.values.specs.Spelling.{spellScalar};
 ghost use Rattle.register_form.specs.Form.{termAt};
 ghost use Rattle.register_form_test.specs.Loops.{climbs};
-ghost use Rattle.register_form_test.specs.Stages.{noText, booleanLength, spelledLength, judgedIn, judgedText, judgedValue, judgedGroup, judgedTerm, termTest, TermsTested};
+ghost use Rattle.register_form_test.specs.Stages.{noText, spelledLength, judgedIn, judgedText, judgedValue, judgedGroup, judgedTerm, termTest, TermsTested};
 use crate::Judged;
 use crate::texts::text_length;
 use register_form::code_at;
@@ -14,7 +13,6 @@ use register_form::kind_at;
 use register_form::layout::TERMS;
 use register_form::minus;
 use register_form::property_count;
-use register_form::spelled::number_length;
 use register_form::term_at;
 use register_form::term_count;
 use register_form::text_count;
@@ -27,6 +25,9 @@ use tables::widen;
 use text::compare;
 use text::key_at;
 use values::Kind;
+use values::Scalar;
+use values::in_range;
+use values::scalar_length;
 
 // How long the text x of a class is, spelled.
 fn spelled_length(h: &[u8], class: u16, x: u16) -> u16
@@ -70,18 +71,11 @@ fn judge_text(h: &[u8], classes: &[u16], low: u16, high: u16, code: u64) -> Judg
     judge_in(h, low, high, get(classes, widen(x)), x)
 }
 
-// How long the number is that a code tells.
-fn number_bytes(code: u64) -> u16
-    ensures { λ r. ⌜ r ≡ length (spellNumber (numberFrom code)) ⌝ }
+// How long the value of a scalar kind is that a code tells.
+fn scalar_bytes(k: Scalar, code: u64) -> u16
+    ensures { λ r. ⌜ r ≡ length (spellScalar k code) ⌝ }
 {
-    number_length(code) as u16
-}
-
-// How long `true` or `false` is.
-fn boolean_bytes(code: u64) -> u16
-    ensures { λ r. ⌜ r ≡ booleanLength code ⌝ }
-{
-    if code == 1 { 4 } else { 5 }
+    scalar_length(k, code) as u16
 }
 
 // A value of a kind.
@@ -90,8 +84,7 @@ fn judge_value(h: &[u8], classes: &[u16], kind: Kind, code: u64) -> Judged
 {
     match kind {
         Kind::Page => judge_text(h, classes, 2, 3, code),
-        Kind::Number => no_text((0 < code) & (code < 2000000000000000), number_bytes(code)),
-        Kind::Boolean => no_text(code < 2, boolean_bytes(code)),
+        Kind::Scalar(k) => no_text(in_range(k, code), scalar_bytes(k, code)),
         Kind::String => judge_text(h, classes, 1, 2, code),
     }
 }

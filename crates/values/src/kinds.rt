@@ -8,6 +8,9 @@ use crate::KindRead;
 use crate::Scalar;
 use text::word_at;
 
+// Every kind has a byte below this.
+pub const KIND_COUNT: u8 = 4;
+
 // The kind whose word stands at a place.
 pub fn kind_at(s: &[u8], at: usize) -> KindRead
     ensures { λ r. ⌜ r ≡ kindRead (kindAt (drop at (now (s .entry)))) ⌝ }

@@ -8,6 +8,7 @@ pub mod kinds; // kinds.rt: the words and the bytes of kinds
 pub mod rules; // rules.rt: the rules for bytes, in a table
 pub mod scalars; // scalars.rt: how scalars are read, and how long they are
 
+pub use kinds::KIND_COUNT;
 pub use kinds::kind_at;
 pub use kinds::kind_code;
 pub use kinds::kind_from;
