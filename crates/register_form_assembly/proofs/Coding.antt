@@ -11,6 +11,7 @@ use Rattle.text.specs.Bytes.{Bytes}
 use Rattle.text.proofs.Tables.{length-tabulate, getD-tabulate}
 use Rattle.values.specs.Values.{kindFrom}
 use Rattle.values.specs.declared.Kind.{Kind}
+use Rattle.values.specs.declared.Scalar.{Scalar}
 use Rattle.buffer.specs.Numbers.{eightBytes}
 use Rattle.register_form.specs.Dictionary.{termOf}
 use Rattle.register_form.specs.Form.{joined}
@@ -23,6 +24,9 @@ use Rattle.register_form_assembly.specs.Terms.{codeFor, codeBy, termBy, 
 module _ (numbers : List ℕ) (c r : ℕ) where
   pub code-page : (k : Kind) → k ≡ Kind.Page → r ≡ getD numbers c 0 → r ≡ codeFor k numbers c
   code-page k e f = rw e f
+
+  pub code-scalar : (k : Kind) (j : Scalar) → k ≡ Kind.Scalar j → c ≡ codeFor k numbers c
+  code-scalar k j e = rw e
 
   pub code-string : (k : Kind) → k ≡ Kind.String → r ≡ getD numbers c 0 → r ≡ codeFor k numbers c
   code-string k e f = rw e f
@@ -40,7 +44,7 @@ module _ (numbers : List ℕ) (c r : ℕ) where
 pub term-is : (h : Bytes) (at g c : ℕ) (k l : Bytes) → k ≡ written h at (g ∷ []) → l ≡ written k (at + 1) (eightBytes c) → l ≡ written h at (termOf g c)
 term-is h at g c k l e f = next h at (g ∷ []) (eightBytes c) e f
 
-pub ruleset coding = (code-page, code-string, coded-category, coded-value, term-is, written-past)
+pub ruleset coding = (code-page, code-scalar, code-string, coded-category, coded-value, term-is, written-past)
 
 -- Terms one behind the other.
 module _ (kinds numbers groups codes : List ℕ) (n : ℕ) (h₀ : Bytes) where

@@ -11,20 +11,12 @@ use Rattle.text.specs.Bytes.{Bytes}
 use Rattle.text.proofs.Tables.{length-tabulate, getD-tabulate}
 use Rattle.values.specs.Values.{kindFrom}
 use Rattle.values.specs.declared.Kind.{Kind}
-use Rattle.values.specs.Spelling.{spellNumber}
+use Rattle.values.specs.declared.Scalar.{Scalar}
+use Rattle.values.specs.Spelling.{spellScalar}
 use Rattle.language.specs.Rules.{total}
 use Rattle.dictionary.specs.Items.{textAt}
-use Rattle.register_form.specs.Dictionary.{numberFrom}
 use Rattle.register_form_bytes.specs.Writing.{firstOf}
-use Rattle.register_form_assembly.specs.Counting.{booleanBytes, textBytes, linkBytes, valueBytes, formBytes, termBytesBy}
-
-pub boolean-true : (c : ℕ) → c ≡ 1 → 4 ≡ booleanBytes c
-unfolding booleanBytes
-boolean-true c e = rw (eq-eqb c 1 e)
-
-pub boolean-false : (c : ℕ) → (c ≡ 1 → ⊥) → 5 ≡ booleanBytes c
-unfolding booleanBytes
-boolean-false c e = rw (ne-eqb c 1 e)
+use Rattle.register_form_assembly.specs.Counting.{textBytes, linkBytes, valueBytes, formBytes, termBytesBy}
 
 module _ (s : Bytes) (starts lens : List ℕ) where
   pub text-bytes : (i n m r : ℕ) → n ≡ length (textAt s starts lens i) → m ≡ n - 1 → r ≡ m → r ≡ textBytes s starts lens i
@@ -48,11 +40,8 @@ module _ (s : Bytes) (starts lens : List ℕ) where
     pub value-page : (l : ℕ) → k ≡ Kind.Page → l ≡ c % 65536 → r ≡ linkBytes s starts lens l → r ≡ valueBytes s starts lens k c
     value-page l e d f = rw (e, ← d) f
 
-    pub value-number : k ≡ Kind.Number → r ≡ length (spellNumber (numberFrom c)) → r ≡ valueBytes s starts lens k c
-    value-number e f = rw e f
-
-    pub value-boolean : k ≡ Kind.Boolean → r ≡ booleanBytes c → r ≡ valueBytes s starts lens k c
-    value-boolean e f = rw e f
+    pub value-scalar : (j : Scalar) → k ≡ Kind.Scalar j → r ≡ length (spellScalar j c) → r ≡ valueBytes s starts lens k c
+    value-scalar j e f = rw e f
 
     pub value-string : (l : ℕ) → k ≡ Kind.String → l ≡ c % 65536 → r ≡ textBytes s starts lens l → r ≡ valueBytes s starts lens k c
     value-string l e d f = rw (e, ← d) f
@@ -71,7 +60,7 @@ module _ (s : Bytes) (starts lens : List ℕ) where
   term-bytes kinds groups codes refs t w f g c r d e i j k = k ∙ rw (i, j, e, d)
 
 pub ruleset counting =
-    (boolean-true, boolean-false, text-bytes, link-plain, link-spaced, value-page, value-number, value-boolean, value-string, form-category, form-value, term-bytes)
+    (text-bytes, link-plain, link-spaced, value-page, value-scalar, value-string, form-category, form-value, term-bytes)
 
 -- Sums over the first numbers of a table: what is still to be added gives the whole.
 module _ (f : ℕ → ℕ) (table : List ℕ) (n before : ℕ) where

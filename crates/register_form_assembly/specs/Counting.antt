@@ -8,13 +8,8 @@ use Rattle.text.specs.Bytes.{Bytes}
 use Rattle.text.specs.Table.{bit}
 use Rattle.values.specs.Values.{kindFrom}
 use Rattle.values.specs.declared.Kind.{Kind}
-use Rattle.values.specs.Spelling.{spellNumber}
+use Rattle.values.specs.Spelling.{spellScalar}
 use Rattle.dictionary.specs.Items.{textAt}
-use Rattle.register_form.specs.Dictionary.{numberFrom}
-
--- Of a truth value: "true" or "false".
-unfoldable pub booleanBytes : ℕ → ℕ
-booleanBytes c = cond (eqb c 1) 4 5
 
 module _ (s : Bytes) (starts lens : List ℕ) where
   -- Of an item: its text without the byte that tells the namespace's length.
@@ -27,8 +22,7 @@ module _ (s : Bytes) (starts lens : List ℕ) where
 
   abbrev pub valueBytes : Kind → ℕ → ℕ
   valueBytes Kind.Page c = linkBytes (c % 65536)
-  valueBytes Kind.Number c = length (spellNumber (numberFrom c))
-  valueBytes Kind.Boolean c = booleanBytes c
+  valueBytes (Kind.Scalar k) c = length (spellScalar k c)
   valueBytes Kind.String c = textBytes (c % 65536)
 
   unfoldable pub formBytes : List ℕ → ℕ → ℕ → ℕ

@@ -3,12 +3,10 @@ ghost use mathlib.Core.Path.{_≡_};
 ghost use Prim.Native.Nat.{_+_, _%_, min};
 ghost use Rattle.language.specs.Rules.{total};
 ghost use Rattle.register_form_bytes.specs.Writing.{firstOf};
-ghost use Rattle.register_form_assembly.specs.Counting.{booleanBytes, textBytes, linkBytes, valueBytes, formBytes, termBytesBy};
+ghost use Rattle.register_form_assembly.specs.Counting.{textBytes, linkBytes, valueBytes, formBytes, termBytesBy};
 use dictionary::text_at;
-use register_form::kind_from;
 use register_form::layout;
 use register_form::minus;
-use register_form::spelled::number_length;
 use register_form_bytes::regions::text_length;
 use tables::code_at;
 use tables::get;
@@ -16,6 +14,8 @@ use tables::num_at;
 use tables::widen;
 use text::byte_at;
 use values::Kind;
+use values::kind_from;
+use values::scalar_length;
 
 // The most bytes that a register may have, and what stands for more.
 pub const MOST_COUNTED: u16 = 32768;
@@ -61,19 +61,12 @@ fn link_bytes(s: &[u8], starts: &[u32], lens: &[u16], i: u16) -> usize
     }
 }
 
-fn boolean_bytes(c: u64) -> usize
-    ensures { λ r. ⌜ r ≡ booleanBytes c ⌝ }
-{
-    if c == 1 { 4 } else { 5 }
-}
-
 fn value_bytes(s: &[u8], starts: &[u32], lens: &[u16], kind: Kind, c: u64) -> usize
     ensures { λ r. ⌜ r ≡ valueBytes (now (s .entry)) (now (starts .entry)) (now (lens .entry)) kind c ⌝ }
 {
     match kind {
         Kind::Page => link_bytes(s, starts, lens, low(c)),
-        Kind::Number => number_length(c),
-        Kind::Boolean => boolean_bytes(c),
+        Kind::Scalar(k) => scalar_length(k, c),
         Kind::String => text_bytes(s, starts, lens, low(c)),
     }
 }

@@ -8,13 +8,13 @@ ghost use Rattle.buffer.specs.Writing.{written};
 ghost use Rattle.register_form_assembly.specs.Terms.{codeFor, codeBy, termsBy, Filling};
 use buffer::put_byte;
 use buffer::put_eight;
-use register_form::kind_from;
 use tables::code_at;
 use tables::get;
 use tables::put_start;
 use tables::widen;
 use text::byte_at;
 use values::Kind;
+use values::kind_from;
 
 // The new number of the text that a code names.
 fn number_at(numbers: &[u16], c: u64) -> u64
@@ -28,8 +28,7 @@ fn code_for(kind: Kind, numbers: &[u16], c: u64) -> u64
 {
     match kind {
         Kind::Page => number_at(numbers, c),
-        Kind::Number => c,
-        Kind::Boolean => c,
+        Kind::Scalar(_) => c,
         Kind::String => number_at(numbers, c),
     }
 }

@@ -35,7 +35,7 @@ use Rattle.register_form_assembly.specs.Counting.{textBytes, linkBytes, valueBy
 use Rattle.register_form_write.specs.Writer.{Capacity, Found, pageBy, tabled, keptAll, countedBy}
 use Rattle.register_form_write.proofs.Renumbered.{text-count, text-in, page-below, string-below, category-text, value-property, value-code}
 use Rattle.register_form_write.proofs.Tabling.{Renumbering, filtered-mem, name-text, identifier-below, form-below, number-below}
-use Rattle.register_form_write.proofs.Lengths.{plain-length, identifier-length, link-length, boolean-length, total-each, total-members}
+use Rattle.register_form_write.proofs.Lengths.{plain-length, identifier-length, link-length, total-each, total-members}
 
 -- A number that is kept came from before or from the list.
 once-mem : (l seen : List ℕ) {u : ℕ} → List·Memᴰ u (onceBehind eqb seen l) → List·Memᴰ u seen ⊎ List·Memᴰ u l
@@ -95,8 +95,7 @@ module _ (t : Tables) (v : Found) (r : Renumbering t v) (c : Capacity t) where
   value-length Kind.Page x h =
       let b = page-below t x h in
       rw (new-text x b, item-low x b) (link-length (textAt (t .s) (t .starts) (t .lens) x) (labelled-text x b))
-  value-length Kind.Number x h = refl
-  value-length Kind.Boolean x h = boolean-length x
+  value-length (Kind.Scalar k) x h = refl
   value-length Kind.String x h =
       let b = string-below t x h in
       rw (item-low x (b .0)) (plain-bytes x (b .0) (b .1))

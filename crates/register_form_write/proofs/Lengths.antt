@@ -11,11 +11,10 @@ use lib.Seq.{length-take-le}
 use borrow.Author.Tests.{ltb-true, eqb-true}
 use Rattle.text.specs.Bytes.{Bytes}
 use Rattle.text.specs.Table.{tabulate, bit}
-use Rattle.values.specs.Spelling.{spellBoolean, spellIdentifier}
+use Rattle.values.specs.Spelling.{spellIdentifier}
 use Rattle.language.specs.Rules.{total}
 use Rattle.register_form.specs.Dictionary.{spaceOf, nameOf, identifierOf}
 use Rattle.register_form.specs.Tests.{isLabelled, isPlain}
-use Rattle.register_form_assembly.specs.Counting.{booleanBytes}
 
 -- A text: the byte that tells its namespace's length, the namespace and the name.
 space-length : (t : Bytes) → isLabelled t ≡ true → length (spaceOf t) ≡ getD t 0 0
@@ -45,14 +44,6 @@ link-length t h = rw (space-length t h) (go (eqb (getD t 0 0) 0) refl)
     go : (b : Bool) → eqb (getD t 0 0) 0 ≡ b → length (cond b (nameOf t) (spaceOf t ++ (58 ∷ nameOf t))) ≡ length t - 1 + bit (not b)
     go true e = omega (arith, plain-length t h e)
     go false e = omega (arith, length-append (spaceOf t) (58 ∷ nameOf t), identifier-length t h)
-
-pub boolean-length : (c : ℕ) → length (spellBoolean (eqb c 1)) ≡ booleanBytes c
-unfolding booleanBytes
-boolean-length c = go (eqb c 1)
-  where
-    go : (b : Bool) → length (spellBoolean b) ≡ cond b 4 5
-    go true = refl
-    go false = refl
 
 -- Sums over tables, and over members.
 total-snoc : {A : Type 0} (f : A → ℕ) (l : List A) (x : A) → total f (l ++ (x ∷ [])) ≡ total f l + f x

@@ -1,5 +1,5 @@
-use Rattle.register_form_assembly.proofs.Counts.{counting}
 use borrow.Author.Needs.{needs}
+use Rattle.register_form_assembly.proofs.Counts.{counting}
 use Rattle.register_form_assembly.proofs.counting.value_bytes.Statement.{statement}
 use Rattle.register_form_assembly.proofs.counting.value_bytes.Tie as tie
 
@@ -12,20 +12,14 @@ low-requires c κs = search needs
 link-bytes-requires : tie.Need-link-bytes-requires
 link-bytes-requires c κs = search needs
 
+enum-known-kind : tie.Need-enum-known-kind
+enum-known-kind c = search needs
+
+scalar-length-requires : tie.Need-scalar-length-requires
+scalar-length-requires c κs = search needs
+
 enum-told-2 : tie.Need-enum-told-2
 enum-told-2 c = search needs
-
-number-length-requires : tie.Need-number-length-requires
-number-length-requires c κs = search needs
-
-enum-told-3 : tie.Need-enum-told-3
-enum-told-3 c = search needs
-
-boolean-bytes-requires : tie.Need-boolean-bytes-requires
-boolean-bytes-requires c κs = search needs
-
-enum-told-4 : tie.Need-enum-told-4
-enum-told-4 c = search needs
 
 low-requires-2 : tie.Need-low-requires-2
 low-requires-2 c κs = search needs
@@ -42,9 +36,6 @@ returns-2 c = search (counting, needs)
 returns-3 : tie.Need-returns-3
 returns-3 c = search (counting, needs)
 
-returns-4 : tie.Need-returns-4
-returns-4 c = search (counting, needs)
-
 pub value-bytes-spec : {M : Type 1} → statement M
 value-bytes-spec =
     tie.close
@@ -52,14 +43,11 @@ value-bytes-spec =
     enum-told
     low-requires
     link-bytes-requires
+    enum-known-kind
+    scalar-length-requires
     enum-told-2
-    number-length-requires
-    enum-told-3
-    boolean-bytes-requires
-    enum-told-4
     low-requires-2
     text-bytes-requires
     returns
     returns-2
-    returns-3
-    returns-4)
+    returns-3)

@@ -1,5 +1,5 @@
-use Rattle.register_form_assembly.proofs.Coding.{coding}
 use borrow.Author.Needs.{needs}
+use Rattle.register_form_assembly.proofs.Coding.{coding}
 use Rattle.register_form_assembly.proofs.terms.code_for.Statement.{statement}
 use Rattle.register_form_assembly.proofs.terms.code_for.Tie as tie
 
@@ -15,9 +15,6 @@ enum-told-2 c = search needs
 enum-told-3 : tie.Need-enum-told-3
 enum-told-3 c = search needs
 
-enum-told-4 : tie.Need-enum-told-4
-enum-told-4 c = search needs
-
 number-at-requires-2 : tie.Need-number-at-requires-2
 number-at-requires-2 c κs = search needs
 
@@ -28,10 +25,7 @@ returns-2 : tie.Need-returns-2
 returns-2 c = search needs
 
 returns-3 : tie.Need-returns-3
-returns-3 c = search needs
-
-returns-4 : tie.Need-returns-4
-returns-4 c = search (coding, needs)
+returns-3 c = search (coding, needs)
 
 pub code-for-spec : {M : Type 1} → statement M
 code-for-spec =
@@ -41,9 +35,7 @@ code-for-spec =
     number-at-requires
     enum-told-2
     enum-told-3
-    enum-told-4
     number-at-requires-2
     returns
     returns-2
-    returns-3
-    returns-4)
+    returns-3)
