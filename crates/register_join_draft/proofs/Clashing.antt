@@ -13,12 +13,12 @@ use Rattle.text.specs.Bytes.{Bytes, same, any}
 use Rattle.text.specs.Table.{tabulate}
 use Rattle.text.proofs.Laws.{any-append}
 use Rattle.text.proofs.Tables.{length-tabulate, getD-tabulate}
-use Rattle.values.specs.Values.{sameKind, kindCode, kindFrom}
+use Rattle.values.specs.Values.{sameKind, kindCode, kindFrom, kindCount}
 use Rattle.values.specs.declared.Kind.{Kind}
 use Rattle.language.specs.Register.{Property, kindAmong, distinct}
 use Rattle.language.specs.Joining.{isOtherKind, kindsClash}
 use Rattle.language.proofs.Members.{any-mem, any-same, both-false, all-at}
-use Rattle.values.proofs.Sameness.{kind-eq}
+use Rattle.values.proofs.Sameness.{kind-eq, kind-refl, code-told}
 use Rattle.register_form.specs.Dictionary.{PropertyRow, Dictionary, nameOf, textIn, propertyIn, noProperty, decodeProperty, decode}
 use Rattle.register_form.specs.Opened.{next}
 use Rattle.register_form.specs.Form.{kindByte, propertyCount, propertyAt, dictionaryIn, registerIn}
@@ -27,7 +27,6 @@ use Rattle.register_form.specs.Draft.{onceBehind}
 use Rattle.register_form.proofs.Lists.{mem-at, mem-place}
 use Rattle.buffer.proofs.Parts.{map-tabulate}
 use Rattle.register_form.proofs.Laying.{Laid, laid-facts}
-use Rattle.register_form.proofs.Rewritten.{kind-again}
 use Rattle.register_form.proofs.Described.{plain-below}
 use Rattle.register_form.specs.Formed.{Formed}
 use Rattle.register_join_merge.specs.Merged.{Merged}
@@ -94,16 +93,11 @@ kind-placed e item x y (r ∷ l) h = rw (h r (List·Memᴰ·head refl)) (go (eqb
     go false i = i ∙ kind-behind r l (placeIn (map (λ r. item (r .name)) l) x)
 
 -- Kinds are the same where their bytes are.
-kind-same : (k : Kind) → sameKind k k ≡ true
-kind-same Kind.Page = refl
-kind-same (Kind.Scalar k) = refl
-kind-same Kind.String = refl
-
-kinds-by-byte : (a b : ℕ) → a < 4 → b < 4 → sameKind (kindFrom b) (kindFrom a) ≡ eqb a b
+kinds-by-byte : (a b : ℕ) → a < kindCount → b < kindCount → sameKind (kindFrom b) (kindFrom a) ≡ eqb a b
 kinds-by-byte a b s t =
     decided (sameKind (kindFrom b) (kindFrom a)) a b
-    (λ e. sym (kind-again a s) ∙ ap kindCode (sym (kind-eq (kindFrom b) (kindFrom a) e)) ∙ kind-again b t)
-    (λ e. ap (λ (n : ℕ). sameKind (kindFrom b) (kindFrom n)) e ∙ kind-same (kindFrom b))
+    (λ e. sym (code-told a s) ∙ ap kindCode (sym (kind-eq (kindFrom b) (kindFrom a) e)) ∙ code-told b t)
+    (λ e. ap (λ (n : ℕ). sameKind (kindFrom b) (kindFrom n)) e ∙ kind-refl (kindFrom b))
 
 kind-byte : (h : Bytes) (p : ℕ) → propertyAt h p .kind ≡ kindFrom (kindByte h p)
 unfolding propertyAt

@@ -102,8 +102,7 @@ module _ (d D : Dictionary) (item : ℕ → ℕ) (s : Source d D item) where
   value-is : (k : Kind) (n : ℕ) → isCode d k n ≡ true → isCode D k (codeBy item k n) ≡ true
   unfolding codeBy isCode
   value-is Kind.Page n h = lt-ltb (item n) (length (D .texts)) (s .items .below n (ltb-true n (length (d .texts)) h))
-  value-is Kind.Number n h = refl
-  value-is Kind.Boolean n h = h
+  value-is (Kind.Scalar k) n h = refl
   value-is Kind.String n h = item-plain d D item (s .items) n h
 
   value-names : (k : Kind) (n : ℕ) {i : ℕ} → List·Memᴰ i (codeTexts d k n) → List·Memᴰ (item i) (codeTexts D k (codeBy item k n))

@@ -11,6 +11,7 @@ use Rattle.text.specs.Bytes.{Bytes, any}
 use Rattle.text.specs.Table.{tabulate}
 use Rattle.values.specs.Values.{kindFrom}
 use Rattle.values.specs.declared.Kind.{Kind}
+use Rattle.values.specs.declared.Scalar.{Scalar}
 use Rattle.register_form.specs.Dictionary.{PropertyRow}
 use Rattle.register_form.specs.Form.{kindByte, pageCount, propertyCount, propertyAt, pageAt}
 use Rattle.register_form.specs.Draft.{onceBehind}
@@ -43,13 +44,9 @@ module _ (h : Bytes) (items : List ℕ) where
   unfolding codeBy
   code-page g c p r k s e f q i = i ∙ value g c p k Kind.Page s e f q
 
-  pub code-number : (g c p : ℕ) (k : Kind) → (g ≡ 0 → ⊥) → p ≡ g - 1 → k ≡ propertyAt h p .kind → k ≡ Kind.Number → c ≡ newCode h items g c
+  pub code-scalar : (g c p : ℕ) (k : Kind) (j : Scalar) → (g ≡ 0 → ⊥) → p ≡ g - 1 → k ≡ propertyAt h p .kind → k ≡ Kind.Scalar j → c ≡ newCode h items g c
   unfolding codeBy
-  code-number g c p k s e f q = value g c p k Kind.Number s e f q
-
-  pub code-boolean : (g c p : ℕ) (k : Kind) → (g ≡ 0 → ⊥) → p ≡ g - 1 → k ≡ propertyAt h p .kind → k ≡ Kind.Boolean → c ≡ newCode h items g c
-  unfolding codeBy
-  code-boolean g c p k s e f q = value g c p k Kind.Boolean s e f q
+  code-scalar g c p k j s e f q = value g c p k (Kind.Scalar j) s e f q
 
   pub code-string : (g c p r : ℕ) (k : Kind) → (g ≡ 0 → ⊥) → p ≡ g - 1 → k ≡ propertyAt h p .kind → k ≡ Kind.String → r ≡ getD items c 0 → r ≡ newCode h items g c
   unfolding codeBy
@@ -108,4 +105,4 @@ module _ (h : Bytes) (items : List ℕ) where
   properties-all kinds names table from i m ks ns t n p e a b = subst (λ (k : ℕ). PropertiesPut h items kinds names table from k ks ns t n) (let z : i ≡ propertyCount h = omega arith in z) p
 
 pub ruleset drafting =
-    (group-none, group-is, code-category, code-page, code-number, code-boolean, code-string, enter-there, enter-new, put-term, page-none, page-past, page-put)
+    (group-none, group-is, code-category, code-page, code-scalar, code-string, enter-there, enter-new, put-term, page-none, page-past, page-put)

@@ -64,8 +64,7 @@ fn new_code(h: &[u8], items: &[u16], g: u8, c: u64) -> u64
     let kind = kind_at(h, property_of(g));
     match kind {
         Kind::Page => item_at(items, c),
-        Kind::Number => c,
-        Kind::Boolean => c,
+        Kind::Scalar(_) => c,
         Kind::String => item_at(items, c),
     }
 }

@@ -1,5 +1,5 @@
-use Rattle.register_join_draft.proofs.Ways.{drafting}
 use borrow.Author.Needs.{needs}
+use Rattle.register_join_draft.proofs.Ways.{drafting}
 use Rattle.register_join_draft.proofs.forms.new_code.Statement.{statement}
 use Rattle.register_join_draft.proofs.forms.new_code.Tie as tie
 
@@ -27,9 +27,6 @@ enum-told-2 c = search needs
 enum-told-3 : tie.Need-enum-told-3
 enum-told-3 c = search needs
 
-enum-told-4 : tie.Need-enum-told-4
-enum-told-4 c = search needs
-
 item-at-requires-3 : tie.Need-item-at-requires-3
 item-at-requires-3 c κs = search needs
 
@@ -41,9 +38,6 @@ returns-3 c = search (drafting, needs)
 
 returns-4 : tie.Need-returns-4
 returns-4 c = search (drafting, needs)
-
-returns-5 : tie.Need-returns-5
-returns-5 c = search (drafting, needs)
 
 pub new-code-spec : {M : Type 1} → statement M
 new-code-spec =
@@ -57,9 +51,7 @@ new-code-spec =
     item-at-requires-2
     enum-told-2
     enum-told-3
-    enum-told-4
     item-at-requires-3
     returns-2
     returns-3
-    returns-4
-    returns-5)
+    returns-4)
