@@ -1,62 +1,42 @@
 -- What bytes hold keeps the rules for core queries.
-use Prim.Native.Nat.{ℕ, zero, suc, _*_, _-_, _<_}
+use Prim.Native.Nat.{ℕ, zero, suc}
 use mathlib.Core.Path.{_≡_, refl, sym, ap, subst, _∙_}
-use mathlib.Core.Bool.{Bool, true, false, cond, _&&_}
+use mathlib.Core.Bool.{true, _&&_}
 use mathlib.Core.List.{List, [], _∷_, _++_, append-assoc, append-nil}
-use mathlib.Core.Option.{some, none}
+use mathlib.Core.Option.{some}
 use native.Mathlib.Omega.{arith}
-use lib.Dec.{leb, ltb, eqb}
-use lib.IntN.{pos, negsuc, subℕ}
+use lib.Dec.{leb, eqb}
 use lib.ListN.{length, length-append}
 use lib.Seq.{append-snoc}
-use borrow.Author.Tests.{ltb-true, ltb-false, lt-ltb}
 use Rattle.text.specs.Bytes.{Bytes, all}
 use Rattle.text.specs.Parts.{partOf}
 use Rattle.text.proofs.Laws.{all-append}
 use Rattle.values.specs.Names.{isValue}
-use Rattle.values.specs.Values.{number, boolean, string, Constant}
-use Rattle.values.specs.Answers.{base}
-use Rattle.language.specs.Answer.{_>>=_, onlyIf}
+use Rattle.values.specs.Values.{Constant, scalar, string, kindCode, kindFrom, inRange}
+use Rattle.values.specs.declared.Kind.{Kind}
+use Rattle.language.specs.Answer.{_>>=_}
 use Rattle.language.specs.Core.{Core, nodes}
 use Rattle.language.proofs.Members.{and-true, both-true}
 use Rattle.language.proofs.Options.{OnSome, on-bind, on-weaker}
 use Rattle.query_core.specs.declared.Slot.{Slot}
 use Rattle.query_core.specs.Postfix.{Node, post, stepped, runs, only, readBack}
-use Rattle.query_core.specs.Held.{querySize, countIn, heapIn, numberFrom, constantFrom, constantOf, nodeOf, slotIn, nodeIn, nodesTo, hasSizes, heldQuery}
-use Rattle.query_core.specs.Form.{isBounded, isConstant, isNode, isCore}
-use Rattle.query_core.proofs.Nodewise.{on-cond, on-only, on-node}
+use Rattle.query_core.specs.Held.{querySize, countIn, heapIn, constantOfKind, constantFrom, constantOf, nodeOf, slotIn, nodeIn, nodesTo, hasSizes, heldQuery}
+use Rattle.query_core.specs.Form.{isConstant, isNode, isCore}
+use Rattle.query_core.proofs.Nodewise.{on-only, on-node}
 use Rattle.query_core.proofs.Postfix.{length-post}
 
 -- Constants.
 abbrev KeptConstant : Constant → Type 0
 KeptConstant v = isConstant v ≡ true
 
-in-range : (n : ℕ) → (ltb 0 n && ltb n (2 * base)) ≡ true → isBounded (subℕ n base) ≡ true
-in-range n h = go (ltb n base) refl
-  where
-    low : 0 < n
-    low = ltb-true 0 n (and-true (ltb 0 n) (ltb n (2 * base)) h .0)
-
-    high : n < 2 * base
-    high = ltb-true n (2 * base) (and-true (ltb 0 n) (ltb n (2 * base)) h .1)
-
-    go : (b : Bool) → ltb n base ≡ b → isBounded (cond b (negsuc (base - suc n)) (pos (n - base))) ≡ true
-    go true e = let l = ltb-true n base e in lt-ltb (suc (base - suc n)) base (omega (arith, low, l))
-    go false e = let l = ltb-false n base e in lt-ltb (n - base) base (omega (arith, high, l))
+kind-kept : (k : Kind) (n : ℕ) (s : Bytes) → OnSome KeptConstant (constantOfKind k n s)
+kind-kept Kind.Page n s = tt
+kind-kept (Kind.Scalar k) n s = on-only KeptConstant (inRange k n) (some (scalar k n)) (λ h. h)
+kind-kept Kind.String n s = on-only KeptConstant (isValue s) (some (string s)) (λ h. h)
 
 constant-kept : (s : Bytes) (x : Slot) → OnSome KeptConstant (constantOf s x)
-unfolding constantOf constantFrom numberFrom
-constant-kept s x =
-    on-cond KeptConstant (eqb (x .kind) 0) _ _ (λ e. numbers)
-    (on-cond KeptConstant (eqb (x .kind) 1) _ _
-    (λ e. on-cond KeptConstant (eqb (x .truth) 0) (some (boolean false)) _ (λ f. refl) (on-cond KeptConstant (eqb (x .truth) 1) (some (boolean true)) none (λ f. refl) tt))
-    (on-cond KeptConstant (eqb (x .kind) 2) _ none (λ e. on-only KeptConstant (isValue (partOf s (x .second))) (some (string (partOf s (x .second)))) (λ h. h)) tt))
-  where
-    numbers : OnSome KeptConstant (onlyIf (ltb 0 (x .number) && ltb (x .number) (2 * base)) (some (subℕ (x .number) base)) >>= λ z. some (number z))
-    numbers =
-        on-bind (λ z. isBounded z ≡ true) KeptConstant (onlyIf (ltb 0 (x .number) && ltb (x .number) (2 * base)) (some (subℕ (x .number) base))) (λ z. some (number z))
-        (on-only (λ z. isBounded z ≡ true) (ltb 0 (x .number) && ltb (x .number) (2 * base)) (some (subℕ (x .number) base)) (in-range (x .number)))
-        (λ z h. h)
+unfolding constantOf constantFrom
+constant-kept s x = on-only KeptConstant (eqb (kindCode (kindFrom (x .kind))) (x .kind)) _ (λ e. kind-kept (kindFrom (x .kind)) (x .number) (partOf s (x .second)))
 
 -- Nodes.
 abbrev KeptNode : Node → Type 0

@@ -10,7 +10,7 @@ use borrow.Author.Tests.{eqb-true, leb-true}
 use Rattle.text.specs.Bytes.{Bytes, all}
 use Rattle.text.proofs.Laws.{all-append}
 use Rattle.values.specs.Names.{isName, isNamespace, isPropertyName}
-use Rattle.values.specs.Values.{number, boolean, string, Constant}
+use Rattle.values.specs.Values.{scalar, string, Constant}
 use Rattle.values.proofs.Spelled.{name-keeps, value-short}
 use Rattle.language.specs.Core.{Selector, Core, nodes, nodesIn}
 use Rattle.language.proofs.Members.{and-true}
@@ -34,8 +34,7 @@ namespace-short x h = go (eqb (length x) 0) refl h
     go false e k = name-keeps x k .short
 
 pub constant-short : (v : Constant) → isConstant v ≡ true → length (constantString v) ≤ 64
-constant-short (number z) h = omega arith
-constant-short (boolean b) h = omega arith
+constant-short (scalar k n) h = omega arith
 constant-short (string s) h = value-short s h
 
 strings-count : (k l : List Node) → length (strings (k ++ l)) ≡ length (strings k) + length (strings l)

@@ -1,20 +1,18 @@
 -- What the rules keep of a surface query, elaboration keeps of its core query: it has a form.
 use Prim.Native.Nat.{ℕ, _≤_}
 use mathlib.Core.Path.{_≡_, refl, sym, subst, _∙_}
-use mathlib.Core.Bool.{Bool, true, false, cond, not, _&&_, _||_}
+use mathlib.Core.Bool.{Bool, true, false, cond, not, _&&_}
 use mathlib.Core.List.{List, [], _∷_, _++_}
 use mathlib.Core.Option.{Option, some, none}
-use lib.IntN.{ℤ, pos, negsuc}
 use native.Mathlib.Omega.{arith}
-use borrow.Author.Tests.{lt-ltb, ltb-false, le-leb}
-use lib.Dec.{ltb, leb}
+use borrow.Author.Tests.{ltb-false, le-leb}
+use lib.Dec.{ltb}
 use Rattle.text.specs.Bytes.{Bytes, all, any}
 use Rattle.text.proofs.Laws.{all-append}
 use Rattle.values.specs.declared.Kind.{Kind}
 use Rattle.values.specs.Names.{Reference, bare, qualified, reference, isName, isNamespace, isPropertyName, isReference, isValue}
-use Rattle.values.specs.Values.{Constant, number, boolean, string, mapOption, readNumber, readBoolean, readConstant}
-use Rattle.values.specs.Answers.{base}
-use Rattle.values.proofs.Numbers.{Small, read-small}
+use Rattle.values.specs.Values.{Constant, scalar, mapOption, readScalar, readConstant}
+use Rattle.values.proofs.Coded.{read-in-range}
 use Rattle.language.specs.Answer.{refused, accepted, found, _>>=_}
 use Rattle.language.specs.Register.{Typing}
 use Rattle.language.specs.Surface.{Chain, single, chain, Categories, Identifiers, Alternatives, Query, propertiesOf}
@@ -26,8 +24,7 @@ use Rattle.language.specs.declared.Comparator.{Comparator}
 use Rattle.language.specs.declared.SurfaceComparator.{SurfaceComparator}
 use Rattle.language.proofs.Members.{and-true, both-true, or-false}
 use Rattle.query_core.specs.Postfix.{Node, post}
-use Rattle.query_core.specs.Form.{isBounded, isConstant, isNode, isCore}
-use Rattle.query_core.proofs.Postfix.{length-post}
+use Rattle.query_core.specs.Form.{isConstant, isNode, isCore}
 use Rattle.query_tree_spelling.specs.Spelled.{isOneCategory, isOneIdentifier, isOneAlternative, spelledCategories, spelledIdentifiers, readsAsCategory, spelledValue, spelledChain, spelledIn, isSpelled}
 use Rattle.query_tree_spelling.proofs.Texts.{not-not}
 
@@ -115,26 +112,17 @@ reference-keeps SurfaceComparator.AtLeast (qualified n x) h = let k = and-true (
 reference-keeps SurfaceComparator.AtMost (qualified n x) h = let k = and-true (isNamespace n) (isName x) h in within-keeps n x SurfaceComparator.AtMost (k .0) (k .1)
 
 -- Constants that are read.
-bounded : (z : ℤ) → Small z → isBounded z ≡ true
-bounded (pos n) h = lt-ltb n base h
-bounded (negsuc n) h = lt-ltb _ base h
-
 abbrev ReadKeeps : Option Constant → Type 0
 ReadKeeps none = Unit {0}
 ReadKeeps (some v) = isConstant v ≡ true
 
 read-keeps : (k : Kind) (v : Bytes) → isValue v ≡ true → ReadKeeps (readConstant k v)
 read-keeps Kind.Page v h = tt
-read-keeps Kind.Number v h = go (readNumber v) refl
+read-keeps (Kind.Scalar k) v h = go (readScalar k v) refl
   where
-    go : (o : Option ℤ) → readNumber v ≡ o → ReadKeeps (mapOption number o)
+    go : (o : Option ℕ) → readScalar k v ≡ o → ReadKeeps (mapOption (scalar k) o)
     go none e = tt
-    go (some z) e = bounded z (read-small v z e)
-read-keeps Kind.Boolean v h = go (readBoolean v)
-  where
-    go : (o : Option Bool) → ReadKeeps (mapOption boolean o)
-    go none = tt
-    go (some b) = refl
+    go (some n) e = read-in-range k v n e
 read-keeps Kind.String v h = h
 
 constant-keeps : (x : Bytes) (c : SurfaceComparator) (o : Option Constant) → isPropertyName x ≡ true → ReadKeeps o → KeepsSome (mapOption (elaborateConstant x c) o)
@@ -149,8 +137,7 @@ piece-keeps x c v Kind.Page h j = go (isReference (reference v)) refl
     go : (b : Bool) → isReference (reference v) ≡ b → KeepsSome (cond b (some (Core.select (Core.subquery x (elaborateReference c (reference v))))) none)
     go false e = tt
     go true e = subquery-keeps x (elaborateReference c (reference v)) h (reference-keeps c (reference v) e)
-piece-keeps x c v Kind.Number h j = constant-keeps x c (readConstant Kind.Number v) h (read-keeps Kind.Number v j)
-piece-keeps x c v Kind.Boolean h j = constant-keeps x c (readConstant Kind.Boolean v) h (read-keeps Kind.Boolean v j)
+piece-keeps x c v (Kind.Scalar k) h j = constant-keeps x c (readConstant (Kind.Scalar k) v) h (read-keeps (Kind.Scalar k) v j)
 piece-keeps x c v Kind.String h j = constant-keeps x c (readConstant Kind.String v) h (read-keeps Kind.String v j)
 
 -- Options.
@@ -165,8 +152,7 @@ unfolding inside
 inside-keeps x none o h j = tt
 inside-keeps x (some Kind.Page) none h j = tt
 inside-keeps x (some Kind.Page) (some c) h j = subquery-keeps x c h j
-inside-keeps x (some Kind.Number) o h j = tt
-inside-keeps x (some Kind.Boolean) o h j = tt
+inside-keeps x (some (Kind.Scalar k)) o h j = tt
 inside-keeps x (some Kind.String) o h j = tt
 
 kind-keeps : (k : Option Kind) (f : Kind → Option Core) → ((a : Kind) → KeepsSome (f a)) → KeepsSome (k >>= f)

@@ -1,15 +1,13 @@
 -- A core query that keeps its rules is held by its form.
-use Prim.Native.Nat.{ℕ, zero, suc, _+_, _*_, _-_, _≤_, _<_, _^_}
+use Prim.Native.Nat.{ℕ, zero, suc, _+_, _*_, _≤_, _<_, _^_}
 use mathlib.Core.Path.{_≡_, refl, sym, ap, subst, _∙_}
-use mathlib.Core.Bool.{true, false, _&&_}
+use mathlib.Core.Bool.{true}
 use mathlib.Core.List.{List, _∷_, _++_, append-assoc}
 use mathlib.Core.Option.{some}
 use native.Mathlib.Omega.{arith}
-use lib.Dec.{ltb}
-use lib.IntN.{ℤ, pos, negsuc, subℕ}
 use lib.ListN.{length, getD, take, drop, length-append}
 use lib.Seq.{split-at, take-suc, take-length, length-take-le}
-use borrow.Author.Tests.{ltb-true, lt-ltb, le-ltb}
+use borrow.Author.Tests.{eq-eqb}
 use Rattle.text.specs.Bytes.{Bytes, part, all}
 use Rattle.text.proofs.Laws.{all-at}
 use Rattle.buffer.specs.Numbers.{twoBytes, padded}
@@ -18,38 +16,24 @@ use Rattle.buffer.proofs.Parts.{part-before}
 use Rattle.buffer.proofs.Joined.{part-middle, part-first, part-second}
 use Rattle.buffer.proofs.Regions.{length-padded, part-region}
 use Rattle.values.specs.Names.{isPropertyName}
-use Rattle.values.specs.Values.{number, boolean, string, Constant}
-use Rattle.values.specs.Answers.{base, biased}
-use Rattle.values.proofs.Numbers.{Small, biased-below}
+use Rattle.values.specs.Values.{Constant, scalar, string, kindCode}
+use Rattle.values.specs.declared.Kind.{Kind}
+use Rattle.values.proofs.Coded.{range-small}
+use Rattle.values.proofs.Sameness.{kind-coded}
 use Rattle.values.proofs.Spelled.{name-keeps}
 use Rattle.language.specs.Core.{Core, nodes}
 use Rattle.language.specs.declared.Comparator.{Comparator}
 use Rattle.language.proofs.Members.{and-true}
 use Rattle.query_core.specs.declared.Slot.{Slot}
 use Rattle.query_core.specs.Postfix.{Node, post}
-use Rattle.query_core.specs.Held.{querySize, countIn, slot, heapIn, slotFrom, comparatorFrom, numberFrom, constantFrom, constantOf, nodeFrom, nodeOf, slotIn, nodeIn, nodesTo, heldQuery}
-use Rattle.query_core.specs.Form.{constantString, stringOf, strings, comparatorCode, spanAt, valueSlot, slotAt, slotBytes, slotsFrom, queryBytes, queryOf, isBounded, isConstant, isNode, isCore}
+use Rattle.query_core.specs.Held.{querySize, countIn, slot, heapIn, slotFrom, comparatorFrom, constantOfKind, constantFrom, constantOf, nodeFrom, nodeOf, slotIn, nodeIn, nodesTo, heldQuery}
+use Rattle.query_core.specs.Form.{constantString, stringOf, strings, comparatorCode, spanAt, valueSlot, slotAt, slotBytes, slotsFrom, queryBytes, queryOf, isConstant, isNode, isCore}
 use Rattle.query_core.specs.Writing.{Fits}
 use Rattle.query_core.proofs.Postfix.{length-post}
 use Rattle.query_core.proofs.Slots.{Short, slot-back}
 use Rattle.query_core.proofs.Laying.{strings-append, slots-append, length-slot, length-slots}
 use Rattle.query_core.proofs.Counts.{property-short, namespace-short, constant-short, core-kept}
 use Rattle.query_core.proofs.Stacks.{holds-held, stack-post}
-
--- A number that is held with 10^15 added.
-bounded : (z : ℤ) → isBounded z ≡ true → Small z
-bounded (pos n) h = ltb-true n base h
-bounded (negsuc n) h = ltb-true (suc n) base h
-
-number-back : (z : ℤ) → Small z → subℕ (biased z) base ≡ z
-number-back (pos n) h = rw (le-ltb (base + n) base (omega arith)) (let e : (base + n) - base ≡ n = omega arith in ap pos e)
-number-back (negsuc n) h =
-    let l : base - suc n < base = omega arith in
-    rw (lt-ltb (base - suc n) base l) (let e : base - suc (base - suc n) ≡ n = omega arith in ap negsuc e)
-
-number-ranges : (z : ℤ) → Small z → (ltb 0 (biased z) && ltb (biased z) (2 * base)) ≡ true
-number-ranges (pos n) h = rw (lt-ltb 0 (base + n) (omega arith), lt-ltb (base + n) (2 * base) (omega arith))
-number-ranges (negsuc n) h = rw (lt-ltb 0 (base - suc n) (omega arith), lt-ltb (base - suc n) (2 * base) (omega arith))
 
 -- The numbers of a node's slot fit its bytes.
 pub record Fitting (x : Slot) : Type 0 where
@@ -62,13 +46,12 @@ module _ (at : ℕ) (low : at ≤ 16448) where
   one-fits n l = (omega arith, omega arith)
 
   value-fits : (x : Bytes) (c : Comparator) (v : Constant) → length x ≤ 64 → isConstant v ≡ true → Fitting (valueSlot at x c v)
-  value-fits x c (number z) l h = record { first = one-fits (length x) l; second = (omega arith, omega arith); number = omega (arith, biased-below z (bounded z h)) }
-  value-fits x c (boolean b) l h = record { first = one-fits (length x) l; second = (omega arith, omega arith); number = omega arith }
+  value-fits x c (scalar k n) l h = record { first = one-fits (length x) l; second = (omega arith, omega arith); number = range-small k n h }
   value-fits x c (string s) l h =
       let k = constant-short (string s) h in
       record { first = one-fits (length x) l; second = (omega (arith, low, l), omega (arith, k)); number = omega arith }
 
-  first-fits : (t n : ℕ) → n ≤ 64 → Fitting (record { tag = t; comparator = 0; kind = 0; truth = 0; first = spanAt at n; second = spanAt 0 0; number = 0 })
+  first-fits : (t n : ℕ) → n ≤ 64 → Fitting (record { tag = t; comparator = 0; kind = 0; first = spanAt at n; second = spanAt 0 0; number = 0 })
   first-fits t n l = record { first = one-fits n l; second = (omega arith, omega arith); number = omega arith }
 
   slot-fits : (x : Node) → isNode x ≡ true → Fitting (slotAt at x)
@@ -90,18 +73,19 @@ code-back Comparator.Unequal = refl
 code-back Comparator.Greater = refl
 code-back Comparator.Less = refl
 
+kind-back : (k : Kind) (n : ℕ) (s : Bytes) → constantFrom (kindCode k) n s ≡ constantOfKind k n s
+unfolding constantFrom
+kind-back k n s = rw (kind-coded k, eq-eqb (kindCode k) (kindCode k) refl)
+
 module _ (s : Bytes) (at : ℕ) where
   constant-back : (x : Bytes) (c : Comparator) (v : Constant) → isConstant v ≡ true → part s (at + length x) (length (constantString v)) ≡ constantString v → constantOf s (valueSlot at x c v) ≡ some v
-  unfolding constantOf constantFrom numberFrom
-  constant-back x c (number z) h e = rw (number-ranges z (bounded z h), number-back z (bounded z h))
-  constant-back x c (boolean true) h e = refl
-  constant-back x c (boolean false) h e = refl
-  constant-back x c (string y) h e = rw (e, h)
+  unfolding constantOf
+  constant-back x c (scalar k n) h e = kind-back (Kind.Scalar k) n _ ∙ rw h
+  constant-back x c (string y) h e = kind-back Kind.String 0 _ ∙ rw (e, h)
 
   value-back : (x : Bytes) (c : Comparator) (v : Constant) → isPropertyName x ≡ true → part s at (length x) ≡ x → constantOf s (valueSlot at x c v) ≡ some v → nodeOf s (valueSlot at x c v .tag) (valueSlot at x c v) ≡ some (Node.value x c v)
   unfolding nodeOf nodeFrom
-  value-back x c (number z) h e k = rw (e, h, code-back c, k)
-  value-back x c (boolean b) h e k = rw (e, h, code-back c, k)
+  value-back x c (scalar j n) h e k = rw (e, h, code-back c, k)
   value-back x c (string y) h e k = rw (e, h, code-back c, k)
 
   node-back : (x : Node) → isNode x ≡ true → part s at (length (stringOf x)) ≡ stringOf x → nodeOf s (slotAt at x .tag) (slotAt at x) ≡ some x

@@ -5,10 +5,9 @@ use mathlib.Core.Bool.{Bool, true, false, not}
 use mathlib.Core.List.{List, [], _∷_, _++_, append-assoc, append-nil}
 use native.Mathlib.Nat.{add-zero}
 use native.Mathlib.Omega.{arith}
-use lib.Dec.{leb, ltb}
-use lib.IntN.{subℕ}
+use lib.Dec.{leb}
 use lib.ListN.{length, length-append}
-use borrow.Author.Tests.{leb-true, leb-false, le-leb, lt-leb, ltb-true, ltb-false, not-true, not-false}
+use borrow.Author.Tests.{leb-true, leb-false, le-leb, lt-leb, not-true, not-false}
 use Rattle.text.specs.Bytes.{Bytes}
 use Rattle.text.specs.Parts.{partOf}
 use Rattle.text.specs.declared.Span.{Span}
@@ -17,7 +16,6 @@ use Rattle.buffer.specs.Writing.{written}
 use Rattle.buffer.proofs.Regions.{length-zeros, length-padded}
 use Rattle.buffer.proofs.Written.{length-written, written-here, written-skip, written-over, next}
 use Rattle.buffer.proofs.Padding.{zeros-add, padded-more}
-use Rattle.values.specs.Answers.{base, biased}
 use Rattle.query_core.specs.declared.Constant.{Constant}
 use Rattle.query_core.specs.declared.Selector.{Selector}
 use Rattle.query_core.specs.declared.Connective.{Connective}
@@ -27,7 +25,7 @@ use Rattle.query_core.specs.declared.Strings.{Strings}
 use Rattle.query_core.specs.declared.Place.{Place}
 use Rattle.query_core.specs.Postfix.{Node}
 use Rattle.query_core.specs.Held.{querySize}
-use Rattle.query_core.specs.Form.{stringOf, strings, comparatorCode, spanAt, numberSlot, slotAt, slotBytes, slotsFrom, queryBytes}
+use Rattle.query_core.specs.Form.{stringOf, strings, spanAt, slotAt, slotBytes, slotsFrom, queryBytes}
 use Rattle.query_core.specs.Reading.{joinedBy, nodeBy}
 use Rattle.query_core.specs.Writing.{joinedStrings, nodeStrings, joinedSlot, slotOf, hasRoom, Fits, Laid, Puts, Finishes, countOf, endOf}
 
@@ -66,13 +64,6 @@ module _ (l : List Node) (x : Node) where
       slots-append 0 l (x ∷ []) ∙ ap (λ (r : Bytes). slotsFrom 0 l ++ r) (append-nil (slotBytes (slotAt (0 + length (strings l)) x)) ∙ ap (λ (n : ℕ). slotBytes (slotAt n x)) place)
 
 -- The strings and the slot of a declared node are those of the node that it is.
-biased-back : (n : ℕ) → n ≡ biased (subℕ n base)
-biased-back n = go (ltb n base) refl
-  where
-    go : (b : Bool) → ltb n base ≡ b → n ≡ biased (subℕ n base)
-    go true e = rw e (let l = ltb-true n base e in omega (arith, l))
-    go false e = rw e (let l = ltb-false n base e in omega (arith, l))
-
 module _ (s : Bytes) where
   abbrev both : Strings → Bytes
   both r = partOf s (r .first) ++ partOf s (r .second)
@@ -86,8 +77,7 @@ module _ (s : Bytes) where
   strings-joined Connective.Select (Selector.Existence p) = append-nil (partOf s p)
   strings-joined Connective.Select (Selector.Subquery p) = append-nil (partOf s p)
   strings-joined Connective.Select (Selector.Article c p) = refl
-  strings-joined Connective.Select (Selector.Value p c (Constant.Number n)) = refl
-  strings-joined Connective.Select (Selector.Value p c (Constant.Boolean b)) = refl
+  strings-joined Connective.Select (Selector.Value p c (Constant.Scalar k n)) = refl
   strings-joined Connective.Select (Selector.Value p c (Constant.String q)) = refl
 
   -- the strings lie at the place, one behind the other
@@ -105,8 +95,7 @@ module _ (s : Bytes) where
   slot-joined at Connective.Select (Selector.Existence p) = refl
   slot-joined at Connective.Select (Selector.Subquery p) = refl
   slot-joined at Connective.Select (Selector.Article c p) = rw add-zero
-  slot-joined at Connective.Select (Selector.Value p c (Constant.Number n)) = ap (numberSlot (spanAt at (length (partOf s p))) (comparatorCode c)) (biased-back n)
-  slot-joined at Connective.Select (Selector.Value p c (Constant.Boolean b)) = refl
+  slot-joined at Connective.Select (Selector.Value p c (Constant.Scalar k n)) = refl
   slot-joined at Connective.Select (Selector.Value p c (Constant.String q)) = refl
 
 -- Whether strings have room.

@@ -39,7 +39,7 @@ module _ (h : Bytes) (at : ℕ) where
       → a ≡ written h at (x .tag ∷ [])
       → b ≡ written a (at + 1) (x .comparator ∷ [])
       → c ≡ written b (at + 2) (x .kind ∷ [])
-      → d ≡ written c (at + 3) (x .truth ∷ [])
+      → d ≡ written c (at + 3) (0 ∷ [])
       → d ≡ written h at (headBytes x)
   head-is x a b c d p q r s = next h at _ _ (next h at _ _ (next h at _ _ p q) r) s
 

@@ -9,7 +9,7 @@ use Rattle.values.specs.Values.{Constant}
 use Rattle.language.proofs.Options.{OnSome}
 use Rattle.query_core.specs.Postfix.{Node}
 use Rattle.query_core.specs.Held.{nodeFrom, nodeOf, nodeIn, slotIn}
-use Rattle.query_core.specs.Reading.{followsLinks, expectsKind, TestsNode}
+use Rattle.query_core.specs.Reading.{expectsKind, TestsNode}
 use Rattle.query_core.proofs.Nodewise.{on-any, on-node}
 
 abbrev tagOf : Node → ℕ
@@ -34,19 +34,6 @@ tagged tag c v x y =
 tag-tells : (f : Node → Bool) (test : ℕ → Bool) → ((m : Node) → test (tagOf m) ≡ f m) → (h : Bytes) (i : ℕ) (r : Bool) → r ≡ test (slotIn h i .tag) → TestsNode f (nodeIn h i) r
 unfolding TestsNode nodeIn nodeOf
 tag-tells f test same h i r e m g = e ∙ ap test (subst (OnSome (λ n. slotIn h i .tag ≡ tagOf n)) g (tagged (slotIn h i .tag) _ _ _ _)) ∙ same m
-
-pub tag-follows : (h : Bytes) (i t : ℕ) → t ≡ slotIn h i .tag → TestsNode followsLinks (nodeIn h i) (eqb t 5)
-tag-follows h i t e = tag-tells followsLinks (λ n. eqb n 5) same h i (eqb t 5) (rw e)
-  where
-    same : (m : Node) → eqb (tagOf m) 5 ≡ followsLinks m
-    same Node.conjunction = refl
-    same Node.disjunction = refl
-    same (Node.category x) = refl
-    same (Node.namespace x) = refl
-    same (Node.existence x) = refl
-    same (Node.subquery x) = refl
-    same (Node.article c x) = refl
-    same (Node.value x c v) = refl
 
 pub tag-expects : (h : Bytes) (i t : ℕ) → t ≡ slotIn h i .tag → TestsNode expectsKind (nodeIn h i) (eqb t 5 || eqb t 7)
 tag-expects h i t e = tag-tells expectsKind (λ n. eqb n 5 || eqb n 7) same h i (eqb t 5 || eqb t 7) (rw e)

@@ -1,22 +1,21 @@
 -- The ways through the functions that read a node: what the calls gave, and what the answer then is.
-use Prim.Native.Nat.{ℕ, zero, suc, _*_, _/_, _≤_, _<_}
+use Prim.Native.Nat.{ℕ, _/_, _≤_, _<_}
 use mathlib.Core.Path.{_≡_, refl, sym, _∙_}
 use mathlib.Core.List.{[]}
-use mathlib.Core.Bool.{Bool, true, false, cond, _&&_}
+use mathlib.Core.Bool.{Bool, true, false}
 use mathlib.Core.Option.{Option, some, none}
 use native.Mathlib.Omega.{arith}
-use lib.Dec.{ltb, leb, eqb}
-use lib.IntN.{subℕ}
 use lib.ListN.{length, getD, drop-of-length-le}
 use lib.Seq.{take-nil}
-use borrow.Author.Tests.{lt-leb, ne-eqb}
+use borrow.Author.Tests.{ne-eqb, eq-eqb}
 use Rattle.text.specs.Bytes.{Bytes, part}
 use Rattle.text.specs.Parts.{partOf}
 use Rattle.text.specs.declared.Span.{Span}
 use Rattle.values.specs.Names.{isName, isPropertyName, isNamespace, isValue}
-use Rattle.values.specs.Values.{number, boolean}
-use Rattle.values.specs.Answers.{base}
-use Rattle.language.specs.Answer.{_>>=_, onlyIf}
+use Rattle.values.specs.Values.{kindCode, kindFrom, inRange}
+use Rattle.values.specs.declared.Kind.{Kind}
+use Rattle.values.specs.declared.Scalar.{Scalar}
+use Rattle.language.specs.Answer.{onlyIf}
 use Rattle.language.specs.declared.Comparator.{Comparator}
 use Rattle.query_core.specs.declared.Constant.{Constant}
 use Rattle.query_core.specs.declared.Selector.{Selector}
@@ -26,41 +25,38 @@ use Rattle.query_core.specs.declared.ComparatorRead.{ComparatorRead}
 use Rattle.query_core.specs.declared.ConstantRead.{ConstantRead}
 use Rattle.query_core.specs.declared.NodeRead.{NodeRead}
 use Rattle.query_core.specs.Postfix.{Node}
-use Rattle.query_core.specs.Held.{slot, heapIn, comparatorFrom, numberFrom, constantFrom, constantOf, nodeFrom, nodeOf, slotFrom, nodeIn}
+use Rattle.query_core.specs.Held.{slot, heapIn, comparatorFrom, constantOfKind, constantFrom, constantOf, nodeFrom, nodeOf, slotFrom, nodeIn}
 use Rattle.query_core.specs.Reading.{constantBy, selectorBy, keepsConstant, keepsSelector, comparatorRead, chosen, ConstantReads, selected, joining, ReadsNode}
 
--- The constant of a slot, by its kind.
-module _ (s : Bytes) (x : Slot) (r : ConstantRead) where
-  chosen-reads : (b : Bool) (k : Constant) → constantOf s x ≡ onlyIf b (some (constantBy s k)) → (b ≡ true → keepsConstant s k ≡ true) → r ≡ chosen b k → ConstantReads s x r
-  chosen-reads true k e f g = record { is = rw g e; keeps = rw g (f refl) }
-  chosen-reads false k e f g = record { is = rw g e; keeps = rw g }
-
-  pub number-reads : x .kind ≡ 0 → r ≡ chosen (ltb 0 (x .number) && ltb (x .number) (2 * base)) (Constant.Number (x .number)) → ConstantReads s x r
-  unfolding constantOf constantFrom numberFrom
-  number-reads e g = chosen-reads (ltb 0 (x .number) && ltb (x .number) (2 * base)) (Constant.Number (x .number)) (rw e (go (ltb 0 (x .number) && ltb (x .number) (2 * base)))) (λ h. h) g
-    where
-      go : (b : Bool) → (onlyIf b (some (subℕ (x .number) base)) >>= λ z. some (number z)) ≡ onlyIf b (some (number (subℕ (x .number) base)))
-      go true = refl
-      go false = refl
-
-  truth-is : (b : ℕ) → cond (eqb b 0) (some (boolean false)) (cond (eqb b 1) (some (boolean true)) none) ≡ onlyIf (leb b 1) (some (boolean (eqb b 1)))
-  truth-is zero = refl
-  truth-is (suc zero) = refl
-  truth-is (suc (suc n)) = rw (ne-eqb (suc (suc n)) 0 (omega arith), ne-eqb (suc (suc n)) 1 (omega arith), lt-leb (suc (suc n)) 1 (omega arith))
-
-  pub truth-reads : x .kind ≡ 1 → r ≡ chosen (leb (x .truth) 1) (Constant.Boolean (eqb (x .truth) 1)) → ConstantReads s x r
+-- The constant of a slot, by its kind and its kind's byte.
+module _ (s : Bytes) (x : Slot) (k : Kind) (b : ℕ) (told : k ≡ kindFrom (x .kind)) (code : b ≡ kindCode k) where
+  pub constant-unknown : (b ≡ x .kind → ⊥) → ConstantReads s x ConstantRead.Nothing
   unfolding constantOf constantFrom
-  truth-reads e g = chosen-reads (leb (x .truth) 1) (Constant.Boolean (eqb (x .truth) 1)) (rw e (truth-is (x .truth))) (λ h. refl) g
+  constant-unknown f = record { is = rw (← told, ← code, ne-eqb b (x .kind) f); keeps = refl }
 
-  pub string-reads : (t : Bytes) (b : Bool) → x .kind ≡ 2 → t ≡ partOf s (x .second) → b ≡ isValue t → r ≡ chosen b (Constant.String (x .second)) → ConstantReads s x r
-  unfolding constantOf constantFrom
-  string-reads t b e p q g = chosen-reads b _ (rw (e, q, p)) (λ h. rw (← p, ← q) h) g
+  module _ (known : b ≡ x .kind) where
+    constant-known : constantOf s x ≡ constantOfKind k (x .number) (partOf s (x .second))
+    unfolding constantOf constantFrom
+    constant-known = rw (← told, ← code, eq-eqb b (x .kind) known)
 
-pub constant-none : (s : Bytes) (x : Slot) → (x .kind ≡ 0 → ⊥) → (x .kind ≡ 1 → ⊥) → (x .kind ≡ 2 → ⊥) → ConstantReads s x ConstantRead.Nothing
-unfolding constantOf constantFrom
-constant-none s x f g h = record { is = rw (ne-eqb (x .kind) 0 f, ne-eqb (x .kind) 1 g, ne-eqb (x .kind) 2 h); keeps = refl }
+    pub page-reads : k ≡ Kind.Page → ConstantReads s x ConstantRead.Nothing
+    page-reads e = record { is = constant-known ∙ rw e; keeps = refl }
 
-pub ruleset constants = (number-reads, truth-reads, string-reads, constant-none)
+    module _ (r : ConstantRead) (fit : Bool) where
+      chosen-reads : (c : Constant) → constantOf s x ≡ onlyIf fit (some (constantBy s c)) → (fit ≡ true → keepsConstant s c ≡ true) → r ≡ chosen fit c → ConstantReads s x r
+      chosen-reads c e f g = go fit e f g
+        where
+          go : (b : Bool) → constantOf s x ≡ onlyIf b (some (constantBy s c)) → (b ≡ true → keepsConstant s c ≡ true) → r ≡ chosen b c → ConstantReads s x r
+          go true e f g = record { is = rw g e; keeps = rw g (f refl) }
+          go false e f g = record { is = rw g e; keeps = rw g }
+
+      pub scalar-reads : (j : Scalar) → k ≡ Kind.Scalar j → fit ≡ inRange j (x .number) → r ≡ chosen fit (Constant.Scalar j (x .number)) → ConstantReads s x r
+      scalar-reads j e q g = chosen-reads (Constant.Scalar j (x .number)) (constant-known ∙ rw (e, q)) (λ h. rw (← q) h) g
+
+      pub string-reads : (t : Bytes) → k ≡ Kind.String → t ≡ partOf s (x .second) → fit ≡ isValue t → r ≡ chosen fit (Constant.String (x .second)) → ConstantReads s x r
+      string-reads t e p q g = chosen-reads (Constant.String (x .second)) (constant-known ∙ rw (e, q, p)) (λ h. rw (← p, ← q) h) g
+
+pub ruleset constants = (constant-unknown, page-reads, scalar-reads, string-reads)
 
 -- A comparator that was read, or not.
 module _ (q : ComparatorRead) (o : Option Comparator) (e : q ≡ comparatorRead o) where

@@ -1,18 +1,17 @@
 -- The form of a core query: its nodes in postfix order, and their names and string constants, one behind the other. docs/LAYOUT.md has
 -- the table.
-use Prim.Native.Nat.{ℕ, suc, _+_}
+use Prim.Native.Nat.{ℕ, _+_}
 use mathlib.Core.Bool.{Bool, true, _&&_}
 use mathlib.Core.List.{List, [], _∷_, _++_}
-use lib.Dec.{leb, ltb}
-use lib.IntN.{ℤ, pos, negsuc}
+use lib.Dec.{leb}
 use lib.ListN.{length}
 use Rattle.text.specs.Bytes.{Bytes, all}
-use Rattle.text.specs.Table.{bit}
 use Rattle.text.specs.declared.Span.{Span}
 use Rattle.buffer.specs.Numbers.{twoBytes, eightBytes, padded}
 use Rattle.values.specs.Names.{isName, isPropertyName, isNamespace, isValue}
-use Rattle.values.specs.Values.{Constant, number, boolean, string}
-use Rattle.values.specs.Answers.{base, biased}
+use Rattle.values.specs.Values.{Constant, scalar, string, kindCode, inRange}
+use Rattle.values.specs.declared.Kind.{Kind}
+use Rattle.values.specs.declared.Scalar.{Scalar}
 use Rattle.language.specs.Core.{Core, nodes}
 use Rattle.language.specs.declared.Comparator.{Comparator}
 use Rattle.query_core.specs.declared.Slot.{Slot}
@@ -20,8 +19,7 @@ use Rattle.query_core.specs.Postfix.{Node, post}
 
 -- The names and string constants of nodes, in the order of the nodes.
 abbrev pub constantString : Constant → Bytes
-constantString (number z) = []
-constantString (boolean b) = []
+constantString (scalar k n) = []
 constantString (string s) = s
 
 unfoldable pub stringOf : Node → Bytes
@@ -52,21 +50,17 @@ abbrev pub noSpan : Span
 noSpan = spanAt 0 0
 
 abbrev pub tagged : ℕ → ℕ → Span → Span → Slot
-tagged t c p q = record { tag = t; comparator = c; kind = 0; truth = 0; first = p; second = q; number = 0 }
+tagged t c p q = record { tag = t; comparator = c; kind = 0; first = p; second = q; number = 0 }
 
--- A value comparison by its constant; a number is held with 10^15 added.
-abbrev pub numberSlot : Span → ℕ → ℕ → Slot
-numberSlot p c n = record { tag = 7; comparator = c; kind = 0; truth = 0; first = p; second = noSpan; number = n }
-
-abbrev pub truthSlot : Span → ℕ → Bool → Slot
-truthSlot p c b = record { tag = 7; comparator = c; kind = 1; truth = bit b; first = p; second = noSpan; number = 0 }
+-- A value comparison by its constant; a scalar is held by its code.
+abbrev pub scalarSlot : Span → ℕ → Scalar → ℕ → Slot
+scalarSlot p c k n = record { tag = 7; comparator = c; kind = kindCode (Kind.Scalar k); first = p; second = noSpan; number = n }
 
 abbrev pub stringSlot : Span → ℕ → Span → Slot
-stringSlot p c q = record { tag = 7; comparator = c; kind = 2; truth = 0; first = p; second = q; number = 0 }
+stringSlot p c q = record { tag = 7; comparator = c; kind = kindCode Kind.String; first = p; second = q; number = 0 }
 
 abbrev pub valueSlot : ℕ → Bytes → Comparator → Constant → Slot
-valueSlot at x c (number z) = numberSlot (spanAt at (length x)) (comparatorCode c) (biased z)
-valueSlot at x c (boolean b) = truthSlot (spanAt at (length x)) (comparatorCode c) b
+valueSlot at x c (scalar k n) = scalarSlot (spanAt at (length x)) (comparatorCode c) k n
 valueSlot at x c (string s) = stringSlot (spanAt at (length x)) (comparatorCode c) (spanAt (at + length x) (length s))
 
 abbrev pub slotAt : ℕ → Node → Slot
@@ -79,9 +73,9 @@ slotAt at (Node.subquery x) = tagged 5 0 (spanAt at (length x)) noSpan
 slotAt at (Node.article c x) = tagged 6 (comparatorCode c) noSpan (spanAt at (length x))
 slotAt at (Node.value x c v) = valueSlot at x c v
 
--- A slot's 20 bytes: what `slotFrom` reads.
+-- A slot's 20 bytes: what `slotFrom` reads, but for byte 3, which is 0.
 abbrev pub headBytes : Slot → Bytes
-headBytes x = x .tag ∷ x .comparator ∷ x .kind ∷ x .truth ∷ []
+headBytes x = x .tag ∷ x .comparator ∷ x .kind ∷ 0 ∷ []
 
 abbrev pub spanBytes : Span → Bytes
 spanBytes p = twoBytes (p .start) ++ twoBytes (p .len)
@@ -102,14 +96,9 @@ queryBytes l = twoBytes (length l) ++ (padded 5120 (slotsFrom 0 l) ++ padded 164
 unfoldable pub queryOf : Core → Bytes
 queryOf c = queryBytes (post c)
 
--- The rules for names and constants. A number is strictly between -10^15 and 10^15.
-abbrev pub isBounded : ℤ → Bool
-isBounded (pos n) = ltb n base
-isBounded (negsuc n) = ltb (suc n) base
-
+-- The rules for names and constants.
 abbrev pub isConstant : Constant → Bool
-isConstant (number z) = isBounded z
-isConstant (boolean b) = true
+isConstant (scalar k n) = inRange k n
 isConstant (string s) = isValue s
 
 unfoldable pub isNode : Node → Bool

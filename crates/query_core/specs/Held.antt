@@ -1,18 +1,17 @@
 -- The held query: 21,570 bytes. Two bytes with the number of nodes (low byte first), 256 nodes of 20 bytes in postfix order, then a
 -- heap of 16,448 bytes with their names and string constants. docs/LAYOUT.md has it byte by byte.
 use Prim.Native.Nat.{ℕ, zero, suc, _+_, _*_}
-use mathlib.Core.Bool.{Bool, true, false, cond, _&&_}
+use mathlib.Core.Bool.{Bool, cond, _&&_}
 use mathlib.Core.List.{List, [], _∷_, _++_}
 use mathlib.Core.Option.{Option, some, none}
-use lib.Dec.{ltb, leb, eqb}
+use lib.Dec.{leb, eqb}
 use lib.ListN.{length, getD}
-use lib.IntN.{ℤ, subℕ}
 use Rattle.text.specs.Bytes.{Bytes, part}
 use Rattle.text.specs.Parts.{partOf}
 use Rattle.buffer.specs.Numbers.{twoAt, eightAt}
 use Rattle.values.specs.Names.{isName, isPropertyName, isNamespace, isValue}
-use Rattle.values.specs.Values.{Constant, number, boolean, string}
-use Rattle.values.specs.Answers.{base}
+use Rattle.values.specs.Values.{Constant, scalar, string, kindCode, kindFrom, inRange}
+use Rattle.values.specs.declared.Kind.{Kind}
 use Rattle.language.specs.Answer.{_>>=_, onlyIf}
 use Rattle.language.specs.Core.{Core}
 use Rattle.language.specs.declared.Comparator.{Comparator}
@@ -32,15 +31,14 @@ slot i = 2 + 20 * i
 abbrev pub heapIn : Bytes → Bytes
 heapIn h = part h 5122 16448
 
--- The numbers in a node's 20 bytes: the tag, the comparator, the constant's kind, its truth value, start and length of two
--- strings within the heap, a number.
+-- The numbers in a node's 20 bytes: the tag, the comparator, the constant's kind, start and length of two strings within the heap,
+-- a scalar's code. Byte 3 is not read.
 unfoldable pub slotFrom : Bytes → Slot
 slotFrom b =
     record {
       tag = getD b 0 0;
       comparator = getD b 1 0;
       kind = getD b 2 0;
-      truth = getD b 3 0;
       first = record { start = twoAt b 4; len = twoAt b 6 };
       second = record { start = twoAt b 8; len = twoAt b 10 };
       number = eightAt b 12;
@@ -53,16 +51,15 @@ comparatorFrom c =
     (cond (eqb c 2) (some Comparator.Greater)
     (cond (eqb c 3) (some Comparator.Less) none)))
 
--- A number is held with 10^15 added, and is strictly between -10^15 and 10^15.
-unfoldable pub numberFrom : ℕ → Option ℤ
-numberFrom n = onlyIf (ltb 0 n && ltb n (2 * base)) (some (subℕ n base))
+-- The constant of a kind: a scalar by its code, or a string, the slot's second one. A page value is no constant.
+abbrev pub constantOfKind : Kind → ℕ → Bytes → Option Constant
+constantOfKind Kind.Page n s = none
+constantOfKind (Kind.Scalar k) n s = onlyIf (inRange k n) (some (scalar k n))
+constantOfKind Kind.String n s = onlyIf (isValue s) (some (string s))
 
--- A constant by its kind: 0 a number, 1 a truth value, 2 a string, the slot's second one.
-unfoldable pub constantFrom : ℕ → ℕ → ℕ → Bytes → Option Constant
-constantFrom kind b n s =
-    cond (eqb kind 0) (numberFrom n >>= λ z. some (number z))
-    (cond (eqb kind 1) (cond (eqb b 0) (some (boolean false)) (cond (eqb b 1) (some (boolean true)) none))
-    (cond (eqb kind 2) (onlyIf (isValue s) (some (string s))) none))
+-- A constant by its kind's byte. A byte that no kind has tells none: `kindFrom` reads it as a kind of another byte.
+unfoldable pub constantFrom : ℕ → ℕ → Bytes → Option Constant
+constantFrom b n s = onlyIf (eqb (kindCode (kindFrom b)) b) (constantOfKind (kindFrom b) n s)
 
 -- A node by its tag; its names and constants keep their rules.
 unfoldable pub nodeFrom : ℕ → ℕ → Option Constant → Bytes → Bytes → Option Node
@@ -78,7 +75,7 @@ nodeFrom tag c v x y =
 
 -- The constant of a slot, and the node that it is by a tag; their strings lie in s.
 unfoldable pub constantOf : Bytes → Slot → Option Constant
-constantOf s x = constantFrom (x .kind) (x .truth) (x .number) (partOf s (x .second))
+constantOf s x = constantFrom (x .kind) (x .number) (partOf s (x .second))
 
 unfoldable pub nodeOf : Bytes → ℕ → Slot → Option Node
 nodeOf s tag x = nodeFrom tag (x .comparator) (constantOf s x) (partOf s (x .first)) (partOf s (x .second))

@@ -1,15 +1,11 @@
 -- Working definitions: what a declared node says of a text, whether it keeps the rules, and what reading one answers.
-use Prim.Native.Nat.{_*_}
 use mathlib.Core.Path.{_≡_}
 use mathlib.Core.Bool.{Bool, true, false, _&&_}
 use mathlib.Core.Option.{Option, some, none}
-use lib.Dec.{ltb}
-use lib.IntN.{subℕ}
 use Rattle.text.specs.Bytes.{Bytes}
 use Rattle.text.specs.Parts.{partOf}
 use Rattle.values.specs.Names.{isName, isPropertyName, isNamespace, isValue}
-use Rattle.values.specs.Values.{number, boolean, string, Constant as CoreConstant}
-use Rattle.values.specs.Answers.{base}
+use Rattle.values.specs.Values.{scalar, string, inRange, Constant as CoreConstant}
 use Rattle.language.specs.declared.Comparator.{Comparator}
 use Rattle.query_core.specs.declared.Constant.{Constant}
 use Rattle.query_core.specs.declared.Selector.{Selector}
@@ -24,8 +20,7 @@ use Rattle.query_core.specs.Held.{constantOf}
 
 -- The constant, and the postfix node, that a declared one is; their strings lie in s.
 abbrev pub constantBy : Bytes → Constant → CoreConstant
-constantBy s (Constant.Number n) = number (subℕ n base)
-constantBy s (Constant.Boolean b) = boolean b
+constantBy s (Constant.Scalar k n) = scalar k n
 constantBy s (Constant.String p) = string (partOf s p)
 
 abbrev pub selectorBy : Bytes → Selector → Postfix.Node
@@ -46,8 +41,7 @@ nodeBy s n = joinedBy s (n .connective) (n .selector)
 
 -- Names and constants keep their rules.
 abbrev pub keepsConstant : Bytes → Constant → Bool
-keepsConstant s (Constant.Number n) = ltb 0 n && ltb n (2 * base)
-keepsConstant s (Constant.Boolean b) = true
+keepsConstant s (Constant.Scalar k n) = inRange k n
 keepsConstant s (Constant.String p) = isValue (partOf s p)
 
 abbrev pub keepsSelector : Bytes → Selector → Bool
@@ -108,17 +102,7 @@ pub record ReadsNode (s : Bytes) (o : Option Postfix.Node) (r : NodeRead) : Type
   pub is : o ≡ readBy s r
   pub keeps : keepsRead s r ≡ true
 
--- A node that follows links, and one that expects values of one kind.
-abbrev pub followsLinks : Postfix.Node → Bool
-followsLinks (Postfix.subquery x) = true
-followsLinks Postfix.conjunction = false
-followsLinks Postfix.disjunction = false
-followsLinks (Postfix.category x) = false
-followsLinks (Postfix.namespace x) = false
-followsLinks (Postfix.existence x) = false
-followsLinks (Postfix.article c x) = false
-followsLinks (Postfix.value x c v) = false
-
+-- A node that expects values of one kind.
 abbrev pub expectsKind : Postfix.Node → Bool
 expectsKind (Postfix.subquery x) = true
 expectsKind Postfix.conjunction = false

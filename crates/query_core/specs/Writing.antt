@@ -17,7 +17,7 @@ use Rattle.query_core.specs.declared.Strings.{Strings}
 use Rattle.query_core.specs.declared.Place.{Place}
 use Rattle.query_core.specs.Postfix as Postfix
 use Rattle.query_core.specs.Held.{querySize}
-use Rattle.query_core.specs.Form.{strings, comparatorCode, noSpan, tagged, numberSlot, truthSlot, stringSlot, slotsFrom, queryBytes}
+use Rattle.query_core.specs.Form.{strings, comparatorCode, noSpan, tagged, scalarSlot, stringSlot, slotsFrom, queryBytes}
 use Rattle.query_core.specs.Reading.{nodeBy}
 
 -- Where the strings of a declared node lie: the first and the second of its slot.
@@ -25,8 +25,7 @@ abbrev pub stringsOf : Span → Span → Strings
 stringsOf p q = record { first = p; second = q }
 
 abbrev pub constantStrings : Span → Constant → Strings
-constantStrings p (Constant.Number n) = stringsOf p noSpan
-constantStrings p (Constant.Boolean b) = stringsOf p noSpan
+constantStrings p (Constant.Scalar k n) = stringsOf p noSpan
 constantStrings p (Constant.String q) = stringsOf p q
 
 abbrev pub selectorStrings : Selector → Strings
@@ -47,8 +46,7 @@ nodeStrings n = joinedStrings (n .connective) (n .selector)
 
 -- The slot of a declared node whose strings lie at p and q in the heap.
 abbrev pub constantSlot : ℕ → Constant → Span → Span → Slot
-constantSlot c (Constant.Number n) p q = numberSlot p c n
-constantSlot c (Constant.Boolean b) p q = truthSlot p c b
+constantSlot c (Constant.Scalar k n) p q = scalarSlot p c k n
 constantSlot c (Constant.String r) p q = stringSlot p c q
 
 abbrev pub selectorSlot : Selector → Span → Span → Slot

@@ -36,10 +36,3 @@ pub const UNEQUAL: u8 = 1;
 pub const GREATER: u8 = 2;
 
 pub const LESS: u8 = 3;
-
-// The kinds of constants.
-pub const NUMBER: u8 = 0;
-
-pub const BOOLEAN: u8 = 1;
-
-pub const STRING: u8 = 2;

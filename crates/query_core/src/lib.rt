@@ -8,17 +8,16 @@ use language::Comparator;
 pub use layout::QUERY_BYTES;
 pub use query::is_query;
 pub use reading::expects_kind_at;
-pub use reading::follows_at;
 pub use reading::node_at;
 use text::Span;
+use values::Scalar;
 pub use writing::count_of;
 pub use writing::finish;
 pub use writing::put_node;
 
-// A constant by its kind: a number with 10^15 added, a truth value, or where a string lies in a text.
+// A constant: the kind and the code of a scalar, or where a string lies in a text.
 pub enum Constant {
-    Number(u64),
-    Boolean(bool),
+    Scalar(Scalar, u64),
     String(Span),
 }
 
@@ -62,7 +61,6 @@ pub struct Slot {
     pub tag: u8,
     pub comparator: u8,
     pub kind: u8,
-    pub truth: u8,
     pub first: Span,
     pub second: Span,
     pub number: u64,

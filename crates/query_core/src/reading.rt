@@ -15,14 +15,18 @@ use tables::widen;
 use text::Span;
 use text::byte_at;
 use text::part;
+use values::Kind;
+use values::in_range;
 use values::is_name;
 use values::is_namespace;
 use values::is_property_name;
 use values::is_value;
+use values::kind_code;
+use values::kind_from;
 ghost use mathlib.Core.Path.{_≡_};
 ghost use Rattle.text.specs.Bytes.{part as partFrom};
 ghost use Rattle.query_core.specs.Held.{slot, comparatorFrom, slotFrom, slotIn, heapIn, nodeOf, nodeIn};
-ghost use Rattle.query_core.specs.Reading.{comparatorRead, chosen, selected, joining, ConstantReads, ReadsNode, followsLinks, expectsKind, TestsNode};
+ghost use Rattle.query_core.specs.Reading.{comparatorRead, chosen, selected, joining, ConstantReads, ReadsNode, expectsKind, TestsNode};
 
 // The comparator of a code.
 fn comparator_from(code: u8) -> ComparatorRead
@@ -52,23 +56,22 @@ fn chosen_if(fit: bool, c: Constant) -> ConstantRead
 fn constant_from(heap: &[u8], x: Slot) -> ConstantRead
     ensures { λ r. ⌜ ConstantReads (now (heap .entry)) x r ⌝ }
 {
-    let kind = x.kind;
+    let kind = kind_from(x.kind);
+    if kind_code(kind) != x.kind {
+        return ConstantRead::Nothing;
+    }
     match kind {
-        layout::NUMBER => {
+        Kind::Page => ConstantRead::Nothing,
+        Kind::Scalar(k) => {
             let n = x.number;
-            let fit = (0 < n) & (n < 2_000_000_000_000_000);
-            chosen_if(fit, Constant::Number(n))
+            let fit = in_range(k, n);
+            chosen_if(fit, Constant::Scalar(k, n))
         }
-        layout::BOOLEAN => {
-            let b = x.truth;
-            chosen_if(b <= 1, Constant::Boolean(b == 1))
-        }
-        layout::STRING => {
+        Kind::String => {
             let p = x.second;
             let fit = is_value(part(heap, p.start, p.len));
             chosen_if(fit, Constant::String(p))
         }
-        _ => ConstantRead::Nothing,
     }
 }
 
@@ -115,7 +118,6 @@ fn slot_from(b: &[u8]) -> Slot
         tag: byte_at(b, 0),
         comparator: byte_at(b, 1),
         kind: byte_at(b, 2),
-        truth: byte_at(b, 3),
         first,
         second,
         number: eight_at(b, 12),
@@ -220,13 +222,6 @@ fn tag_at(h: &[u8], i: usize) -> u8
     ensures { λ r. ⌜ r ≡ slotIn (now (h .entry)) i .tag ⌝ }
 {
     byte_at(slot_bytes(h, i), 0)
-}
-
-// Whether the node in a place is a subquery: by its tag alone.
-pub fn follows_at(h: &[u8], i: usize) -> bool
-    ensures { λ r. ⌜ TestsNode followsLinks (nodeIn (now (h .entry)) i) r ⌝ }
-{
-    tag_at(h, i) == layout::SUBQUERY
 }
 
 // Whether the node in a place is a subquery or a value comparison: by its tag alone.

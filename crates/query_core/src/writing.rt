@@ -14,6 +14,8 @@ use buffer::put_two;
 use language::Comparator;
 use text::Span;
 use text::part;
+use values::Kind;
+use values::kind_code;
 ghost use mathlib.Core.Path.{_≡_};
 ghost use Rattle.buffer.specs.Writing.{written};
 ghost use Rattle.query_core.specs.Form.{comparatorCode, tagged, headBytes, spanBytes, slotBytes};
@@ -39,7 +41,6 @@ fn tagged_slot(tag: u8, comparator: u8, first: Span, second: Span) -> Slot
         tag,
         comparator,
         kind: 0,
-        truth: 0,
         first,
         second,
         number: 0,
@@ -52,11 +53,7 @@ fn constant_strings(first: Span, k: Constant) -> Strings
 {
     let none = Span { start: 0, len: 0 };
     match k {
-        Constant::Number(_) => Strings {
-            first,
-            second: none,
-        },
-        Constant::Boolean(_) => Strings {
+        Constant::Scalar(_, _) => Strings {
             first,
             second: none,
         },
@@ -120,32 +117,18 @@ fn constant_slot(code: u8, k: Constant, p: Span, q: Span) -> Slot
 {
     let none = Span { start: 0, len: 0 };
     match k {
-        Constant::Number(n) => Slot {
+        Constant::Scalar(j, n) => Slot {
             tag: layout::VALUE,
             comparator: code,
-            kind: layout::NUMBER,
-            truth: 0,
+            kind: kind_code(Kind::Scalar(j)),
             first: p,
             second: none,
             number: n,
         },
-        Constant::Boolean(b) => {
-            let truth: u8 = if b { 1 } else { 0 };
-            Slot {
-                tag: layout::VALUE,
-                comparator: code,
-                kind: layout::BOOLEAN,
-                truth,
-                first: p,
-                second: none,
-                number: 0,
-            }
-        }
         Constant::String(_) => Slot {
             tag: layout::VALUE,
             comparator: code,
-            kind: layout::STRING,
-            truth: 0,
+            kind: kind_code(Kind::String),
             first: p,
             second: q,
             number: 0,
@@ -182,7 +165,7 @@ fn slot_of(node: Node, p: Span, q: Span) -> Slot
     }
 }
 
-// Writes a slot's first four numbers, a byte each, as far as there is room.
+// Writes a slot's first three numbers, a byte each, and a byte 0, as far as there is room.
 fn put_head(h: &mut [u8], at: usize, x: Slot)
     ensures { λ _. ⌜ now (h .exit) ≡ written (now (h .entry)) at (headBytes x) ⌝ }
 {
@@ -192,7 +175,7 @@ fn put_head(h: &mut [u8], at: usize, x: Slot)
     put_byte(h, at, x.tag);
     put_byte(h, at + 1, x.comparator);
     put_byte(h, at + 2, x.kind);
-    put_byte(h, at + 3, x.truth);
+    put_byte(h, at + 3, 0);
 }
 
 // Writes a place, two bytes a number, as far as there is room.

@@ -3,11 +3,29 @@ use borrow.Author.Needs.{needs}
 use Rattle.query_core.proofs.reading.constant_from.Statement.{statement}
 use Rattle.query_core.proofs.reading.constant_from.Tie as tie
 
+kind-from-requires : tie.Need-kind-from-requires
+kind-from-requires c κs = search needs
+
+kind-code-requires : tie.Need-kind-code-requires
+kind-code-requires c κs = search needs
+
+returns : tie.Need-returns
+returns c = search (constants, needs)
+
+enum-told : tie.Need-enum-told
+enum-told c = search needs
+
+enum-known-kind : tie.Need-enum-known-kind
+enum-known-kind c = search needs
+
+in-range-requires : tie.Need-in-range-requires
+in-range-requires c κs = search needs
+
 chosen-if-requires : tie.Need-chosen-if-requires
 chosen-if-requires c κs = search needs
 
-chosen-if-requires-2 : tie.Need-chosen-if-requires-2
-chosen-if-requires-2 c κs = search needs
+enum-told-2 : tie.Need-enum-told-2
+enum-told-2 c = search needs
 
 part-requires : tie.Need-part-requires
 part-requires c κs = search needs
@@ -15,31 +33,33 @@ part-requires c κs = search needs
 is-value-requires : tie.Need-is-value-requires
 is-value-requires c κs = search needs
 
-chosen-if-requires-3 : tie.Need-chosen-if-requires-3
-chosen-if-requires-3 c κs = search needs
-
-returns : tie.Need-returns
-returns c = search constants
+chosen-if-requires-2 : tie.Need-chosen-if-requires-2
+chosen-if-requires-2 c κs = search needs
 
 returns-2 : tie.Need-returns-2
-returns-2 c = search constants
+returns-2 c = search (constants, needs)
 
 returns-3 : tie.Need-returns-3
-returns-3 c = search constants
+returns-3 c = search (constants, needs)
 
 returns-4 : tie.Need-returns-4
-returns-4 c = search constants
+returns-4 c = search (constants, needs)
 
 pub constant-from-spec : {M : Type 1} → statement M
 constant-from-spec =
     tie.close
     (tie.spec
+    kind-from-requires
+    kind-code-requires
+    returns
+    enum-told
+    enum-known-kind
+    in-range-requires
     chosen-if-requires
-    chosen-if-requires-2
+    enum-told-2
     part-requires
     is-value-requires
-    chosen-if-requires-3
-    returns
+    chosen-if-requires-2
     returns-2
     returns-3
     returns-4)

@@ -18,9 +18,6 @@ byte-at-requires-2 c κs = search needs
 byte-at-requires-3 : tie.Need-byte-at-requires-3
 byte-at-requires-3 c κs = search needs
 
-byte-at-requires-4 : tie.Need-byte-at-requires-4
-byte-at-requires-4 c κs = search needs
-
 eight-at-requires : tie.Need-eight-at-requires
 eight-at-requires c κs = search needs
 
@@ -37,6 +34,5 @@ slot-from-spec =
     byte-at-requires
     byte-at-requires-2
     byte-at-requires-3
-    byte-at-requires-4
     eight-at-requires
     returns)

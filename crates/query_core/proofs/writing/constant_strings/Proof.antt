@@ -5,9 +5,6 @@ use Rattle.query_core.proofs.writing.constant_strings.Tie as tie
 enum-told : tie.Need-enum-told
 enum-told c = search needs
 
-enum-told-2 : tie.Need-enum-told-2
-enum-told-2 c = search needs
-
 enum-known-k : tie.Need-enum-known-k
 enum-known-k c = search needs
 
@@ -15,11 +12,7 @@ returns : tie.Need-returns
 returns c = rw (c .enum-told .given .1)
 
 returns-2 : tie.Need-returns-2
-returns-2 c = rw (c .enum-told2 .given .1)
-
-returns-3 : tie.Need-returns-3
-returns-3 c = rw (c .before .k .given .1)
+returns-2 c = rw (c .before .k .given .1)
 
 pub constant-strings-spec : {M : Type 1} → statement M
-constant-strings-spec =
-    tie.close (tie.spec enum-told enum-told-2 enum-known-k returns returns-2 returns-3)
+constant-strings-spec = tie.close (tie.spec enum-told enum-known-k returns returns-2)
