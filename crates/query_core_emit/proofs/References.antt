@@ -8,6 +8,7 @@ use Rattle.text.specs.Bytes.{Bytes}
 use Rattle.text.specs.Parts.{partOf}
 use Rattle.text.specs.declared.Span.{Span}
 use Rattle.values.specs.declared.Kind.{Kind}
+use Rattle.values.specs.declared.Scalar.{Scalar}
 use Rattle.values.specs.declared.Split.{Split}
 use Rattle.values.specs.Names.{reference, isReference}
 use Rattle.values.specs.Values.{mapOption, readConstant}
@@ -148,16 +149,12 @@ module _ (s : Bytes) (x p : Span) (c : SurfaceComparator) (h : Bytes) (at : Plac
     page-value e d = rw e d
 
     module _ (d : Read k r h′) where
-      pub number-value : k ≡ Kind.Number → Valued k r h′
+      pub scalar-value : (j : Scalar) → k ≡ Kind.Scalar j → Valued k r h′
       unfolding elaborateValue
-      number-value e = rw e (rw e at d)
-
-      pub boolean-value : k ≡ Kind.Boolean → Valued k r h′
-      unfolding elaborateValue
-      boolean-value e = rw e (rw e at d)
+      scalar-value j e = rw e (rw e at d)
 
       pub string-value : k ≡ Kind.String → Valued k r h′
       unfolding elaborateValue
       string-value e = rw e (rw e at d)
 
-pub ruleset emission = (link-unfit, link-emits, constant-unfit, constant-emits, page-value, number-value, boolean-value, string-value)
+pub ruleset emission = (link-unfit, link-emits, constant-unfit, constant-emits, page-value, scalar-value, string-value)

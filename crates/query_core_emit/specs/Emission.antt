@@ -4,14 +4,13 @@ use mathlib.Core.Path.{_≡_}
 use mathlib.Core.Bool.{Bool, true, false, cond}
 use mathlib.Core.List.{List, _++_}
 use mathlib.Core.Option.{Option, some, none}
-use lib.IntN.{ℤ}
 use Rattle.text.specs.Bytes.{Bytes}
 use Rattle.text.specs.Parts.{partOf}
 use Rattle.text.specs.declared.Span.{Span}
 use Rattle.values.specs.declared.Kind.{Kind}
 use Rattle.values.specs.declared.Split.{Split}
-use Rattle.values.specs.Values.{readNumber, readBoolean}
-use Rattle.values.specs.Answers.{biased}
+use Rattle.values.specs.declared.Scalar.{Scalar}
+use Rattle.values.specs.Values.{readScalar}
 use Rattle.language.specs.Core.{Core}
 use Rattle.language.specs.Core as Core
 use Rattle.language.specs.declared.Comparator.{Comparator}
@@ -68,16 +67,11 @@ scopeOf SurfaceComparator.AtLeast r = writtenScope r Scope.Any
 scopeOf SurfaceComparator.AtMost r = writtenScope r Scope.Any
 
 -- The constant that the piece at p writes in a kind.
-abbrev pub numberConstant : Option ℤ → ConstantRead
-numberConstant none = ConstantRead.Nothing
-numberConstant (some z) = ConstantRead.Is (Constant.Number (biased z))
-
-abbrev pub booleanConstant : Option Bool → ConstantRead
-booleanConstant none = ConstantRead.Nothing
-booleanConstant (some b) = ConstantRead.Is (Constant.Boolean b)
+abbrev pub scalarConstant : Scalar → Option ℕ → ConstantRead
+scalarConstant k none = ConstantRead.Nothing
+scalarConstant k (some n) = ConstantRead.Is (Constant.Scalar k n)
 
 unfoldable pub constantIn : Bytes → Span → Kind → ConstantRead
 constantIn s p Kind.Page = ConstantRead.Nothing
-constantIn s p Kind.Number = numberConstant (readNumber (partOf s p))
-constantIn s p Kind.Boolean = booleanConstant (readBoolean (partOf s p))
+constantIn s p (Kind.Scalar k) = scalarConstant k (readScalar k (partOf s p))
 constantIn s p Kind.String = ConstantRead.Is (Constant.String p)

@@ -211,8 +211,7 @@ pub fn put_value(
 {
     match kind {
         Kind::Page => put_link(s, held, at, name, c, p),
-        Kind::Number => put_constant(s, held, at, name, c, p, kind),
-        Kind::Boolean => put_constant(s, held, at, name, c, p, kind),
+        Kind::Scalar(_) => put_constant(s, held, at, name, c, p, kind),
         Kind::String => put_constant(s, held, at, name, c, p, kind),
     }
 }

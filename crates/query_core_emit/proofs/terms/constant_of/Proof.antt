@@ -9,20 +9,20 @@ part-requires c κs = search needs
 enum-told : tie.Need-enum-told
 enum-told c = search needs
 
+enum-known-kind : tie.Need-enum-known-kind
+enum-known-kind c = search needs
+
+read-scalar-requires : tie.Need-read-scalar-requires
+read-scalar-requires c κs = search needs
+
+enum-known-n : tie.Need-enum-known-n
+enum-known-n c = search needs
+
 enum-told-2 : tie.Need-enum-told-2
 enum-told-2 c = search needs
 
-number-of-requires : tie.Need-number-of-requires
-number-of-requires c κs = search needs
-
 enum-told-3 : tie.Need-enum-told-3
 enum-told-3 c = search needs
-
-boolean-of-requires : tie.Need-boolean-of-requires
-boolean-of-requires c κs = search needs
-
-enum-told-4 : tie.Need-enum-told-4
-enum-told-4 c = search needs
 
 returns : tie.Need-returns
 returns c = search (constants, needs)
@@ -42,11 +42,11 @@ constant-of-spec =
     (tie.spec
     part-requires
     enum-told
+    enum-known-kind
+    read-scalar-requires
+    enum-known-n
     enum-told-2
-    number-of-requires
     enum-told-3
-    boolean-of-requires
-    enum-told-4
     returns
     returns-2
     returns-3

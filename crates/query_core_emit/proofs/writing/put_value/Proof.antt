@@ -21,12 +21,6 @@ enum-told-3 c = search needs
 put-constant-requires-2 : tie.Need-put-constant-requires-2
 put-constant-requires-2 c κs = search needs
 
-enum-told-4 : tie.Need-enum-told-4
-enum-told-4 c = search needs
-
-put-constant-requires-3 : tie.Need-put-constant-requires-3
-put-constant-requires-3 c κs = search needs
-
 same-length : tie.Need-same-length
 same-length c = search needs
 
@@ -45,12 +39,6 @@ same-length-3 c = search needs
 returns-3 : tie.Need-returns-3
 returns-3 c = search (emission, needs)
 
-same-length-4 : tie.Need-same-length-4
-same-length-4 c = search needs
-
-returns-4 : tie.Need-returns-4
-returns-4 c = search (emission, needs)
-
 pub put-value-spec : {M : Type 1} → statement M
 put-value-spec =
     tie.close
@@ -61,13 +49,9 @@ put-value-spec =
     put-constant-requires
     enum-told-3
     put-constant-requires-2
-    enum-told-4
-    put-constant-requires-3
     same-length
     returns
     same-length-2
     returns-2
     same-length-3
-    returns-3
-    same-length-4
-    returns-4)
+    returns-3)
