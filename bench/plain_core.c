@@ -29,10 +29,9 @@ static void write_node(const struct node *node, uint8_t *at, struct heap *heap) 
     at[1] = (uint8_t)node->comparator;
     if (node->tag > OR) put_string(at + (node->tag == ARTICLE ? 8 : 4), node->name, heap);
     if (node->tag != VALUE) return;
-    at[2] = (uint8_t)(node->constant.kind - NUMBER);
-    if (node->constant.kind == BOOLEAN) at[3] = (uint8_t)node->constant.code;
+    at[2] = (uint8_t)node->constant.kind;
     if (node->constant.kind == STRING) put_string(at + 8, node->constant.string, heap);
-    if (node->constant.kind == NUMBER) put_eight(at + 12, node->constant.code);
+    else put_eight(at + 12, node->constant.code);
 }
 
 /* A name has at most 64 bytes and so has a string, so that the heap has room for those of 256 nodes. */
@@ -46,14 +45,14 @@ void write_query(const struct core *core, uint8_t *held) {
 }
 
 static bool read_constant(const uint8_t *at, struct span heap, struct value *out) {
-    if (at[2] > STRING - NUMBER) return false;
-    out->kind = (enum kind)(NUMBER + at[2]);
-    out->code = out->kind == BOOLEAN ? at[3] : eight(at + 12);
+    out->kind = (enum kind)at[2];
+    out->code = eight(at + 12);
     out->string = span_at(at + 8, heap);
-    switch (out->kind) {
+    switch (at[2]) {
     case NUMBER: return 0 < out->code && out->code < 2 * BIAS;
     case BOOLEAN: return out->code <= 1;
-    default: return is_value(out->string);
+    case STRING: return is_value(out->string);
+    default: return false;
     }
 }
 

@@ -2,8 +2,8 @@
 import struct
 
 from register import is_register, page_of, register_of
+from values import BIAS, KINDS, SCALARS, code_of, scalar_of
 
-KINDS = [b'page', b'number', b'boolean', b'string']
 MOST_PROPS, MOST_PAGES, MOST_FORMS, MOST_TERMS, MOST_TEXTS, MOST_BYTES = 64, 256, 2048, 2048, 2368, 35136
 PROPS = 8
 PAGES = PROPS + 3 * MOST_PROPS
@@ -13,7 +13,6 @@ TERMS = FORMS + 2 * MOST_FORMS
 TEXTS = TERMS + 9 * MOST_TERMS
 BYTES = TEXTS + 2 * (MOST_TEXTS + 1)
 SIZE = BYTES + MOST_BYTES
-BIAS = 10 ** 15
 
 
 def two(number):
@@ -74,12 +73,7 @@ class Terms:
         self.texts, self.groups = texts, {name: place + 1 for place, name in enumerate(register.kinds)}
 
     def value(self, prop, value):
-        kind, what = value
-        if kind == b'number':
-            return term_bytes(self.groups[prop], BIAS + what)
-        if kind == b'boolean':
-            return term_bytes(self.groups[prop], int(what))
-        return term_bytes(self.groups[prop], self.texts[value_text(value)])
+        return term_bytes(self.groups[prop], code_of(value) if value[0] in SCALARS else self.texts[value_text(value)])
 
     def page(self, page):
         categories = [term_bytes(0, self.texts[text_of(b'', name)]) for name in page.categories]
@@ -155,10 +149,10 @@ def name_in(text):
 
 
 def value_in(kind, code, texts):
-    if kind == b'number':
-        return kind, code - BIAS
-    if kind == b'boolean':
-        return kind, at_number([False, True], code)
+    if kind in SCALARS:
+        value = scalar_of(kind, code)
+        need(value)
+        return value
     text = at_number(texts, code)
     return kind, parts_of(text) if kind == b'page' else name_in(text)
 

@@ -1,14 +1,12 @@
 """Held queries by docs/LAYOUT.md: written from a core query, and read back by the rules."""
 from core import And, Article, Category, Existence, InNamespace, Or, Subquery, Value
-from values import is_name, is_namespace, is_property_name, is_value
+from values import KINDS, SCALARS, code_of, is_name, is_namespace, is_property_name, is_value, scalar_of
 
 NODE, MOST_NODES, MOST_HEAP = 20, 256, 16448
 NODES = 2  # where the nodes begin
 HEAP = NODES + NODE * MOST_NODES
 SIZE = HEAP + MOST_HEAP
-BIAS = 10 ** 15
 COMPARATORS = ['=', '!=', '>', '<']
-KINDS = [b'number', b'boolean', b'string']
 
 
 def two(number):
@@ -47,10 +45,8 @@ def node_bytes(node, heap):
     if tag == 7:
         kind, value = node.constant
         out[2] = KINDS.index(kind)
-        if kind == b'number':
-            out[12:20] = (value + BIAS).to_bytes(8, 'little')
-        elif kind == b'boolean':
-            out[3] = value
+        if kind in SCALARS:
+            out[12:20] = code_of(node.constant).to_bytes(8, 'little')
         else:
             out[8:12] = heap.span(value)
     return bytes(out)
@@ -70,14 +66,13 @@ def kept(rule, text):
 
 
 def read_constant(slot, string):
-    kind, number = KINDS[slot[2]], int.from_bytes(slot[12:20], 'little')
+    kind = KINDS[slot[2]]
     if kind == b'string':
         return kind, kept(is_value, string)
-    if kind == b'boolean':
-        return kind, [False, True][slot[3]]
-    if not 0 < number < 2 * BIAS:
+    constant = scalar_of(kind, int.from_bytes(slot[12:20], 'little'))
+    if constant is None:
         raise ValueError
-    return kind, number - BIAS
+    return constant
 
 
 def put_node(stack, slot, first, second):

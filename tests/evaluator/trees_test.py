@@ -50,7 +50,7 @@ def trees_by_hand(tally):
 
 def query_by_hand(tally):
     core = query_call(register_from(SAMPLE), b'[[Lot::>A7]] OR [[Crates::-3]] [[Brought by::Talk:D]]')[1]
-    rows = [[7, 2, 2, 0, 0, 0, 3, 0, 3, 0, 2, 0], [7, 0, 2, 0, 5, 0, 3, 0, 8, 0, 2, 0], [1], [7, 0, 0, 0, 10, 0, 6, 0, 0, 0, 0, 0],
+    rows = [[7, 2, 3, 0, 0, 0, 3, 0, 3, 0, 2, 0], [7, 0, 3, 0, 5, 0, 3, 0, 8, 0, 2, 0], [1], [7, 0, 1, 0, 10, 0, 6, 0, 0, 0, 0, 0],
             [3, 0, 0, 0, 16, 0, 4, 0], [6, 0, 0, 0, 0, 0, 0, 0, 20, 0, 1, 0], [0], [5, 0, 0, 0, 21, 0, 10, 0], [0], [1]]
     number = (10 ** 15 - 3).to_bytes(8, 'little')
     placed = [(query_form.NODES + query_form.NODE * at, bytes(row)) for at, row in enumerate(rows)]

@@ -3,6 +3,9 @@ import re
 from functools import lru_cache
 
 BLANKS = b' \n'
+KINDS = [b'page', b'number', b'boolean', b'string']  # by their bytes in held forms
+BIAS = 10 ** 15
+SCALARS = {b'number': range(1, 2 * BIAS), b'boolean': range(2)}  # the codes of each
 NUMBER = re.compile(rb'-?[0-9]{1,15}')
 BOOLEANS = {b'true': True, b'yes': True, b'1': True, b'false': False, b'no': False, b'0': False}
 
@@ -56,6 +59,19 @@ def read_value(kind, text):
         namespace, name = read_reference(text)
         return kind, (namespace or b'', name)
     return None
+
+
+def code_of(value):
+    """The code of a scalar: a number with 10^15 added, a boolean as 0 or 1."""
+    kind, what = value
+    return BIAS + what if kind == b'number' else int(what)
+
+
+def scalar_of(kind, code):
+    """The scalar of a code, or None where the kind has no such code."""
+    if code not in SCALARS.get(kind, ()):
+        return None
+    return kind, code - BIAS if kind == b'number' else code == 1
 
 
 def spelling(value):
