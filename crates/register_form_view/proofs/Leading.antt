@@ -12,11 +12,11 @@ use Rattle.text.specs.Bytes.{Bytes, orderOf, any}
 use Rattle.text.specs.Parts.{partOf}
 use Rattle.text.specs.Table.{bit}
 use Rattle.values.specs.Names.{Identifier, sameIdentifier}
-use Rattle.values.specs.Values.{scalar, string, Value, plain, link, kindOf, base}
+use Rattle.values.specs.Values.{scalar, string, Value, plain, link, kindOf}
 use Rattle.values.proofs.Sameness.{identifier-eq, identifier-refl}
 use Rattle.language.specs.Register.{Held, Page, Register, leads, distinct, samePage}
 use Rattle.language.specs.RegisterText.{emptyPage}
-use Rattle.language.specs.Rules.{magnitude, isStorable}
+use Rattle.language.specs.Rules.{isStorable}
 use Rattle.language.specs.Semantics.{stands, Cv, follows, noMixed}
 use Rattle.language.specs.declared.Comparator.{Comparator}
 use Rattle.language.proofs.Members.{and-true, any-at, any-none, by-test}
@@ -25,12 +25,12 @@ use Rattle.query_core.specs.declared.Constant.{Constant}
 use Rattle.sorting.specs.Ascending.{rank}
 use Rattle.sorting.proofs.Canonical.{same-truth}
 use Rattle.buffer.specs.Numbers.{twoAt, eightAt}
-use Rattle.register_form.specs.Dictionary.{Dictionary, nameOf, identifierOf, termCode, numberFrom}
+use Rattle.register_form.specs.Dictionary.{Dictionary, nameOf, identifierOf, termCode}
 use Rattle.register_form.specs.Encoding.{plainText, identifierText, valueTexts, textsOf, valueCode, valueTerm, termsOf, encodePage, encode}
 use Rattle.register_form.specs.Form.{termAt, textAt, dictionaryIn}
 use Rattle.register_form.specs.Opened.{pageIn, next, placeOf, Places, Opened}
 use Rattle.register_form.proofs.Lists.{number-back, number-small}
-use Rattle.register_form.proofs.Codes.{space-back, name-back, number-of-code}
+use Rattle.register_form.proofs.Codes.{space-back, name-back}
 use Rattle.register_form.proofs.Rules.{value-kept, texts-few}
 use Rattle.register_form.proofs.Decoded.{page-text, value-text, texts-up, terms-up, value-code}
 use Rattle.register_form_view.specs.Ranges.{ConstantRank, nameOrder, termNumber}
@@ -44,10 +44,6 @@ use Rattle.register_form_view.proofs.Covering.{value-in}
 low-bytes : (t : Bytes) → termCode t < 65536 → twoAt t 1 ≡ termCode t
 unfolding eightAt
 low-bytes t l = omega arith
-
-bit-back : (b : Bool) → eqb (bit b) 1 ≡ b
-bit-back true = refl
-bit-back false = refl
 
 ident-back : (i : Identifier) → identifierOf (identifierText i) ≡ i
 ident-back i = λ j. record { namespace = space-back (i .namespace) (i .article) j; article = name-back (i .namespace) (i .article) j }
@@ -82,8 +78,7 @@ module _ {h : Bytes} {R : Register} (d : Known h R) {p : Page} {v : Held} (m : L
   value-there = go (v .value) refl code-there (value-kept R (d .keeps) m n) (value-text R m n)
     where
       go : (u : Value) → v .value ≡ u → termCode (termAt h form) ≡ valueCode (textsOf R) u → isStorable u ≡ true → ((t : Bytes) → List·Memᴰ t (valueTexts u) → List·Memᴰ t (textsOf R)) → valueAt h (kindOf u) form ≡ u
-      go (plain (number z)) e c s texts = ap (λ (a : ℤ). plain (number a)) (ap numberFrom c ∙ number-of-code z (ltb-true (magnitude z) base s))
-      go (plain (boolean b)) e c s texts = ap (λ (a : Bool). plain (boolean a)) (ap (λ (j : ℕ). eqb j 1) c ∙ bit-back b)
+      go (plain (scalar k n)) e c s texts = ap (λ (j : ℕ). plain (scalar k j)) c
       go (plain (string s)) e c k texts =
           ap (λ (a : Bytes). plain (string (nameOf a))) (text-there (plainText s) (ap (valueCode (textsOf R)) e) (texts (plainText s) (List·Memᴰ·head refl)))
           ∙ ap (λ (a : Bytes). plain (string a)) (name-back [] s)
@@ -97,8 +92,7 @@ module _ {h : Bytes} {R : Register} (d : Known h R) {p : Page} {v : Held} (m : L
   stands-there q r c w f = go (v .value) refl value-there (value-text R m n) w f
     where
       go : (u : Value) → v .value ≡ u → valueAt h (kindOf u) form ≡ u → ((t : Bytes) → List·Memᴰ t (valueTexts u) → List·Memᴰ t (textsOf R)) → (w : Constant) → ConstantRank h q w r → standsAt h q r c w (kindOf u) form ≡ Cv noMixed c (constantBy q w) u
-      go u e at texts (Constant.Number b) f = ap (Cv noMixed c (constantBy q (Constant.Number b))) at
-      go u e at texts (Constant.Boolean b) f = ap (Cv noMixed c (constantBy q (Constant.Boolean b))) at
+      go u e at texts (Constant.Scalar j b) f = ap (Cv noMixed c (constantBy q (Constant.Scalar j b))) at
       go (plain (scalar k c)) e at texts (Constant.String p) f = refl
       go (link i) e at texts (Constant.String p) f = refl
       go (plain (string s)) e at texts (Constant.String p) f =

@@ -3,10 +3,10 @@ use Prim.Native.Nat.{ℕ, zero, suc, _+_, _*_, _-_, _/_, _≤_, _<_}
 use mathlib.Core.Path.{_≡_, refl, sym, ap, ap₂, _∙_}
 use mathlib.Core.Bool.{Bool, true, false, cond, _&&_, _||_, or-false}
 use mathlib.Core.List.{List, [], _∷_}
+use mathlib.Core.Option.{some, none}
 use native.Mathlib.Omega.{arith}
 use borrow.Author.Tests.{ltb-true, ltb-false, lt-ltb, le-ltb, le-leb, lt-leb}
 use lib.Dec.{leb, ltb, eqb}
-use lib.IntN.{pos, negsuc, subℕ}
 use lib.ListN.{length, getD}
 use Rattle.text.specs.Bytes.{Bytes, part, numbers, orderOf, any}
 use Rattle.text.specs.Parts.{partOf}
@@ -15,12 +15,14 @@ use Rattle.text.specs.declared.Order.{Order}
 use Rattle.text.specs.declared.Span.{Span}
 use Rattle.text.proofs.Laws.{numbers-less, numbers-greater, numbers-like, any-append}
 use Rattle.values.specs.declared.Kind.{Kind}
-use Rattle.values.specs.Values.{orderNumbers, orderBooleans, base}
+use Rattle.values.specs.declared.Scalar.{Scalar}
+use Rattle.values.specs.Values.{sameScalar}
+use Rattle.language.specs.Answer.{found}
 use Rattle.language.specs.Semantics.{stands, Cv}
 use Rattle.language.specs.declared.Comparator.{Comparator}
 use Rattle.query_core.specs.declared.Constant.{Constant}
 use Rattle.buffer.specs.Numbers.{twoAt}
-use Rattle.register_form.specs.Dictionary.{nameOf, termCode, numberFrom}
+use Rattle.register_form.specs.Dictionary.{nameOf, termCode}
 use Rattle.register_form.specs.Form.{termAt, textAt}
 use Rattle.register_form_view.specs.Ranges.{nameOrder}
 use Rattle.register_form_view.specs.View.{textNumber, standsAt, marked, leadsInto, formBytes, numbersIn}
@@ -32,17 +34,6 @@ pub number-of-text : (h : Bytes) (f : ℕ) (t : Bytes) (r : ℕ) → t ≡ termA
 unfolding textNumber
 number-of-text h f t r e g = g ∙ ap (λ (u : Bytes). twoAt u 1) e
 
--- Numbers with 10^15 added stand as the numbers do.
-order-codes : (a b : ℕ) → numbers a b ≡ orderNumbers (numberFrom a) (subℕ b base)
-unfolding numberFrom
-order-codes a b = go (ltb a base) refl (ltb b base) refl
-  where
-    go : (s : Bool) → ltb a base ≡ s → (t : Bool) → ltb b base ≡ t → numbers a b ≡ orderNumbers (cond s (negsuc (base - suc a)) (pos (a - base))) (cond t (negsuc (base - suc b)) (pos (b - base)))
-    go true e true f = let k = ltb-true a base e in let l = ltb-true b base f in numbers-like a b (base - suc b) (base - suc a) (λ x. omega arith, λ x. omega arith) (λ x. omega arith, λ x. omega arith)
-    go true e false f = let k = ltb-true a base e in let l = ltb-false b base f in numbers-less a b (omega arith)
-    go false e true f = let k = ltb-false a base e in let l = ltb-true b base f in numbers-greater a b (omega arith)
-    go false e false f = let k = ltb-false a base e in let l = ltb-false b base f in numbers-like a b (a - base) (b - base) (λ x. omega arith, λ x. omega arith) (λ x. omega arith, λ x. omega arith)
-
 -- value_stands
 module _ (h : Bytes) (f : ℕ) (k : Kind) (c : Comparator) (w : Constant) (q : Bytes) (rank : Rank) where
   abbrev Stands : Bool → Type 0
@@ -53,44 +44,26 @@ module _ (h : Bytes) (f : ℕ) (k : Kind) (c : Comparator) (w : Constant) (q : B
   stands-page e = rw e (go w)
     where
       go : (w : Constant) → false ≡ standsAt h q rank c w Kind.Page f
-      go (Constant.Number b) = refl
-      go (Constant.Boolean b) = refl
+      go (Constant.Scalar j b) = refl
       go (Constant.String p) = refl
 
-  module _ (e : k ≡ Kind.Number) where
-    pub stands-number : (a b : ℕ) (o : Order) (r : Bool) → w ≡ Constant.Number b → a ≡ termCode (termAt h f) → o ≡ numbers a b → r ≡ stands c o → Stands r
+  module _ (j : Scalar) (e : k ≡ Kind.Scalar j) where
+    pub stands-scalar : (l : Scalar) (a b : ℕ) (o : Order) (s r : Bool) → w ≡ Constant.Scalar l b → s ≡ sameScalar j l → a ≡ termCode (termAt h f) → o ≡ numbers a b → r ≡ stands c o → Stands (s && r)
     unfolding Cv
-    stands-number a b o r v is g u = rw (e, v) (u ∙ ap (stands c) (g ∙ order-codes a b ∙ ap (λ (n : ℕ). orderNumbers (numberFrom n) (subℕ b base)) is))
+    stands-scalar l a b o s r v same is g u = rw (e, v, same, u, g, is) (go (sameScalar j l))
+      where
+        go : (t : Bool) → (t && stands c (numbers (termCode (termAt h f)) b)) ≡ found (cond t (some (numbers (termCode (termAt h f)) b)) none) (stands c) false
+        go true = refl
+        go false = refl
 
-    pub number-boolean : (b : Bool) → w ≡ Constant.Boolean b → Stands false
+    pub scalar-string : (p : Span) → w ≡ Constant.String p → Stands false
     unfolding Cv
-    number-boolean b v = rw (e, v)
-
-    pub number-string : (p : Span) → w ≡ Constant.String p → Stands false
-    unfolding Cv
-    number-string p v = rw (e, v)
-
-  module _ (e : k ≡ Kind.Boolean) where
-    pub boolean-number : (b : ℕ) → w ≡ Constant.Number b → Stands false
-    unfolding Cv
-    boolean-number b v = rw (e, v)
-
-    pub stands-boolean : (a : ℕ) (b : Bool) (o : Order) (r : Bool) → w ≡ Constant.Boolean b → a ≡ termCode (termAt h f) → o ≡ orderBooleans (eqb a 1) b → r ≡ stands c o → Stands r
-    unfolding Cv
-    stands-boolean a b o r v is g u = rw (e, v) (u ∙ ap (stands c) (g ∙ ap (λ (n : ℕ). orderBooleans (eqb n 1) b) is))
-
-    pub boolean-string : (p : Span) → w ≡ Constant.String p → Stands false
-    unfolding Cv
-    boolean-string p v = rw (e, v)
+    scalar-string p v = rw (e, v)
 
   module _ (e : k ≡ Kind.String) where
-    pub string-number : (b : ℕ) → w ≡ Constant.Number b → Stands false
+    pub string-scalar : (l : Scalar) (b : ℕ) → w ≡ Constant.Scalar l b → Stands false
     unfolding Cv
-    string-number b v = rw (e, v)
-
-    pub string-boolean : (b : Bool) → w ≡ Constant.Boolean b → Stands false
-    unfolding Cv
-    string-boolean b v = rw (e, v)
+    string-scalar l b v = rw (e, v)
 
     module _ (p : Span) (n : ℕ) (o : Order) (r : Bool) (v : w ≡ Constant.String p) (is : n ≡ textNumber h f) (u : r ≡ stands c o) where
       stands-string : o ≡ nameOrder h (partOf q p) rank n → Stands r
@@ -102,7 +75,7 @@ module _ (h : Bytes) (f : ℕ) (k : Kind) (c : Comparator) (w : Constant) (q : B
       pub stands-compared : (x : Bytes) → rank .plain ≤ n → x ≡ part q (p .start) (p .len) → o ≡ orderOf (nameOf (textAt h n)) x → Stands r
       stands-compared x l lies g = stands-string (order-compared h (partOf q p) rank n o l (rw lies at g))
 
-pub ruleset standing = (number-of-text, stands-page, stands-number, number-boolean, number-string, boolean-number, stands-boolean, boolean-string, string-number, string-boolean, stands-ranked, stands-compared)
+pub ruleset standing = (number-of-text, stands-page, stands-scalar, scalar-string, string-scalar, stands-ranked, stands-compared)
 
 -- marked_at
 pub marked-none : (marks : List Bool) (place : ℕ) → place ≡ 0 → false ≡ marked marks place

@@ -14,6 +14,7 @@ use Rattle.text.specs.declared.Span.{Span}
 use Rattle.text.proofs.Laws.{order-eq, numbers-less, numbers-greater, numbers-equal}
 use Rattle.language.specs.Register.{Register}
 use Rattle.language.proofs.Members.{by-test}
+use Rattle.values.specs.declared.Scalar.{Scalar}
 use Rattle.query_core.specs.declared.Constant.{Constant}
 use Rattle.sorting.specs.Ascending.{isLess, isEqual, ascends, rank}
 use Rattle.sorting.proofs.Canonical.{less-is, equal-is}
@@ -129,13 +130,9 @@ module _ (h x : Bytes) where
 
 -- rank_for
 module _ (h q : Bytes) (w : Constant) (r : Rank) where
-  pub rank-number : (n : ℕ) → w ≡ Constant.Number n → ConstantRank h q w r
+  pub rank-scalar : (k : Scalar) (n : ℕ) → w ≡ Constant.Scalar k n → ConstantRank h q w r
   unfolding ConstantRank
-  rank-number n e = rw e tt
-
-  pub rank-boolean : (b : Bool) → w ≡ Constant.Boolean b → ConstantRank h q w r
-  unfolding ConstantRank
-  rank-boolean b e = rw e tt
+  rank-scalar k n e = rw e tt
 
   pub rank-string : (p : Span) (x : Bytes) → w ≡ Constant.String p → x ≡ part q (p .start) (p .len) → RankOf h x r → ConstantRank h q w r
   unfolding ConstantRank
@@ -151,7 +148,7 @@ module _ (h x : Bytes) (r : Rank) (n : ℕ) (o : Order) where
   unfolding nameOrder
   order-compared l g = rw (le-ltb n (r .plain) l) g
 
-pub ruleset ordering = (key-past, key-at, key-none, rank-few, rank-many, rank-number, rank-boolean, rank-string)
+pub ruleset ordering = (key-past, key-at, key-none, rank-few, rank-many, rank-scalar, rank-string)
 
 -- Of an opened register, by rank or not, the name of a text stands to x as it does.
 pub name-order : {h : Bytes} {R : Register} (d : Known h R) (x : Bytes) (r : Rank) → RankOf h x r → (t : Bytes) → List·Memᴰ t (textsOf R) → (s y : Bytes) → t ≡ labelled s y → nameOrder h x r (rank orderOf t (textsOf R)) ≡ orderOf y x

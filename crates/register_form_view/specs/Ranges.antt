@@ -58,8 +58,7 @@ RankOf h x r =
 
 -- The rank is that of the constant's string, if it is one.
 unfoldable pub ConstantRank : Bytes → Bytes → Constant → Rank → Type 0
-ConstantRank h q (Constant.Number n) r = Unit {0}
-ConstantRank h q (Constant.Boolean b) r = Unit {0}
+ConstantRank h q (Constant.Scalar k n) r = Unit {0}
 ConstantRank h q (Constant.String p) r = RankOf h (partOf q p) r
 
 -- How the name of text n stands to x: by x's rank, where it tells.

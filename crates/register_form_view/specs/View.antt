@@ -18,7 +18,7 @@ use Rattle.language.specs.declared.Comparator.{Comparator}
 use Rattle.query_core.specs.Reading.{constantBy}
 use Rattle.query_core.specs.declared.Constant.{Constant}
 use Rattle.buffer.specs.Numbers.{twoAt}
-use Rattle.register_form.specs.Dictionary.{nameOf, identifierOf, termCode, numberFrom}
+use Rattle.register_form.specs.Dictionary.{nameOf, identifierOf, termCode}
 use Rattle.register_form.specs.Form.{pageCount, formStart, registerIn, pageAt, termAt, textAt}
 use Rattle.register_form.specs.Opened.{pageIn}
 use Rattle.register_form_view.specs.Ranges.{nameOrder}
@@ -37,8 +37,7 @@ module _ (h : Bytes) where
   -- The value of a kind that term f is.
   abbrev pub valueAt : Kind → ℕ → Value
   valueAt Kind.Page f = link (identifierOf (textAt h (textNumber f)))
-  valueAt Kind.Number f = plain (number (numberFrom (termCode (termAt h f))))
-  valueAt Kind.Boolean f = plain (boolean (eqb (termCode (termAt h f)) 1))
+  valueAt (Kind.Scalar k) f = plain (scalar k (termCode (termAt h f)))
   valueAt Kind.String f = plain (string (nameOf (textAt h (textNumber f))))
 
 -- The value of a kind that term f is stands to a constant; a string by the rank of the constant's.
@@ -46,8 +45,7 @@ abbrev pub standsAt : Bytes → Bytes → Rank → Comparator → Constant → K
 standsAt h q r c (Constant.String p) Kind.String f = stands c (nameOrder h (partOf q p) r (textNumber h f))
 standsAt h q r c (Constant.String p) Kind.Page f = false
 standsAt h q r c (Constant.String p) (Kind.Scalar k) f = false
-standsAt h q r c (Constant.Number b) k f = Cv noMixed c (constantBy q (Constant.Number b)) (valueAt h k f)
-standsAt h q r c (Constant.Boolean b) k f = Cv noMixed c (constantBy q (Constant.Boolean b)) (valueAt h k f)
+standsAt h q r c (Constant.Scalar j b) k f = Cv noMixed c (constantBy q (Constant.Scalar j b)) (valueAt h k f)
 
 -- The mark of a place that is one more than a page's; 0 is that of no page.
 abbrev pub marked : List Bool → ℕ → Bool

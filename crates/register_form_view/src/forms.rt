@@ -9,7 +9,6 @@ ghost use Rattle.register_form_view.specs.View.{textNumber, standsAt, ma
 use crate::Rank;
 use crate::TermRange;
 use crate::TermSet;
-use crate::compare_booleans;
 use crate::ranks::compare_name;
 use crate::ranks::order_by;
 use crate::stands_as;
@@ -25,6 +24,7 @@ use tables::widen;
 use text::compare_numbers;
 use text::part;
 use values::Kind;
+use values::same_scalar;
 
 // The number of the text that term f names.
 fn text_number(h: &[u8], f: u16) -> u16
@@ -39,19 +39,13 @@ fn value_stands(h: &[u8], f: u16, k: Kind, c: Comparator, w: Constant, q: &[u8],
 {
     match k {
         Kind::Page => false,
-        Kind::Number => match w {
-            Constant::Number(b) => stands_as(c, compare_numbers(code_at(h, f), b)),
-            Constant::Boolean(_) => false,
-            Constant::String(_) => false,
-        },
-        Kind::Boolean => match w {
-            Constant::Number(_) => false,
-            Constant::Boolean(b) => stands_as(c, compare_booleans(code_at(h, f) == 1, b)),
+        Kind::Scalar(j) => match w {
+            Constant::Scalar(l, b) => same_scalar(j, l)
+                & stands_as(c, compare_numbers(code_at(h, f), b)),
             Constant::String(_) => false,
         },
         Kind::String => match w {
-            Constant::Number(_) => false,
-            Constant::Boolean(_) => false,
+            Constant::Scalar(_, _) => false,
             Constant::String(p) => {
                 let n = text_number(h, f);
                 if n < rank.plain {
@@ -80,8 +74,7 @@ fn leads_into(h: &[u8], places: &[u16], f: u16, k: Kind, marks: &[bool]) -> bool
 {
     match k {
         Kind::Page => marked_at(marks, num_at(places, widen(text_number(h, f)))),
-        Kind::Number => false,
-        Kind::Boolean => false,
+        Kind::Scalar(_) => false,
         Kind::String => false,
     }
 }

@@ -1,6 +1,5 @@
 // What is asked of a held register: its properties by name, its pages by place, its texts and terms by number.
 ghost use mathlib.Core.Path.{_≡_};
-ghost use Rattle.values.specs.Values.{orderBooleans, sameKind};
 ghost use Rattle.language.specs.Register.{kindsOf};
 ghost use Rattle.language.specs.Semantics.{stands};
 ghost use Rattle.register_form.specs.Dictionary.{spaceOf, nameOf, textIn};
@@ -102,49 +101,6 @@ pub fn stands_as(c: Comparator, o: Order) -> bool
             Order::Less => true,
             Order::Equal => false,
             Order::Greater => false,
-        },
-    }
-}
-
-// How two truth values stand to one another.
-pub fn compare_booleans(a: bool, b: bool) -> Order
-    ensures { λ r. ⌜ r ≡ orderBooleans a b ⌝ }
-{
-    if a {
-        if b { Order::Equal } else { Order::Greater }
-    } else {
-        if b { Order::Less } else { Order::Equal }
-    }
-}
-
-// Whether two kinds are one.
-pub fn same_kind(a: Kind, b: Kind) -> bool
-    ensures { λ r. ⌜ r ≡ sameKind a b ⌝ }
-{
-    match a {
-        Kind::Page => match b {
-            Kind::Page => true,
-            Kind::Number => false,
-            Kind::Boolean => false,
-            Kind::String => false,
-        },
-        Kind::Number => match b {
-            Kind::Page => false,
-            Kind::Number => true,
-            Kind::Boolean => false,
-            Kind::String => false,
-        },
-        Kind::Boolean => match b {
-            Kind::Page => false,
-            Kind::Number => false,
-            Kind::Boolean => true,
-            Kind::String => false,
-        },
-        Kind::String => match b {
-            Kind::Page => false,
-            Kind::Number => false,
-            Kind::Boolean => false,
-            Kind::String => true,
         },
     }
 }

@@ -15,7 +15,6 @@ use crate::Found;
 use crate::Index;
 use crate::TermRange;
 use crate::property_place;
-use crate::same_kind;
 use register_form::kind_at;
 use register_form::property_count;
 use register_form::term_at;
@@ -29,6 +28,7 @@ use text::byte_at;
 use text::compare;
 use text::part;
 use values::Kind;
+use values::same_kind;
 
 // How a text stands to that of a name with no namespace.
 fn compare_plain(t: &[u8], x: &[u8]) -> Order

@@ -70,8 +70,7 @@ pub fn rank_for(h: &[u8], w: Constant, q: &[u8], uses: u16) -> Rank
     ensures { λ r. ⌜ ConstantRank (now (h .entry)) (now (q .entry)) w r ⌝ }
 {
     match w {
-        Constant::Number(_) => no_rank(),
-        Constant::Boolean(_) => no_rank(),
+        Constant::Scalar(_, _) => no_rank(),
         Constant::String(p) => rank_of(h, part(q, p.start, p.len), uses),
     }
 }

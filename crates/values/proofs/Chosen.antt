@@ -8,7 +8,7 @@ use lib.ListN.{length}
 use borrow.Author.Tests.{eq-eqb, ne-eqb}
 use Rattle.text.specs.Bytes.{Bytes}
 use Rattle.text.specs.Table.{bit}
-use Rattle.values.specs.Values.{mapOption, kindCode, kindFrom, sameKind, readNumber, readBoolean, base, biased, readScalar, inRange}
+use Rattle.values.specs.Values.{mapOption, scalarCode, kindCode, kindFrom, sameScalar, sameKind, readNumber, readBoolean, base, biased, readScalar, inRange}
 use Rattle.values.specs.Spelling.{spellScalar}
 use Rattle.values.specs.Answers.{codeRead}
 use Rattle.values.specs.declared.Kind.{Kind}
@@ -31,6 +31,12 @@ byte-boolean b m n h = rw (ne-eqb b 0 m, ne-eqb b 1 n, eq-eqb b 2 h)
 pub byte-string : (b : ℕ) → (b ≡ 0 → ⊥) → (b ≡ 1 → ⊥) → (b ≡ 2 → ⊥) → Kind.String ≡ kindFrom b
 unfolding kindFrom
 byte-string b m n h = rw (ne-eqb b 0 m, ne-eqb b 1 n, ne-eqb b 2 h)
+
+pub code-scalar : (k : Kind) (j : Scalar) (x : ℕ) → k ≡ Kind.Scalar j → x ≡ scalarCode j → x ≡ kindCode k
+code-scalar k j x e f = rw e f
+
+pub same-scalars : (a b : Scalar) (x y : ℕ) → x ≡ scalarCode a → y ≡ scalarCode b → eqb x y ≡ sameScalar a b
+same-scalars a b x y e f = rw (e, f)
 
 pub same-codes : (a b : Kind) (x y : ℕ) → x ≡ kindCode a → y ≡ kindCode b → eqb x y ≡ sameKind a b
 same-codes a b x y e f = rw (e, f) (same-coded a b)
@@ -59,6 +65,6 @@ module _ (k : Scalar) where
     pub length-false : k ≡ Scalar.Boolean → (c ≡ 1 → ⊥) → 5 ≡ length (spellScalar k c)
     length-false e h = rw (e, ne-eqb c 1 h)
 
-pub ruleset bytes-of = (byte-page, byte-number, byte-boolean, byte-string)
+pub ruleset bytes-of = (code-scalar, same-scalars, same-codes, byte-page, byte-number, byte-boolean, byte-string)
 
 pub ruleset by-scalar = (read-number, read-boolean, range-number, range-boolean, length-number, length-true, length-false)

@@ -1,7 +1,7 @@
 // Kinds: the word and the byte of each.
 ghost use mathlib.Core.Path.{_≡_};
 ghost use lib.ListN.{length, drop};
-ghost use Rattle.values.specs.Values.{kindWord, kindCode, kindFrom, sameKind};
+ghost use Rattle.values.specs.Values.{kindWord, scalarCode, kindCode, kindFrom, sameScalar, sameKind};
 ghost use Rattle.values.specs.Answers.{kindRead, kindAt};
 use crate::Kind;
 use crate::KindRead;
@@ -46,15 +46,21 @@ pub fn word_length(k: Kind) -> usize
 }
 
 // The byte of a kind in held forms.
+fn scalar_code(k: Scalar) -> u8
+    ensures { λ r. ⌜ r ≡ scalarCode k ⌝ }
+{
+    match k {
+        Scalar::Number => 1,
+        Scalar::Boolean => 2,
+    }
+}
+
 pub fn kind_code(k: Kind) -> u8
     ensures { λ r. ⌜ r ≡ kindCode k ⌝ }
 {
     match k {
         Kind::Page => 0,
-        Kind::Scalar(s) => match s {
-            Scalar::Number => 1,
-            Scalar::Boolean => 2,
-        },
+        Kind::Scalar(s) => scalar_code(s),
         Kind::String => 3,
     }
 }
@@ -74,6 +80,13 @@ pub fn kind_from(b: u8) -> Kind
     } else {
         Kind::String
     }
+}
+
+// Whether two scalar kinds are one.
+pub fn same_scalar(a: Scalar, b: Scalar) -> bool
+    ensures { λ r. ⌜ r ≡ sameScalar a b ⌝ }
+{
+    scalar_code(a) == scalar_code(b)
 }
 
 // Whether two kinds are one.

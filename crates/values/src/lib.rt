@@ -13,6 +13,7 @@ pub use kinds::kind_at;
 pub use kinds::kind_code;
 pub use kinds::kind_from;
 pub use kinds::same_kind;
+pub use kinds::same_scalar;
 pub use kinds::word_length;
 pub use scalars::in_range;
 pub use scalars::read_scalar;

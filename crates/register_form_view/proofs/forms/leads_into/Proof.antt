@@ -1,5 +1,5 @@
-use Rattle.register_form_view.proofs.Looking.{passing}
 use borrow.Author.Needs.{needs}
+use Rattle.register_form_view.proofs.Looking.{passing}
 use Rattle.register_form_view.proofs.forms.leads_into.Statement.{statement}
 use Rattle.register_form_view.proofs.forms.leads_into.Tie as tie
 
@@ -24,9 +24,6 @@ enum-told-2 c = search needs
 enum-told-3 : tie.Need-enum-told-3
 enum-told-3 c = search needs
 
-enum-told-4 : tie.Need-enum-told-4
-enum-told-4 c = search needs
-
 returns : tie.Need-returns
 returns c = search (passing, needs)
 
@@ -35,9 +32,6 @@ returns-2 c = search needs
 
 returns-3 : tie.Need-returns-3
 returns-3 c = search needs
-
-returns-4 : tie.Need-returns-4
-returns-4 c = search needs
 
 pub leads-into-spec : {M : Type 1} → statement M
 leads-into-spec =
@@ -50,8 +44,6 @@ leads-into-spec =
     marked-at-requires
     enum-told-2
     enum-told-3
-    enum-told-4
     returns
     returns-2
-    returns-3
-    returns-4)
+    returns-3)

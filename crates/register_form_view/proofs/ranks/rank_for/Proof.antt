@@ -1,5 +1,5 @@
-use Rattle.register_form_view.proofs.Ordering.{ordering}
 use borrow.Author.Needs.{needs}
+use Rattle.register_form_view.proofs.Ordering.{ordering}
 use Rattle.register_form_view.proofs.ranks.rank_for.Statement.{statement}
 use Rattle.register_form_view.proofs.ranks.rank_for.Tie as tie
 
@@ -8,12 +8,6 @@ enum-told c = search needs
 
 no-rank-requires : tie.Need-no-rank-requires
 no-rank-requires c κs = search needs
-
-enum-told-2 : tie.Need-enum-told-2
-enum-told-2 c = search needs
-
-no-rank-requires-2 : tie.Need-no-rank-requires-2
-no-rank-requires-2 c κs = search needs
 
 enum-known-w : tie.Need-enum-known-w
 enum-known-w c = search needs
@@ -30,20 +24,14 @@ returns c = search (ordering, needs)
 returns-2 : tie.Need-returns-2
 returns-2 c = search (ordering, needs)
 
-returns-3 : tie.Need-returns-3
-returns-3 c = search (ordering, needs)
-
 pub rank-for-spec : {M : Type 1} → statement M
 rank-for-spec =
     tie.close
     (tie.spec
     enum-told
     no-rank-requires
-    enum-told-2
-    no-rank-requires-2
     enum-known-w
     part-requires
     rank-of-requires
     returns
-    returns-2
-    returns-3)
+    returns-2)
