@@ -71,8 +71,7 @@ inside-none : (x : Bytes) (k : Option Kind) → inside x k none ≡ none
 unfolding inside
 inside-none x none = refl
 inside-none x (some Kind.Page) = refl
-inside-none x (some Kind.Number) = refl
-inside-none x (some Kind.Boolean) = refl
+inside-none x (some (Kind.Scalar j)) = refl
 inside-none x (some Kind.String) = refl
 
 module _ {A : Type 0} (t : A → List Node) (e : A → Option Core) (l : List Node) (i : ℕ) (x : Bytes) (k : Option Kind) (h h₁ : Bytes) (p : Place) where

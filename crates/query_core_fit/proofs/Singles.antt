@@ -9,6 +9,7 @@ use Rattle.text.specs.Parts.{partOf}
 use Rattle.text.specs.declared.Span.{Span}
 use Rattle.values.specs.declared.Kind.{Kind}
 use Rattle.values.specs.declared.KindRead.{KindRead}
+use Rattle.values.specs.declared.Scalar.{Scalar}
 use Rattle.values.specs.declared.Split.{Split}
 use Rattle.values.specs.Answers.{splitOf}
 use Rattle.language.specs.Register.{kindsOf}
@@ -46,19 +47,15 @@ module _ (x : Bytes) (kind : KindRead) (h : Bytes) (p : Place) where
   wraps-page k h′ p′ e f a = (rw (e, f), a)
 
   module _ (k : Kind) (e : kind ≡ KindRead.Kind k) where
-    pub wraps-number : k ≡ Kind.Number → Wraps x (kindOf kind) h p Emitted.Unfit h
+    pub wraps-scalar : (j : Scalar) → k ≡ Kind.Scalar j → Wraps x (kindOf kind) h p Emitted.Unfit h
     unfolding inside
-    wraps-number f o = rw (e, f)
-
-    pub wraps-boolean : k ≡ Kind.Boolean → Wraps x (kindOf kind) h p Emitted.Unfit h
-    unfolding inside
-    wraps-boolean f o = rw (e, f)
+    wraps-scalar j f o = rw (e, f)
 
     pub wraps-string : k ≡ Kind.String → Wraps x (kindOf kind) h p Emitted.Unfit h
     unfolding inside
     wraps-string f o = rw (e, f)
 
-pub ruleset wrapping = (wraps-nothing, wraps-page, wraps-number, wraps-boolean, wraps-string)
+pub ruleset wrapping = (wraps-nothing, wraps-page, wraps-scalar, wraps-string)
 
 -- A piece.
 module _ (x v : Bytes) (c : SurfaceComparator) (kind : KindRead) (h : Bytes) (p : Place) (r : Emitted) (h′ : Bytes) where

@@ -59,8 +59,7 @@ pub fn put_subquery(s: &[u8], held: &mut [u8], at: Place, x: Span, kind: KindRea
     };
     match k {
         Kind::Page => Emitted::At(put_select(s, held, at, Selector::Subquery(x))),
-        Kind::Number => Emitted::Unfit,
-        Kind::Boolean => Emitted::Unfit,
+        Kind::Scalar(_) => Emitted::Unfit,
         Kind::String => Emitted::Unfit,
     }
 }

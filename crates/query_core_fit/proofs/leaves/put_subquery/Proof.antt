@@ -24,9 +24,6 @@ enum-told-3 c = search needs
 enum-told-4 : tie.Need-enum-told-4
 enum-told-4 c = search needs
 
-enum-told-5 : tie.Need-enum-told-5
-enum-told-5 c = search needs
-
 same-length : tie.Need-same-length
 same-length c = search needs
 
@@ -39,9 +36,6 @@ returns-3 c = search (wrapping, needs)
 returns-4 : tie.Need-returns-4
 returns-4 c = search (wrapping, needs)
 
-returns-5 : tie.Need-returns-5
-returns-5 c = search (wrapping, needs)
-
 pub put-subquery-spec : {M : Type 1} → statement M
 put-subquery-spec =
     tie.close
@@ -53,9 +47,7 @@ put-subquery-spec =
     put-select-requires
     enum-told-3
     enum-told-4
-    enum-told-5
     same-length
     returns-2
     returns-3
-    returns-4
-    returns-5)
+    returns-4)
