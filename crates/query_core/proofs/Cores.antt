@@ -5,14 +5,14 @@ use mathlib.Core.Bool.{true, _&&_}
 use mathlib.Core.List.{List, [], _∷_, _++_, append-assoc, append-nil}
 use mathlib.Core.Option.{some}
 use native.Mathlib.Omega.{arith}
-use lib.Dec.{leb, eqb}
+use lib.Dec.{leb, ltb}
 use lib.ListN.{length, length-append}
 use lib.Seq.{append-snoc}
 use Rattle.text.specs.Bytes.{Bytes, all}
 use Rattle.text.specs.Parts.{partOf}
 use Rattle.text.proofs.Laws.{all-append}
 use Rattle.values.specs.Names.{isValue}
-use Rattle.values.specs.Values.{Constant, scalar, string, kindCode, kindFrom, inRange}
+use Rattle.values.specs.Values.{Constant, scalar, string, kindCount, kindFrom, inRange}
 use Rattle.values.specs.declared.Kind.{Kind}
 use Rattle.language.specs.Answer.{_>>=_}
 use Rattle.language.specs.Core.{Core, nodes}
@@ -36,7 +36,7 @@ kind-kept Kind.String n s = on-only KeptConstant (isValue s) (some (string s)) (
 
 constant-kept : (s : Bytes) (x : Slot) → OnSome KeptConstant (constantOf s x)
 unfolding constantOf constantFrom
-constant-kept s x = on-only KeptConstant (eqb (kindCode (kindFrom (x .kind))) (x .kind)) _ (λ e. kind-kept (kindFrom (x .kind)) (x .number) (partOf s (x .second)))
+constant-kept s x = on-only KeptConstant (ltb (x .kind) kindCount) _ (λ e. kind-kept (kindFrom (x .kind)) (x .number) (partOf s (x .second)))
 
 -- Nodes.
 abbrev KeptNode : Node → Type 0

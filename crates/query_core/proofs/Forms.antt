@@ -7,7 +7,7 @@ use mathlib.Core.Option.{some}
 use native.Mathlib.Omega.{arith}
 use lib.ListN.{length, getD, take, drop, length-append}
 use lib.Seq.{split-at, take-suc, take-length, length-take-le}
-use borrow.Author.Tests.{eq-eqb}
+use borrow.Author.Tests.{lt-ltb}
 use Rattle.text.specs.Bytes.{Bytes, part, all}
 use Rattle.text.proofs.Laws.{all-at}
 use Rattle.buffer.specs.Numbers.{twoBytes, padded}
@@ -16,10 +16,10 @@ use Rattle.buffer.proofs.Parts.{part-before}
 use Rattle.buffer.proofs.Joined.{part-middle, part-first, part-second}
 use Rattle.buffer.proofs.Regions.{length-padded, part-region}
 use Rattle.values.specs.Names.{isPropertyName}
-use Rattle.values.specs.Values.{Constant, scalar, string, kindCode}
+use Rattle.values.specs.Values.{Constant, scalar, string, kindCode, kindCount}
 use Rattle.values.specs.declared.Kind.{Kind}
 use Rattle.values.proofs.Coded.{range-small}
-use Rattle.values.proofs.Sameness.{kind-coded}
+use Rattle.values.proofs.Sameness.{kind-coded, code-below}
 use Rattle.values.proofs.Spelled.{name-keeps}
 use Rattle.language.specs.Core.{Core, nodes}
 use Rattle.language.specs.declared.Comparator.{Comparator}
@@ -75,7 +75,7 @@ code-back Comparator.Less = refl
 
 kind-back : (k : Kind) (n : ℕ) (s : Bytes) → constantFrom (kindCode k) n s ≡ constantOfKind k n s
 unfolding constantFrom
-kind-back k n s = rw (kind-coded k, eq-eqb (kindCode k) (kindCode k) refl)
+kind-back k n s = rw (kind-coded k, lt-ltb (kindCode k) kindCount (code-below k))
 
 module _ (s : Bytes) (at : ℕ) where
   constant-back : (x : Bytes) (c : Comparator) (v : Constant) → isConstant v ≡ true → part s (at + length x) (length (constantString v)) ≡ constantString v → constantOf s (valueSlot at x c v) ≡ some v

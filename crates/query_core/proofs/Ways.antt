@@ -7,12 +7,12 @@ use mathlib.Core.Option.{Option, some, none}
 use native.Mathlib.Omega.{arith}
 use lib.ListN.{length, getD, drop-of-length-le}
 use lib.Seq.{take-nil}
-use borrow.Author.Tests.{ne-eqb, eq-eqb}
+use borrow.Author.Tests.{ne-eqb, lt-ltb, le-ltb}
 use Rattle.text.specs.Bytes.{Bytes, part}
 use Rattle.text.specs.Parts.{partOf}
 use Rattle.text.specs.declared.Span.{Span}
 use Rattle.values.specs.Names.{isName, isPropertyName, isNamespace, isValue}
-use Rattle.values.specs.Values.{kindCode, kindFrom, inRange}
+use Rattle.values.specs.Values.{kindCount, kindFrom, inRange}
 use Rattle.values.specs.declared.Kind.{Kind}
 use Rattle.values.specs.declared.Scalar.{Scalar}
 use Rattle.language.specs.Answer.{onlyIf}
@@ -28,16 +28,16 @@ use Rattle.query_core.specs.Postfix.{Node}
 use Rattle.query_core.specs.Held.{slot, heapIn, comparatorFrom, constantOfKind, constantFrom, constantOf, nodeFrom, nodeOf, slotFrom, nodeIn}
 use Rattle.query_core.specs.Reading.{constantBy, selectorBy, keepsConstant, keepsSelector, comparatorRead, chosen, ConstantReads, selected, joining, ReadsNode}
 
--- The constant of a slot, by its kind and its kind's byte.
-module _ (s : Bytes) (x : Slot) (k : Kind) (b : ℕ) (told : k ≡ kindFrom (x .kind)) (code : b ≡ kindCode k) where
-  pub constant-unknown : (b ≡ x .kind → ⊥) → ConstantReads s x ConstantRead.Nothing
+-- The constant of a slot, by its kind.
+module _ (s : Bytes) (x : Slot) where
+  pub constant-unknown : kindCount ≤ x .kind → ConstantReads s x ConstantRead.Nothing
   unfolding constantOf constantFrom
-  constant-unknown f = record { is = rw (← told, ← code, ne-eqb b (x .kind) f); keeps = refl }
+  constant-unknown l = record { is = rw (le-ltb (x .kind) kindCount l); keeps = refl }
 
-  module _ (known : b ≡ x .kind) where
+  module _ (below : x .kind < kindCount) (k : Kind) (told : k ≡ kindFrom (x .kind)) where
     constant-known : constantOf s x ≡ constantOfKind k (x .number) (partOf s (x .second))
     unfolding constantOf constantFrom
-    constant-known = rw (← told, ← code, eq-eqb b (x .kind) known)
+    constant-known = rw (← told, lt-ltb (x .kind) kindCount below)
 
     pub page-reads : k ≡ Kind.Page → ConstantReads s x ConstantRead.Nothing
     page-reads e = record { is = constant-known ∙ rw e; keeps = refl }

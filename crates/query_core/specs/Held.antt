@@ -4,13 +4,13 @@ use Prim.Native.Nat.{ℕ, zero, suc, _+_, _*_}
 use mathlib.Core.Bool.{Bool, cond, _&&_}
 use mathlib.Core.List.{List, [], _∷_, _++_}
 use mathlib.Core.Option.{Option, some, none}
-use lib.Dec.{leb, eqb}
+use lib.Dec.{leb, ltb, eqb}
 use lib.ListN.{length, getD}
 use Rattle.text.specs.Bytes.{Bytes, part}
 use Rattle.text.specs.Parts.{partOf}
 use Rattle.buffer.specs.Numbers.{twoAt, eightAt}
 use Rattle.values.specs.Names.{isName, isPropertyName, isNamespace, isValue}
-use Rattle.values.specs.Values.{Constant, scalar, string, kindCode, kindFrom, inRange}
+use Rattle.values.specs.Values.{Constant, scalar, string, kindCount, kindFrom, inRange}
 use Rattle.values.specs.declared.Kind.{Kind}
 use Rattle.language.specs.Answer.{_>>=_, onlyIf}
 use Rattle.language.specs.Core.{Core}
@@ -57,9 +57,9 @@ constantOfKind Kind.Page n s = none
 constantOfKind (Kind.Scalar k) n s = onlyIf (inRange k n) (some (scalar k n))
 constantOfKind Kind.String n s = onlyIf (isValue s) (some (string s))
 
--- A constant by its kind's byte. A byte that no kind has tells none: `kindFrom` reads it as a kind of another byte.
+-- A constant by its kind's byte; from kindCount on no byte is a kind's.
 unfoldable pub constantFrom : ℕ → ℕ → Bytes → Option Constant
-constantFrom b n s = onlyIf (eqb (kindCode (kindFrom b)) b) (constantOfKind (kindFrom b) n s)
+constantFrom b n s = onlyIf (ltb b kindCount) (constantOfKind (kindFrom b) n s)
 
 -- A node by its tag; its names and constants keep their rules.
 unfoldable pub nodeFrom : ℕ → ℕ → Option Constant → Bytes → Bytes → Option Node

@@ -15,13 +15,13 @@ use tables::widen;
 use text::Span;
 use text::byte_at;
 use text::part;
+use values::KIND_COUNT;
 use values::Kind;
 use values::in_range;
 use values::is_name;
 use values::is_namespace;
 use values::is_property_name;
 use values::is_value;
-use values::kind_code;
 use values::kind_from;
 ghost use mathlib.Core.Path.{_≡_};
 ghost use Rattle.text.specs.Bytes.{part as partFrom};
@@ -56,11 +56,11 @@ fn chosen_if(fit: bool, c: Constant) -> ConstantRead
 fn constant_from(heap: &[u8], x: Slot) -> ConstantRead
     ensures { λ r. ⌜ ConstantReads (now (heap .entry)) x r ⌝ }
 {
-    let kind = kind_from(x.kind);
-    if kind_code(kind) != x.kind {
+    let kind = x.kind;
+    if KIND_COUNT <= kind {
         return ConstantRead::Nothing;
     }
-    match kind {
+    match kind_from(kind) {
         Kind::Page => ConstantRead::Nothing,
         Kind::Scalar(k) => {
             let n = x.number;

@@ -3,20 +3,17 @@ use borrow.Author.Needs.{needs}
 use Rattle.query_core.proofs.reading.constant_from.Statement.{statement}
 use Rattle.query_core.proofs.reading.constant_from.Tie as tie
 
-kind-from-requires : tie.Need-kind-from-requires
-kind-from-requires c κs = search needs
-
-kind-code-requires : tie.Need-kind-code-requires
-kind-code-requires c κs = search needs
-
 returns : tie.Need-returns
 returns c = search (constants, needs)
+
+kind-from-requires : tie.Need-kind-from-requires
+kind-from-requires c κs = search needs
 
 enum-told : tie.Need-enum-told
 enum-told c = search needs
 
-enum-known-kind : tie.Need-enum-known-kind
-enum-known-kind c = search needs
+enum-known-k : tie.Need-enum-known-k
+enum-known-k c = search needs
 
 in-range-requires : tie.Need-in-range-requires
 in-range-requires c κs = search needs
@@ -49,11 +46,10 @@ pub constant-from-spec : {M : Type 1} → statement M
 constant-from-spec =
     tie.close
     (tie.spec
-    kind-from-requires
-    kind-code-requires
     returns
+    kind-from-requires
     enum-told
-    enum-known-kind
+    enum-known-k
     in-range-requires
     chosen-if-requires
     enum-told-2
