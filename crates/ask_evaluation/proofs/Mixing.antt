@@ -12,6 +12,7 @@ use Rattle.text.specs.Parts.{partOf}
 use Rattle.text.specs.declared.Span.{Span}
 use Rattle.values.specs.Values.{kindOfConstant}
 use Rattle.values.specs.declared.Kind.{Kind}
+use Rattle.values.specs.declared.Scalar.{Scalar}
 use Rattle.language.specs.Answer.{_>>=_, found}
 use Rattle.language.specs.Core.{Core}
 use Rattle.language.specs.Core as Selectors
@@ -38,16 +39,13 @@ module _ (k : Connective) (e : k ≡ Connective.Select) (y : Selector) (p : Span
   expects-page f = rw (e, f)
 
   module _ (c : Comparator) (v : Constant) (f : y ≡ Selector.Value p c v) where
-    pub expects-number : (n : ℕ) → v ≡ Constant.Number n → Expected.Kind p Kind.Number ≡ expectedIn k y
-    expects-number n g = rw (e, f, g)
-
-    pub expects-boolean : (b : Bool) → v ≡ Constant.Boolean b → Expected.Kind p Kind.Boolean ≡ expectedIn k y
-    expects-boolean b g = rw (e, f, g)
+    pub expects-scalar : (j : Scalar) (n : ℕ) → v ≡ Constant.Scalar j n → Expected.Kind p (Kind.Scalar j) ≡ expectedIn k y
+    expects-scalar j n g = rw (e, f, g)
 
     pub expects-string : (s : Span) → v ≡ Constant.String s → Expected.Kind p Kind.String ≡ expectedIn k y
     expects-string s g = rw (e, f, g)
 
-pub ruleset expecting = (expects-page, expects-number, expects-boolean, expects-string)
+pub ruleset expecting = (expects-page, expects-scalar, expects-string)
 
 -- the kind that is expected of a property is not that of some page's value
 abbrev otherThan : Register → Bytes → Expected → Bool
@@ -62,8 +60,7 @@ mixes-expected R q Connective.Select (Selector.Namespace p) = refl
 mixes-expected R q Connective.Select (Selector.Existence p) = refl
 mixes-expected R q Connective.Select (Selector.Subquery p) = refl
 mixes-expected R q Connective.Select (Selector.Article c p) = refl
-mixes-expected R q Connective.Select (Selector.Value p c (Constant.Number n)) = refl
-mixes-expected R q Connective.Select (Selector.Value p c (Constant.Boolean b)) = refl
+mixes-expected R q Connective.Select (Selector.Value p c (Constant.Scalar k n)) = refl
 mixes-expected R q Connective.Select (Selector.Value p c (Constant.String s)) = refl
 
 -- some node so far mixes kinds where some query on the stack has a mismatch

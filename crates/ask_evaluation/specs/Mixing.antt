@@ -31,8 +31,7 @@ wantedBy (Selector.Namespace p) = Expected.Nothing
 wantedBy (Selector.Existence p) = Expected.Nothing
 wantedBy (Selector.Subquery p) = Expected.Kind p Kind.Page
 wantedBy (Selector.Article c p) = Expected.Nothing
-wantedBy (Selector.Value p c (Constant.Number n)) = Expected.Kind p Kind.Number
-wantedBy (Selector.Value p c (Constant.Boolean b)) = Expected.Kind p Kind.Boolean
+wantedBy (Selector.Value p c (Constant.Scalar k n)) = Expected.Kind p (Kind.Scalar k)
 wantedBy (Selector.Value p c (Constant.String t)) = Expected.Kind p Kind.String
 
 abbrev pub expectedIn : Connective → Selector → Expected

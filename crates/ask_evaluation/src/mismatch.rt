@@ -34,8 +34,7 @@ fn expected_by(node: Node) -> Expected
             Selector::Subquery(p) => Expected::Kind(p, Kind::Page),
             Selector::Article(_, _) => Expected::Nothing,
             Selector::Value(p, _, v) => match v {
-                Constant::Number(_) => Expected::Kind(p, Kind::Number),
-                Constant::Boolean(_) => Expected::Kind(p, Kind::Boolean),
+                Constant::Scalar(k, _) => Expected::Kind(p, Kind::Scalar(k)),
                 Constant::String(_) => Expected::Kind(p, Kind::String),
             },
         },

@@ -1,5 +1,5 @@
-use Rattle.ask_evaluation.proofs.Mixing.{expecting}
 use borrow.Author.Needs.{needs}
+use Rattle.ask_evaluation.proofs.Mixing.{expecting}
 use Rattle.ask_evaluation.proofs.mismatch.expected_by.Statement.{statement}
 use Rattle.ask_evaluation.proofs.mismatch.expected_by.Tie as tie
 
@@ -30,14 +30,11 @@ enum-told-7 c = search needs
 enum-known-selector-2 : tie.Need-enum-known-selector-2
 enum-known-selector-2 c = search needs
 
+enum-known-v : tie.Need-enum-known-v
+enum-known-v c = search needs
+
 enum-told-8 : tie.Need-enum-told-8
 enum-told-8 c = search needs
-
-enum-told-9 : tie.Need-enum-told-9
-enum-told-9 c = search needs
-
-enum-told-10 : tie.Need-enum-told-10
-enum-told-10 c = search needs
 
 returns : tie.Need-returns
 returns c = search needs
@@ -66,9 +63,6 @@ returns-8 c = search (expecting, needs)
 returns-9 : tie.Need-returns-9
 returns-9 c = search (expecting, needs)
 
-returns-10 : tie.Need-returns-10
-returns-10 c = search (expecting, needs)
-
 pub expected-by-spec : {M : Type 1} → statement M
 expected-by-spec =
     tie.close
@@ -82,9 +76,8 @@ expected-by-spec =
     enum-known-selector
     enum-told-7
     enum-known-selector-2
+    enum-known-v
     enum-told-8
-    enum-told-9
-    enum-told-10
     returns
     returns-2
     returns-3
@@ -93,5 +86,4 @@ expected-by-spec =
     returns-6
     returns-7
     returns-8
-    returns-9
-    returns-10)
+    returns-9)
