@@ -14,7 +14,8 @@ use Rattle.values.specs.declared.Kind.{Kind}
 use Rattle.values.specs.Names.{Identifier, isName, isPropertyName, isNamespace, isValue, reference}
 use Rattle.values.specs.Values.{Value, link, readLink, readValue}
 use Rattle.values.specs.Spelling.{spelling}
-use Rattle.values.proofs.Coded.{read-in-range, spelled-le}
+use Rattle.values.proofs.EachKind.{read-in-range}
+use Rattle.values.proofs.AllKinds.{spelled-le}
 use Rattle.values.proofs.Spelled.{of-read, link-read, reference-keeps, value-short, spelled-link-le, spelled-is-value}
 use Rattle.language.specs.Answer.{accepted, _>>=_, found}
 use Rattle.language.specs.Register.{Property, Held, Page, Register, kindAmong, distinct, Sound}

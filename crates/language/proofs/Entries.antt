@@ -8,10 +8,10 @@ use lib.ListN.{length, drop, length-take, length-drop}
 use Rattle.text.specs.Bytes.{Bytes, bytes, span, front, behind, starts, after}
 use Rattle.text.specs.Class.{isQuotable}
 use Rattle.values.specs.declared.Kind.{Kind}
-use Rattle.values.specs.declared.Scalar.{Scalar}
 use Rattle.values.specs.Values.{kindWord}
 use Rattle.values.specs.Answers.{kindAt}
-use Rattle.values.proofs.Laws.{kind-stands}
+use Rattle.values.proofs.AllKinds.{kind-stands}
+use Rattle.values.proofs.EachKind.{word-filled}
 use Rattle.text.proofs.Laws.{starts-fits, span-le}
 use Rattle.language.specs.Answer.{_>>=_, found}
 use Rattle.language.specs.RegisterText.{Entry, prop, page, cat, val, close, Place, line, inner, Read, quoted, kindWordAt, propForm, pageForm, catForm, valForm, closing, nextEntry, entriesWithin, entriesFrom}
@@ -30,12 +30,6 @@ quoted-leaves s =
     (λ r l. on-bind _ (Unquoted s) (after (bytes "\"") (behind isQuotable r)) _ (after-leaves (bytes "\"") (behind isQuotable r))
     (λ e m. omega (arith, span-le isQuotable r, length-take (span isQuotable r) r, length-drop (span isQuotable r) r)))
 
-word-length : (k : Kind) → 1 ≤ length (kindWord k)
-word-length Kind.Page = omega arith
-word-length (Kind.Scalar Scalar.Number) = omega arith
-word-length (Kind.Scalar Scalar.Boolean) = omega arith
-word-length Kind.String = omega arith
-
 kind-leaves : (s : Bytes) → OnSome (Less s) (kindWordAt s)
 unfolding kindWordAt
 kind-leaves s = go (kindAt s) refl
@@ -44,7 +38,7 @@ kind-leaves s = go (kindAt s) refl
     go none e = tt
     go (some k) e =
         let h = starts-fits (kindWord k) s (kind-stands k s e) in
-        let w = word-length k in omega (arith, length-drop (length (kindWord k)) s)
+        let w = word-filled k in omega (arith, length-drop (length (kindWord k)) s)
 
 -- What the end of the page form that a place is in has too few.
 abbrev pub owed : Place → ℕ

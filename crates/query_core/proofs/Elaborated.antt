@@ -12,7 +12,7 @@ use Rattle.text.proofs.Laws.{all-append}
 use Rattle.values.specs.declared.Kind.{Kind}
 use Rattle.values.specs.Names.{Reference, bare, qualified, reference, isName, isNamespace, isPropertyName, isReference, isValue}
 use Rattle.values.specs.Values.{Constant, scalar, mapOption, readScalar, readConstant}
-use Rattle.values.proofs.Coded.{read-in-range}
+use Rattle.values.proofs.EachKind.{read-in-range}
 use Rattle.language.specs.Answer.{refused, accepted, found, _>>=_}
 use Rattle.language.specs.Register.{Typing}
 use Rattle.language.specs.Surface.{Chain, single, chain, Categories, Identifiers, Alternatives, Query, propertiesOf}

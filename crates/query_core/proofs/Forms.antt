@@ -18,8 +18,8 @@ use Rattle.buffer.proofs.Regions.{length-padded, part-region}
 use Rattle.values.specs.Names.{isPropertyName}
 use Rattle.values.specs.Values.{Constant, scalar, string, kindCode, kindCount}
 use Rattle.values.specs.declared.Kind.{Kind}
-use Rattle.values.proofs.Coded.{range-small}
-use Rattle.values.proofs.Sameness.{kind-coded, code-below}
+use Rattle.values.proofs.AllKinds.{range-small}
+use Rattle.values.proofs.EachKind.{kind-coded, code-below}
 use Rattle.values.proofs.Spelled.{name-keeps}
 use Rattle.language.specs.Core.{Core, nodes}
 use Rattle.language.specs.declared.Comparator.{Comparator}

@@ -18,7 +18,7 @@ use Rattle.buffer.proofs.Parts.{getD-part, part-part, flat-map}
 use Rattle.buffer.proofs.Numbers.{two-there}
 use Rattle.buffer.proofs.Regions.{part-region}
 use Rattle.register_form.proofs.Rows.{row-in, number-in}
-use Rattle.values.proofs.Sameness.{kind-coded}
+use Rattle.values.proofs.EachKind.{kind-coded}
 use Rattle.register_form.proofs.Starts.{length-starts, start-most, table-step, table-most, table-piece, table-piece-at}
 use Rattle.register_form.proofs.Holding.{Holds, holds-bytes}
 

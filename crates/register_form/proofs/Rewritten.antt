@@ -18,7 +18,7 @@ use Rattle.buffer.proofs.Parts.{both, length-part, part-add, flat-map, map-tabu
 use Rattle.buffer.proofs.Numbers.{two-here, two-small}
 use Rattle.buffer.proofs.Regions.{region, zeros-one-more}
 use Rattle.register_form.proofs.Rows.{region-rows, region-numbers}
-use Rattle.values.proofs.Sameness.{code-told}
+use Rattle.values.proofs.EachKind.{code-told}
 use Rattle.register_form.proofs.Starts.{starts-tabulate, pieces-joined}
 use Rattle.register_form.proofs.Laying.{rises-to, Laid, laid-facts}
 use Rattle.register_form.proofs.Holding.{Holds, bytes-held}

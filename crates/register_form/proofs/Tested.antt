@@ -15,7 +15,7 @@ use Rattle.buffer.proofs.Regions.{zeros-one-more, zeros-region}
 use Rattle.register_form.proofs.Starts.{table-last, table-rises}
 use Rattle.register_form.proofs.Laying.{Padded, Laid, facts-laid}
 use Rattle.register_form.proofs.Holding.{Holds, Lengths, lengths, holds-bytes, length-bytes}
-use Rattle.values.proofs.Sameness.{code-below}
+use Rattle.values.proofs.EachKind.{code-below}
 use Rattle.register_form.proofs.ReadBack.{count-properties, count-pages, count-terms, count-texts, kind-there, form-start, text-start}
 
 module _ (h : Bytes) (d : Dictionary) (e : Holds h d) (b : Bounded d) where

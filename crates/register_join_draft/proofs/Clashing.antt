@@ -18,7 +18,8 @@ use Rattle.values.specs.declared.Kind.{Kind}
 use Rattle.language.specs.Register.{Property, kindAmong, distinct}
 use Rattle.language.specs.Joining.{isOtherKind, kindsClash}
 use Rattle.language.proofs.Members.{any-mem, any-same, both-false, all-at}
-use Rattle.values.proofs.Sameness.{kind-eq, kind-refl, code-told}
+use Rattle.values.proofs.EachKind.{code-told}
+use Rattle.values.proofs.Sameness.{kind-eq, kind-refl}
 use Rattle.register_form.specs.Dictionary.{PropertyRow, Dictionary, nameOf, textIn, propertyIn, noProperty, decodeProperty, decode}
 use Rattle.register_form.specs.Opened.{next}
 use Rattle.register_form.specs.Form.{kindByte, propertyCount, propertyAt, dictionaryIn, registerIn}

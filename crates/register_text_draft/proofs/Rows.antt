@@ -13,7 +13,7 @@ use Rattle.text.specs.Bytes.{Bytes}
 use Rattle.text.specs.Table.{tabulate}
 use Rattle.text.proofs.Tables.{tabulate-ext}
 use Rattle.values.specs.Values.{kindCode, kindFrom}
-use Rattle.values.proofs.Sameness.{kind-coded}
+use Rattle.values.proofs.EachKind.{kind-coded}
 use Rattle.values.specs.declared.Kind.{Kind}
 use Rattle.register_form.specs.Dictionary.{PropertyRow, PageRow, termOf}
 use Rattle.register_text_draft.specs.Drafting.{withForm, onLast}

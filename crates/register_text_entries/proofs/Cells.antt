@@ -14,7 +14,7 @@ use Rattle.text.specs.Table.{tabulate}
 use Rattle.text.proofs.Tables.{length-tabulate, getD-tabulate, tabulate-ext}
 use Rattle.values.specs.declared.Kind.{Kind}
 use Rattle.values.specs.Values.{kindCode, kindFrom}
-use Rattle.values.proofs.Sameness.{code-below, kind-coded}
+use Rattle.values.proofs.EachKind.{code-below, kind-coded}
 use Rattle.language.specs.RegisterText.{Entry}
 use Rattle.register_text_entries.specs.declared.Tag.{Tag}
 use Rattle.register_text_entries.specs.declared.Item.{Item}

@@ -16,7 +16,7 @@ use Rattle.values.specs.Values.{kindWord}
 use Rattle.values.specs.Answers.{kindAt, kindRead}
 use Rattle.values.specs.declared.Kind.{Kind}
 use Rattle.values.specs.declared.KindRead.{KindRead}
-use Rattle.values.proofs.Laws.{kind-stands}
+use Rattle.values.proofs.AllKinds.{kind-stands}
 use Rattle.language.specs.Answer.{_>>=_, found}
 use Rattle.language.specs.RegisterText.{Read, prop, page, cat, val, line, inner, quoted, kindWordAt, propForm, pageForm, catForm, valForm, closing, nextEntry}
 use Rattle.register_text_entries.specs.declared.Found.{Found}

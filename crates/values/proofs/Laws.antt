@@ -1,7 +1,7 @@
 -- Laws of references, booleans and kinds.
 use Prim.Native.Nat.{ℕ, _+_, _≤_, _<_}
 use mathlib.Core.Path.{_≡_, refl, sym, _∙_}
-use mathlib.Core.List.{[], _∷_, map, _++_}
+use mathlib.Core.List.{[], _∷_, map}
 use mathlib.Core.Bool.{Bool, true, false, cond, not, _&&_, _||_, and-assoc}
 use mathlib.Core.Option.{Option, some, none}
 use native.Mathlib.Omega.{arith}
@@ -10,17 +10,16 @@ use lib.Dec.{eqb}
 use lib.ListN.{length, getD, drop, length-map, length-drop, List·getD-map}
 use lib.Seq.{take-all}
 use borrow.Author.Tests.{lt-ltb, le-ltb}
-use Rattle.text.specs.Bytes.{Bytes, bytes, same, any, all, isBlank, span, starts}
+use Rattle.text.specs.Bytes.{Bytes, bytes, same, any, all, isBlank, span}
 use Rattle.text.specs.Table.{bit}
 use Rattle.text.specs.Class.{oneOf, isNameByte, isValueByte, isOther}
 use Rattle.text.specs.Parts.{partOf, Trimmed}
 use Rattle.text.specs.declared.Span.{Span}
 use Rattle.text.proofs.Laws.{same-unlike, same-end, same-other, same-step, any-three}
 use Rattle.values.specs.Names.{isSized, first, last, isName, isValue, isNamespace, isReference, reference}
-use Rattle.values.specs.Values.{kindWord, lower, readBoolean, readScalar, readLink, readValue, mapOption, plain, link, scalar, string, kindOfConstant, kindOf, Constant, Value}
-use Rattle.values.specs.Answers.{hasBareEnds, Splits, codeRead, kindAt, kindRead}
+use Rattle.values.specs.Values.{lower, readBoolean, readScalar, readLink, readValue, mapOption, plain, link, scalar, string, kindOfConstant, kindOf, Constant, Value}
+use Rattle.values.specs.Answers.{hasBareEnds, Splits, codeRead}
 use Rattle.values.specs.declared.Kind.{Kind}
-use Rattle.values.specs.declared.KindRead.{KindRead}
 use Rattle.values.specs.declared.Split.{Split}
 use Rattle.values.specs.declared.Scalar.{Scalar}
 use Rattle.values.specs.declared.CodeRead.{CodeRead}
@@ -39,56 +38,6 @@ pub read-kind : (k : Kind) (s : Bytes) (v : Value) → readValue k s ≡ some v 
 read-kind Kind.Page s v e = mapped-kind link Kind.Page (λ i. refl) v (readLink s) e
 read-kind (Kind.Scalar k) s v e = plain-kind (scalar k) (Kind.Scalar k) (λ c. refl) (readScalar k s) v e
 read-kind Kind.String s v e = plain-kind string Kind.String (λ x. refl) (some s) v e
-
--- A kind is read where its word stands, and only there.
-pub kind-at-word : (k : Kind) (s : Bytes) → kindAt (kindWord k ++ s) ≡ some k
-unfolding kindAt starts
-kind-at-word Kind.Page s = refl
-kind-at-word (Kind.Scalar Scalar.Number) s = refl
-kind-at-word (Kind.Scalar Scalar.Boolean) s = refl
-kind-at-word Kind.String s = refl
-
-first-stands : (j k : Kind) (s : Bytes) (o : Option Kind) → (o ≡ some k → starts (kindWord k) s ≡ true) → cond (starts (kindWord j) s) (some j) o ≡ some k → starts (kindWord k) s ≡ true
-first-stands j k s o later h = go (starts (kindWord j) s) refl h
-  where
-    go : (t : Bool) → starts (kindWord j) s ≡ t → cond t (some j) o ≡ some k → starts (kindWord k) s ≡ true
-    go true e f = let q : j ≡ k = cc in rw (← q) e
-    go false e f = later f
-
-pub kind-stands : (k : Kind) (s : Bytes) → kindAt s ≡ some k → starts (kindWord k) s ≡ true
-unfolding kindAt
-kind-stands k s =
-    first-stands Kind.Page k s _
-    (first-stands (Kind.Scalar Scalar.Number) k s _ (first-stands (Kind.Scalar Scalar.Boolean) k s _ (first-stands Kind.String k s none (λ e. cc))))
-
--- The ways to find a kind.
-module _ (s : Bytes) (a : Bool) (e : a ≡ starts (kindWord Kind.Page) s) where
-  pub kind-page : a ≡ true → KindRead.Kind Kind.Page ≡ kindRead (kindAt s)
-  unfolding kindAt
-  kind-page h = rw (← e, h)
-
-  module _ (b : Bool) (f : b ≡ starts (kindWord (Kind.Scalar Scalar.Number)) s) (h : a ≡ false) where
-    pub kind-number : b ≡ true → KindRead.Kind (Kind.Scalar Scalar.Number) ≡ kindRead (kindAt s)
-    unfolding kindAt
-    kind-number i = rw (← e, h, ← f, i)
-
-    module _ (c : Bool) (g : c ≡ starts (kindWord (Kind.Scalar Scalar.Boolean)) s) (i : b ≡ false) where
-      pub kind-boolean : c ≡ true → KindRead.Kind (Kind.Scalar Scalar.Boolean) ≡ kindRead (kindAt s)
-      unfolding kindAt
-      kind-boolean j = rw (← e, h, ← f, i, ← g, j)
-
-      module _ (d : Bool) (k : d ≡ starts (kindWord Kind.String) s) (j : c ≡ false) where
-        kind-last : kindRead (kindAt s) ≡ kindRead (cond d (some Kind.String) none)
-        unfolding kindAt
-        kind-last = rw (← e, h, ← f, i, ← g, j, ← k)
-
-        pub kind-string : d ≡ true → KindRead.Kind Kind.String ≡ kindRead (kindAt s)
-        kind-string l = rw (kind-last, l)
-
-        pub kind-none : d ≡ false → KindRead.Nothing ≡ kindRead (kindAt s)
-        kind-none l = rw (kind-last, l)
-
-pub ruleset kinds = (kind-page, kind-number, kind-boolean, kind-string, kind-none)
 
 -- The rules for names and values, from what their parts answer.
 module _ (s : Bytes) (a d : Bool) (x : ℕ) (e : a ≡ isSized s) (f : x ≡ first s) (g : d ≡ hasBareEnds s) where

@@ -5,4 +5,5 @@ pub mod Sameness
 pub mod Ruling
 pub mod Digits
 pub mod Coded
-pub mod Chosen
+pub mod EachKind
+pub mod AllKinds

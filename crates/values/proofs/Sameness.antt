@@ -1,5 +1,5 @@
 -- Values that are the same are one value.
-use Prim.Native.Nat.{ℕ, zero, suc, _<_}
+use Prim.Native.Nat.{ℕ}
 use mathlib.Core.Path.{_≡_, refl, sym, ap, _∙_}
 use mathlib.Core.Bool.{Bool, true, false, cond, and-eq-true-iff, false≢true}
 use mathlib.Core.Option.{Option, some, none}
@@ -10,9 +10,10 @@ use Rattle.text.specs.Bytes.{same, orderOf, numbers}
 use Rattle.text.specs.declared.Order.{Order}
 use Rattle.text.proofs.Laws.{same-eq, same-refl, numbers-equal, order-eq, order-refl}
 use Rattle.values.specs.Names.{Identifier, sameIdentifier}
-use Rattle.values.specs.Values.{Constant, scalar, string, Value, plain, link, scalarCode, kindCode, kindCount, kindFrom, sameScalar, sameKind, orderConstants, isEqualOrder, sameValue}
+use Rattle.values.specs.Values.{Constant, scalar, string, Value, plain, link, scalarCode, kindCode, kindFrom, sameScalar, sameKind, orderConstants, isEqualOrder, sameValue}
 use Rattle.values.specs.declared.Kind.{Kind}
 use Rattle.values.specs.declared.Scalar.{Scalar}
+use Rattle.values.proofs.EachKind.{kind-coded, codes-apart}
 
 -- an order that is not `Equal`
 no-order : {A : Type 0} {o : Order} → isEqualOrder (some o) ≡ false → o ≡ Order.Equal → A
@@ -27,32 +28,6 @@ numbers-eq a b h = go (ltb a b) (ltb b a) refl refl h
     go false true e f h = no-order refl h
     go false false e f h = omega (arith, ltb-false a b e, ltb-false b a f)
 
--- Each kind has a byte of its own.
-pub kind-coded : (k : Kind) → kindFrom (kindCode k) ≡ k
-unfolding kindFrom
-kind-coded Kind.Page = refl
-kind-coded (Kind.Scalar Scalar.Number) = refl
-kind-coded (Kind.Scalar Scalar.Boolean) = refl
-kind-coded Kind.String = refl
-
-pub code-told : (n : ℕ) → n < kindCount → kindCode (kindFrom n) ≡ n
-unfolding kindFrom
-code-told zero b = refl
-code-told (suc zero) b = refl
-code-told (suc (suc zero)) b = refl
-code-told (suc (suc (suc zero))) b = refl
-code-told (suc (suc (suc (suc n)))) b = absurd (omega arith)
-
-pub code-below : (k : Kind) → kindCode k < kindCount
-code-below Kind.Page = omega arith
-code-below (Kind.Scalar Scalar.Number) = omega arith
-code-below (Kind.Scalar Scalar.Boolean) = omega arith
-code-below Kind.String = omega arith
-
-codes-apart : (k : Scalar) → (scalarCode k ≡ kindCode Kind.Page → ⊥) × (scalarCode k ≡ kindCode Kind.String → ⊥)
-codes-apart Scalar.Number = (λ e. omega arith, λ e. omega arith)
-codes-apart Scalar.Boolean = (λ e. omega arith, λ e. omega arith)
-
 pub same-coded : (a b : Kind) → eqb (kindCode a) (kindCode b) ≡ sameKind a b
 same-coded Kind.Page Kind.Page = refl
 same-coded Kind.Page (Kind.Scalar k) = ne-eqb _ _ (λ e. codes-apart k .0 (sym e))
@@ -63,6 +38,9 @@ same-coded (Kind.Scalar j) Kind.String = ne-eqb _ _ (codes-apart j .1)
 same-coded Kind.String Kind.Page = refl
 same-coded Kind.String (Kind.Scalar k) = ne-eqb _ _ (λ e. codes-apart k .1 (sym e))
 same-coded Kind.String Kind.String = refl
+
+pub same-codes : (a b : Kind) (x y : ℕ) → x ≡ kindCode a → y ≡ kindCode b → eqb x y ≡ sameKind a b
+same-codes a b x y e f = rw (e, f) (same-coded a b)
 
 pub kind-eq : (a b : Kind) → sameKind a b ≡ true → a ≡ b
 kind-eq a b h = sym (kind-coded a) ∙ ap kindFrom (eqb-true (kindCode a) (kindCode b) (same-coded a b ∙ h)) ∙ kind-coded b

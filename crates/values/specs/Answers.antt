@@ -3,13 +3,13 @@
 use Prim.Native.Nat.{ℕ}
 use mathlib.Core.Path.{_≡_}
 use mathlib.Core.Bool.{Bool, cond, not, _&&_}
+use mathlib.Core.List.{List, [], _∷_}
 use mathlib.Core.Option.{Option, some, none}
 use Rattle.text.specs.Bytes.{Bytes, isBlank, starts}
 use Rattle.text.specs.Parts.{partOf, Within}
 use Rattle.values.specs.Names.{first, last, Reference, bare, qualified, reference}
-use Rattle.values.specs.Values.{kindWord}
+use Rattle.values.specs.Values.{kindWord, kinds}
 use Rattle.values.specs.declared.Kind.{Kind}
-use Rattle.values.specs.declared.Scalar.{Scalar}
 use Rattle.values.specs.declared.Split.{Split}
 use Rattle.values.specs.declared.CodeRead.{CodeRead}
 use Rattle.values.specs.declared.KindRead.{KindRead}
@@ -33,12 +33,12 @@ codeRead none = CodeRead.Unfit
 codeRead (some c) = CodeRead.Code c
 
 -- The kind whose word stands at the front. No word is the front of another.
-unfoldable pub kindAt : Bytes → Option Kind
-kindAt s =
-    cond (starts (kindWord Kind.Page) s) (some Kind.Page)
-    (cond (starts (kindWord (Kind.Scalar Scalar.Number)) s) (some (Kind.Scalar Scalar.Number))
-    (cond (starts (kindWord (Kind.Scalar Scalar.Boolean)) s) (some (Kind.Scalar Scalar.Boolean))
-    (cond (starts (kindWord Kind.String) s) (some Kind.String) none)))
+unfoldable pub firstKind : List Kind → Bytes → Option Kind
+firstKind [] s = none
+firstKind (k ∷ l) s = cond (starts (kindWord k) s) (some k) (firstKind l s)
+
+abbrev pub kindAt : Bytes → Option Kind
+kindAt s = firstKind kinds s
 
 abbrev pub kindRead : Option Kind → KindRead
 kindRead none = KindRead.Nothing

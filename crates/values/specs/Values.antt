@@ -22,7 +22,10 @@ kindWord (Kind.Scalar Scalar.Number) = bytes "number"
 kindWord (Kind.Scalar Scalar.Boolean) = bytes "boolean"
 kindWord Kind.String = bytes "string"
 
--- The byte of a kind in held forms, below kindCount.
+abbrev pub kinds : List Kind
+kinds = Kind.Page ∷ Kind.Scalar Scalar.Number ∷ Kind.Scalar Scalar.Boolean ∷ Kind.String ∷ []
+
+-- The byte of a kind in held forms, its place among the kinds.
 abbrev pub scalarCode : Scalar → ℕ
 scalarCode Scalar.Number = 1
 scalarCode Scalar.Boolean = 2
@@ -121,10 +124,17 @@ abbrev pub readScalar : Scalar → Bytes → Option ℕ
 readScalar Scalar.Number s = mapOption biased (readNumber s)
 readScalar Scalar.Boolean s = mapOption bit (readBoolean s)
 
--- The codes that a scalar kind has.
-abbrev pub inRange : Scalar → ℕ → Bool
-inRange Scalar.Number c = ltb 0 c && ltb c (2 * base)
-inRange Scalar.Boolean c = ltb c 2
+-- The codes that a scalar kind has: from the lowest up to the one above all.
+abbrev pub lowest : Scalar → ℕ
+lowest Scalar.Number = 1
+lowest Scalar.Boolean = 0
+
+abbrev pub above : Scalar → ℕ
+above Scalar.Number = 2 * base
+above Scalar.Boolean = 2
+
+unfoldable pub inRange : Scalar → ℕ → Bool
+inRange k c = leb (lowest k) c && ltb c (above k)
 
 -- The constant that bytes write in a kind, or none: they are unfit for it. A page value is no constant.
 abbrev pub readConstant : Kind → Bytes → Option Constant

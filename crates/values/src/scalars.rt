@@ -5,7 +5,7 @@ ghost use Prim.Native.Nat.{_-_, _<_};
 ghost use lib.ListN.{length};
 ghost use Rattle.text.specs.Bytes.{same};
 ghost use Rattle.text.specs.Table.{bit};
-ghost use Rattle.values.specs.Values.{mapOption, lower, readDigits, readNumber, readBoolean, biased, readScalar, inRange};
+ghost use Rattle.values.specs.Values.{mapOption, lower, readDigits, readNumber, readBoolean, biased, readScalar, lowest, above, inRange};
 ghost use Rattle.values.specs.Spelling.{digits, spellScalar};
 ghost use Rattle.values.specs.Answers.{codeRead};
 use crate::CodeRead;
@@ -107,14 +107,30 @@ pub fn read_scalar(k: Scalar, s: &[u8]) -> CodeRead
     }
 }
 
+// The lowest code of a scalar kind, and the one above all.
+fn lowest_code(k: Scalar) -> u64
+    ensures { λ r. ⌜ r ≡ lowest k ⌝ }
+{
+    match k {
+        Scalar::Number => 1,
+        Scalar::Boolean => 0,
+    }
+}
+
+fn code_above(k: Scalar) -> u64
+    ensures { λ r. ⌜ r ≡ above k ⌝ }
+{
+    match k {
+        Scalar::Number => 2_000_000_000_000_000,
+        Scalar::Boolean => 2,
+    }
+}
+
 // Whether a scalar kind has a value of that code.
 pub fn in_range(k: Scalar, c: u64) -> bool
     ensures { λ r. ⌜ r ≡ inRange k c ⌝ }
 {
-    match k {
-        Scalar::Number => (0 < c) & (c < 2_000_000_000_000_000),
-        Scalar::Boolean => c < 2,
-    }
+    (lowest_code(k) <= c) & (c < code_above(k))
 }
 
 // How many decimal digits a number below 10,000 has; 4 for any other.

@@ -1,6 +1,6 @@
 use borrow.Author.Needs.{needs}
 use native.Mathlib.Omega.{arith}
-use Rattle.values.proofs.Coded.{spelled-scalar-few}
+use Rattle.values.proofs.EachKind.{spelled-scalar-few}
 use Rattle.register_form_test.proofs.terms.scalar_bytes.Statement.{statement}
 use Rattle.register_form_test.proofs.terms.scalar_bytes.Tie as tie
 

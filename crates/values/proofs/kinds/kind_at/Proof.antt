@@ -1,5 +1,5 @@
 use borrow.Author.Needs.{needs}
-use Rattle.values.proofs.Laws.{kinds}
+use Rattle.values.proofs.AllKinds.{finding}
 use Rattle.values.proofs.kinds.kind_at.Statement.{statement}
 use Rattle.values.proofs.kinds.kind_at.Tie as tie
 
@@ -10,7 +10,7 @@ word-at-requires : tie.Need-word-at-requires
 word-at-requires c κs = search needs
 
 returns : tie.Need-returns
-returns c = search kinds
+returns c = search (finding, needs)
 
 slice-aggregate-word-at-2 : tie.Need-slice-aggregate-word-at-2
 slice-aggregate-word-at-2 c = search needs
@@ -19,7 +19,7 @@ word-at-requires-2 : tie.Need-word-at-requires-2
 word-at-requires-2 c κs = search needs
 
 returns-2 : tie.Need-returns-2
-returns-2 c = search kinds
+returns-2 c = search (finding, needs)
 
 slice-aggregate-word-at-3 : tie.Need-slice-aggregate-word-at-3
 slice-aggregate-word-at-3 c = search needs
@@ -28,7 +28,7 @@ word-at-requires-3 : tie.Need-word-at-requires-3
 word-at-requires-3 c κs = search needs
 
 returns-3 : tie.Need-returns-3
-returns-3 c = search kinds
+returns-3 c = search (finding, needs)
 
 slice-aggregate-word-at-4 : tie.Need-slice-aggregate-word-at-4
 slice-aggregate-word-at-4 c = search needs
@@ -37,10 +37,10 @@ word-at-requires-4 : tie.Need-word-at-requires-4
 word-at-requires-4 c κs = search needs
 
 returns-4 : tie.Need-returns-4
-returns-4 c = search kinds
+returns-4 c = search (finding, needs)
 
 returns-5 : tie.Need-returns-5
-returns-5 c = search kinds
+returns-5 c = search (finding, needs)
 
 pub kind-at-spec : {M : Type 1} → statement M
 kind-at-spec =

@@ -1,5 +1,5 @@
 use borrow.Author.Needs.{needs}
-use Rattle.values.proofs.Chosen.{bytes-of}
+use Rattle.values.proofs.EachKind.{bytes-of}
 use Rattle.values.proofs.kinds.same_scalar.Statement.{statement}
 use Rattle.values.proofs.kinds.same_scalar.Tie as tie
 
