@@ -3,16 +3,17 @@ use Prim.Native.Nat.{ℕ, suc, _+_, _-_, _*_, _^_, _≤_, _<_}
 use mathlib.Core.Path.{_≡_, refl, ap}
 use mathlib.Core.Bool.{Bool, true, false}
 use native.Mathlib.Omega.{arith}
+use lib.Dec.{eqb}
 use lib.IntN.{ℤ, pos, negsuc}
 use lib.ListN.{length}
-use borrow.Author.Tests.{lt-ltb, le-ltb, le-leb}
+use borrow.Author.Tests.{lt-ltb, le-ltb, le-leb, eq-eqb, ne-eqb}
 use Rattle.text.specs.Bytes.{numbers}
 use Rattle.text.specs.Table.{bit}
 use Rattle.text.proofs.Laws.{numbers-less, numbers-greater, numbers-like}
 use Rattle.values.specs.Values.{base, biased, inRange, orderNumbers, orderBooleans}
 use Rattle.values.specs.Spelling.{spellBoolean, numberFrom, spellScalar}
 use Rattle.values.specs.declared.Scalar.{Scalar}
-use Rattle.values.proofs.Numbers.{Small}
+use Rattle.values.proofs.Decimal.{Small}
 
 pub number-order : (a b : ℤ) → Small a → Small b → numbers (biased a) (biased b) ≡ orderNumbers a b
 number-order (pos a) (pos b) h k = numbers-like (base + a) (base + b) a b (omega arith) (omega arith)
@@ -57,3 +58,12 @@ spelled-bit false = refl
 pub spelled-truth : (b : Bool) → length (spellBoolean b) ≤ 21
 spelled-truth true = omega arith
 spelled-truth false = omega arith
+
+-- The ways to know how long `true` or `false` is.
+pub length-true : (c : ℕ) → c ≡ 1 → 4 ≡ length (spellBoolean (eqb c 1))
+length-true c h = rw (eq-eqb c 1 h)
+
+pub length-false : (c : ℕ) → (c ≡ 1 → ⊥) → 5 ≡ length (spellBoolean (eqb c 1))
+length-false c h = rw (ne-eqb c 1 h)
+
+pub ruleset truths = (length-true, length-false)

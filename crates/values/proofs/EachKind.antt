@@ -11,14 +11,14 @@ use borrow.Author.Tests.{eq-eqb, ne-eqb}
 use Rattle.text.specs.Bytes.{Bytes, starts}
 use Rattle.text.specs.Table.{bit}
 use Rattle.values.specs.Values.{mapOption, kindWord, kinds, scalarCode, kindCode, kindCount, kindFrom, sameScalar, readNumber, readBoolean, biased, readScalar, above, inRange}
-use Rattle.values.specs.Spelling.{spellScalar}
+use Rattle.values.specs.Spelling.{spellNumber, spellBoolean, numberFrom, spellScalar}
 use Rattle.values.specs.Answers.{codeRead, firstKind, kindAt, kindRead}
 use Rattle.values.specs.declared.Kind.{Kind}
 use Rattle.values.specs.declared.Scalar.{Scalar}
 use Rattle.values.specs.declared.CodeRead.{CodeRead}
 use Rattle.values.specs.declared.KindRead.{KindRead}
 use Rattle.values.proofs.Digits.{spelled-few}
-use Rattle.values.proofs.Numbers.{read-small}
+use Rattle.values.proofs.Decimal.{read-small}
 use Rattle.values.proofs.Spelled.{on-mapped, spelled-number-le, spelled-boolean-le}
 use Rattle.values.proofs.Coded.{number-of-code, small-in-range, bit-in-range, spelled-bit, spelled-truth}
 
@@ -116,15 +116,12 @@ module _ (k : Scalar) where
     read-boolean e f = rw e f
 
   module _ (c : ℕ) where
-    pub length-number : (r : ℕ) → k ≡ Scalar.Number → r ≡ length (spellScalar Scalar.Number c) → r ≡ length (spellScalar k c)
+    pub length-number : (r : ℕ) → k ≡ Scalar.Number → r ≡ length (spellNumber (numberFrom c)) → r ≡ length (spellScalar k c)
     length-number r e f = rw e f
 
-    pub length-true : k ≡ Scalar.Boolean → c ≡ 1 → 4 ≡ length (spellScalar k c)
-    length-true e h = rw (e, eq-eqb c 1 h)
-
-    pub length-false : k ≡ Scalar.Boolean → (c ≡ 1 → ⊥) → 5 ≡ length (spellScalar k c)
-    length-false e h = rw (e, ne-eqb c 1 h)
+    pub length-boolean : (r : ℕ) → k ≡ Scalar.Boolean → r ≡ length (spellBoolean (eqb c 1)) → r ≡ length (spellScalar k c)
+    length-boolean r e f = rw e f
 
 pub ruleset bytes-of = (code-scalar, same-scalars, byte-page, byte-number, byte-boolean, byte-string)
 
-pub ruleset by-scalar = (read-number, read-boolean, length-number, length-true, length-false)
+pub ruleset by-scalar = (read-number, read-boolean, length-number, length-boolean)

@@ -1,5 +1,5 @@
 pub mod Laws
-pub mod Numbers
+pub mod Decimal
 pub mod Spelled
 pub mod Sameness
 pub mod Ruling

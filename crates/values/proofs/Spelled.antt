@@ -20,7 +20,7 @@ use Rattle.values.specs.Values.{scalar, string, Value, plain, link, mapO
 use Rattle.values.specs.Spelling.{digitsWithin, digits, spellNumber, spellBoolean, spellIdentifier}
 use Rattle.values.specs.declared.Kind.{Kind}
 use Rattle.values.specs.declared.Scalar.{Scalar}
-use Rattle.values.proofs.Numbers.{decimal-lt}
+use Rattle.values.proofs.Decimal.{decimal-lt}
 
 -- What was read where a test had to pass, and what was read through a function.
 passed : {A : Type 0} (t : Bool) (a b : A) → cond t (some a) none ≡ some b → (t ≡ true) × (a ≡ b)

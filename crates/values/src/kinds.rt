@@ -1,11 +1,17 @@
-// Kinds: the word and the byte of each.
+// What differs from kind to kind: its word, its byte, and of a scalar kind how it is read, what codes it has, how long it is, spelled.
 ghost use mathlib.Core.Path.{_≡_};
 ghost use lib.ListN.{length, drop};
-ghost use Rattle.values.specs.Values.{kindWord, scalarCode, kindCode, kindFrom, sameScalar, sameKind};
-ghost use Rattle.values.specs.Answers.{kindRead, kindAt};
+ghost use Rattle.values.specs.Values.{kindWord, scalarCode, kindCode, kindFrom, sameScalar, sameKind, readScalar, lowest, above, inRange};
+ghost use Rattle.values.specs.Spelling.{spellScalar};
+ghost use Rattle.values.specs.Answers.{codeRead, kindRead, kindAt};
+use crate::CodeRead;
 use crate::Kind;
 use crate::KindRead;
 use crate::Scalar;
+use crate::booleans::boolean_length;
+use crate::booleans::read_boolean;
+use crate::numbers::number_length;
+use crate::numbers::read_number;
 use text::word_at;
 
 // Every kind has a byte below this.
@@ -94,4 +100,50 @@ pub fn same_kind(a: Kind, b: Kind) -> bool
     ensures { λ r. ⌜ r ≡ sameKind a b ⌝ }
 {
     kind_code(a) == kind_code(b)
+}
+
+// The code of the value that the bytes write in a scalar kind.
+pub fn read_scalar(k: Scalar, s: &[u8]) -> CodeRead
+    ensures { λ r. ⌜ r ≡ codeRead (readScalar k (now (s .entry))) ⌝ }
+{
+    match k {
+        Scalar::Number => read_number(s),
+        Scalar::Boolean => read_boolean(s),
+    }
+}
+
+// The lowest code of a scalar kind, and the one above all.
+fn lowest_code(k: Scalar) -> u64
+    ensures { λ r. ⌜ r ≡ lowest k ⌝ }
+{
+    match k {
+        Scalar::Number => 1,
+        Scalar::Boolean => 0,
+    }
+}
+
+fn code_above(k: Scalar) -> u64
+    ensures { λ r. ⌜ r ≡ above k ⌝ }
+{
+    match k {
+        Scalar::Number => 2_000_000_000_000_000,
+        Scalar::Boolean => 2,
+    }
+}
+
+// Whether a scalar kind has a value of that code.
+pub fn in_range(k: Scalar, c: u64) -> bool
+    ensures { λ r. ⌜ r ≡ inRange k c ⌝ }
+{
+    (lowest_code(k) <= c) & (c < code_above(k))
+}
+
+// How long the value is that a code tells, spelled.
+pub fn scalar_length(k: Scalar, c: u64) -> usize
+    ensures { λ r. ⌜ r ≡ length (spellScalar k c) ⌝ }
+{
+    match k {
+        Scalar::Number => number_length(c),
+        Scalar::Boolean => boolean_length(c),
+    }
 }

@@ -1,23 +1,23 @@
-// Names, references, values and kinds: the tests, and how the values are read. What differs from kind to kind stands in kinds.rt and
-// scalars.rt.
+// Names, references, values and kinds: the tests, and how the values are read.
 ghost use mathlib.Core.Path.{_≡_};
 ghost use Rattle.values.specs.Names.{isName, isPropertyName, isNamespace, isValue, isReference, reference, isSized, last};
 ghost use Rattle.values.specs.Answers.{hasBareEnds, Splits};
 
-pub mod kinds; // kinds.rt: the words and the bytes of kinds
+mod booleans; // booleans.rt: booleans
+pub mod kinds; // kinds.rt: what differs from kind to kind
+mod numbers; // numbers.rt: numbers
 pub mod rules; // rules.rt: the rules for bytes, in a table
-pub mod scalars; // scalars.rt: how scalars are read, and how long they are
 
 pub use kinds::KIND_COUNT;
+pub use kinds::in_range;
 pub use kinds::kind_at;
 pub use kinds::kind_code;
 pub use kinds::kind_from;
+pub use kinds::read_scalar;
 pub use kinds::same_kind;
 pub use kinds::same_scalar;
+pub use kinds::scalar_length;
 pub use kinds::word_length;
-pub use scalars::in_range;
-pub use scalars::read_scalar;
-pub use scalars::scalar_length;
 use text::Class;
 use text::Span;
 use text::all_in;

@@ -6,8 +6,8 @@ use borrow.Author.Needs.{needs}
 use Rattle.text.specs.Bytes.{same}
 use Rattle.values.specs.Values.{lower}
 use Rattle.values.proofs.Laws.{word-unlike, word-other, word-step, word-end}
-use Rattle.values.proofs.scalars.is_word.Statement.{statement}
-use Rattle.values.proofs.scalars.is_word.Tie as tie
+use Rattle.values.proofs.booleans.is_word.Statement.{statement}
+use Rattle.values.proofs.booleans.is_word.Tie as tie
 
 abbrev Inv-loop : tie.InvT-loop
 Inv-loop s w i₀ i = same (map lower s) w ≡ same (drop i (map lower s)) (drop i w)

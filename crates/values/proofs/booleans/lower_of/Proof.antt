@@ -2,8 +2,8 @@ use mathlib.Core.Bool.{and-eq-true-iff}
 use native.Mathlib.Omega.{arith}
 use lib.Dec.{leb}
 use borrow.Author.Tests.{leb-true}
-use Rattle.values.proofs.scalars.lower_of.Statement.{statement}
-use Rattle.values.proofs.scalars.lower_of.Tie as tie
+use Rattle.values.proofs.booleans.lower_of.Statement.{statement}
+use Rattle.values.proofs.booleans.lower_of.Tie as tie
 
 add-result : tie.Need-add-result
 add-result c = omega (arith, leb-true (c .before .args .b) 90 (and-eq-true-iff (leb 65 (c .before .args .b)) (leb (c .before .args .b) 90) .0 (c .if1 .taken) .1))

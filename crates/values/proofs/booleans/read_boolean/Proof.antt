@@ -1,7 +1,7 @@
 use borrow.Author.Needs.{needs}
 use Rattle.values.proofs.Laws.{booleans}
-use Rattle.values.proofs.scalars.read_boolean.Statement.{statement}
-use Rattle.values.proofs.scalars.read_boolean.Tie as tie
+use Rattle.values.proofs.booleans.read_boolean.Statement.{statement}
+use Rattle.values.proofs.booleans.read_boolean.Tie as tie
 
 slice-aggregate-is-word : tie.Need-slice-aggregate-is-word
 slice-aggregate-is-word c = search needs

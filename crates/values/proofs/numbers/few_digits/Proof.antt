@@ -1,7 +1,7 @@
 use borrow.Author.Needs.{needs}
 use Rattle.values.proofs.Digits.{lengths}
-use Rattle.values.proofs.scalars.few_digits.Statement.{statement}
-use Rattle.values.proofs.scalars.few_digits.Tie as tie
+use Rattle.values.proofs.numbers.few_digits.Statement.{statement}
+use Rattle.values.proofs.numbers.few_digits.Tie as tie
 
 returns : tie.Need-returns
 returns c = search (lengths, needs)

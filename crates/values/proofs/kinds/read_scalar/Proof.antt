@@ -1,7 +1,7 @@
 use borrow.Author.Needs.{needs}
 use Rattle.values.proofs.EachKind.{by-scalar}
-use Rattle.values.proofs.scalars.read_scalar.Statement.{statement}
-use Rattle.values.proofs.scalars.read_scalar.Tie as tie
+use Rattle.values.proofs.kinds.read_scalar.Statement.{statement}
+use Rattle.values.proofs.kinds.read_scalar.Tie as tie
 
 enum-told : tie.Need-enum-told
 enum-told c = search needs

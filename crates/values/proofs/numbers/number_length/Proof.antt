@@ -2,8 +2,8 @@ use Prim.Native.Nat.{_-_}
 use native.Mathlib.Omega.{arith}
 use borrow.Author.Needs.{needs}
 use Rattle.values.proofs.Digits.{lengths, few}
-use Rattle.values.proofs.scalars.number_length.Statement.{statement}
-use Rattle.values.proofs.scalars.number_length.Tie as tie
+use Rattle.values.proofs.numbers.number_length.Statement.{statement}
+use Rattle.values.proofs.numbers.number_length.Tie as tie
 
 sub-digit-count : tie.Need-sub-digit-count
 sub-digit-count c = search needs

@@ -1,8 +1,8 @@
 use native.Mathlib.Omega.{arith}
 use borrow.Author.Needs.{needs}
-use Rattle.values.proofs.Numbers.{ways, digits-below}
-use Rattle.values.proofs.scalars.read_number.Statement.{statement}
-use Rattle.values.proofs.scalars.read_number.Tie as tie
+use Rattle.values.proofs.Decimal.{ways, digits-below}
+use Rattle.values.proofs.numbers.read_number.Statement.{statement}
+use Rattle.values.proofs.numbers.read_number.Tie as tie
 
 byte-at-requires : tie.Need-byte-at-requires
 byte-at-requires c κs = search needs

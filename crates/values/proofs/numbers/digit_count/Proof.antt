@@ -5,8 +5,8 @@ use lib.ListN.{length}
 use borrow.Author.Needs.{needs}
 use Rattle.values.specs.Spelling.{digits}
 use Rattle.values.proofs.Digits.{four-off, counted, few}
-use Rattle.values.proofs.scalars.digit_count.Statement.{statement}
-use Rattle.values.proofs.scalars.digit_count.Tie as tie
+use Rattle.values.proofs.numbers.digit_count.Statement.{statement}
+use Rattle.values.proofs.numbers.digit_count.Tie as tie
 
 abbrev Inv-loop : tie.InvT-loop
 Inv-loop n rest₀ k₀ rest k = (k + length (digits rest) ≡ length (digits n)) × (length (digits n) ≤ 20)

@@ -1,7 +1,7 @@
 use borrow.Author.Needs.{needs}
 use Rattle.values.proofs.AllKinds.{range-is}
-use Rattle.values.proofs.scalars.in_range.Statement.{statement}
-use Rattle.values.proofs.scalars.in_range.Tie as tie
+use Rattle.values.proofs.kinds.in_range.Statement.{statement}
+use Rattle.values.proofs.kinds.in_range.Tie as tie
 
 lowest-code-requires : tie.Need-lowest-code-requires
 lowest-code-requires c κs = search needs

@@ -5,9 +5,9 @@ use lib.ListN.{length, drop}
 use borrow.Author.Needs.{needs}
 use Rattle.values.specs.Values.{base}
 use Rattle.values.specs.Values.{decimal}
-use Rattle.values.proofs.Numbers.{digits-unfit, digits-small, digits-fit, decimal-end, decimal-step, step-fits}
-use Rattle.values.proofs.scalars.read_digits.Statement.{statement}
-use Rattle.values.proofs.scalars.read_digits.Tie as tie
+use Rattle.values.proofs.Decimal.{digits-unfit, digits-small, digits-fit, decimal-end, decimal-step, step-fits}
+use Rattle.values.proofs.numbers.read_digits.Statement.{statement}
+use Rattle.values.proofs.numbers.read_digits.Tie as tie
 
 abbrev Inv-loop : tie.InvT-loop
 Inv-loop s fit n₀ i₀ n i = (decimal 0 s < base) × (decimal 0 s ≡ decimal n (drop i s))
