@@ -29,14 +29,6 @@ impl PageSet {
         }
     }
 
-    // A page from 256 on is in no set.
-    pub fn one(page: usize) -> PageSet
-        ensures { λ r. ⌜ r .marks ≡ set (replicate 256 false) page true ⌝ }
-    {
-        let none = PageSet::none();
-        none.with(page)
-    }
-
     // A page from 256 on changes nothing.
     pub fn with(self, page: usize) -> PageSet
         ensures { λ r. ⌜ r .marks ≡ set (self .marks) page true ⌝ }
@@ -47,13 +39,6 @@ impl PageSet {
         let mut marks = self.marks;
         marks[page] = true;
         PageSet { marks: marks }
-    }
-
-    pub fn has(self, page: usize) -> bool
-        ensures { λ r. ⌜ r ≡ getD (self .marks) page false ⌝ }
-    {
-        let marks = self.marks;
-        mark_at(&marks, page)
     }
 
     pub fn union(self, other: PageSet) -> PageSet
