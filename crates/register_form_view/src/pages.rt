@@ -22,7 +22,6 @@ use crate::forms::terms_standing;
 use crate::namespace_at;
 use crate::ranges::category_range;
 use crate::ranges::property_range;
-use crate::ranks::compare_name;
 use crate::ranks::order_by;
 use crate::ranks::rank_for;
 use crate::ranks::rank_of;
@@ -34,8 +33,10 @@ use register_form::form_end;
 use register_form::form_start;
 use register_form::identifier_number;
 use register_form::minus;
+use register_form::name_at;
 use register_form::page_count;
 use tables::widen;
+use text::compare;
 use text::same_bytes;
 
 // The pages that have a term of a range.
@@ -124,7 +125,7 @@ fn name_passes(h: &[u8], i: u16, test: NameTest, x: &[u8], rank: Rank) -> bool
             if n < rank.plain {
                 stands_as(c, order_by(rank, n))
             } else {
-                stands_as(c, compare_name(h, n, x))
+                stands_as(c, compare(name_at(h, n), x))
             }
         }
     }

@@ -82,7 +82,7 @@ pub fn order_by(rank: Rank, n: u16) -> Order
     compare_numbers(1 + 2 * long(n), rank.key)
 }
 
-// How the name of text n stands to x. Apart from the callers, so that their loops stay short where the rank tells.
+// How the name of text n stands to x.
 pub fn compare_name(h: &[u8], n: u16, x: &[u8]) -> Order
     ensures { λ r. ⌜ r ≡ orderOf (nameOf (textAt (now (h .entry)) n)) (now (x .entry)) ⌝ }
 {

@@ -24,8 +24,11 @@ order-by-requires c κs = search needs
 stands-as-requires : tie.Need-stands-as-requires
 stands-as-requires c κs = search needs
 
-compare-name-requires : tie.Need-compare-name-requires
-compare-name-requires c κs = search needs
+name-at-requires : tie.Need-name-at-requires
+name-at-requires c κs = search needs
+
+compare-requires : tie.Need-compare-requires
+compare-requires c κs = search needs
 
 stands-as-requires-2 : tie.Need-stands-as-requires-2
 stands-as-requires-2 c κs = search needs
@@ -50,7 +53,8 @@ name-passes-spec =
     identifier-number-requires
     order-by-requires
     stands-as-requires
-    compare-name-requires
+    name-at-requires
+    compare-requires
     stands-as-requires-2
     returns
     returns-2
