@@ -86,7 +86,8 @@ fn is_selection(connective: Connective) -> bool
     }
 }
 
-// The pages that match a selector; inner are those that its subquery selects.
+// The pages that match a selector; inner are those that its subquery selects. With one caller this was compiled into the recursion,
+// its tables of terms in the frame of each of 256 levels: 1.5 MB of stack. So both ways of eval_selector call it.
 fn select(q: &[u8], selector: Selector, inner: PageSet, h: &[u8], places: &[u16]) -> PageSet
     ensures { λ r. ⌜ Selects (now (h .entry)) (now (places .entry)) (heapIn (now (q .entry))) selector (inner .marks) (r .marks) ⌝ }
 {
