@@ -22,7 +22,7 @@ use Rattle.register_form_write.specs.Writer.{Capacity, DraftWritten}
 use Rattle.register_join_merge.specs.Merged.{Merged}
 use Rattle.register_join_merge.specs.Merging.{Room, Merger}
 use Rattle.register_join_draft.specs.Drafting.{itemsIn, TableRoom, JoinPut, Clashed}
-use Rattle.register_join_draft.proofs.Whole.{held-draft, held-drafted, held-texts, held-forms}
+use Rattle.register_join_draft.proofs.Whole.{held-draft, held-drafted, held-texts, held-terms}
 use Rattle.call_answers.specs.Calls.{joined, joinCall}
 use Rattle.call_answers.proofs.Answers.{as-told}
 use Rattle.call_join.specs.Stages.{Joins, Writes}
@@ -31,13 +31,14 @@ use Rattle.call_join.specs.Stages.{Joins, Writes}
 zeros-many : (n : ℕ) → length (replicate {A = ℕ} n 0) ≡ n
 zeros-many n = length-replicate n 0
 
-zeros-space : TableRoom (replicate 128 0) (replicate 128 0) (replicate 512 0) (replicate 513 0) (replicate 4096 0) (replicate 4096 0)
+zeros-space : TableRoom (replicate 128 0) (replicate 128 0) (replicate 512 0) (replicate 513 0) (replicate 4096 0) (replicate 4096 0) (replicate 4096 0)
 zeros-space =
     record {
       kinds-size = omega (arith, zeros-many 128);
       names-size = omega (arith, zeros-many 128);
       identifiers-size = omega (arith, zeros-many 512);
       firsts-size = omega (arith, zeros-many 513);
+      uses-size = omega (arith, zeros-many 4096);
       groups-size = omega (arith, zeros-many 4096);
       codes-size = omega (arith, zeros-many 4096);
     }
@@ -67,20 +68,20 @@ module _ (h g b : Bytes) where
   joined-clash e = record { number = rw e; bytes = rw e }
 
   -- The draft of the join, written.
-  pub join-written : (heap : Bytes) (starts lens items1 items2 : List ℕ) (m : ℕ) (ks ns is fs gs cs : List ℕ) (np ng nf r : ℕ) (after : Bytes)
-      → JoinPut h g items1 items2 (replicate 128 0) (replicate 128 0) (replicate 512 0) (replicate 513 0) (replicate 4096 0) (replicate 4096 0) ks ns is fs gs cs np ng nf
-      → DraftWritten (tablesOf heap starts lens m ks ns np is fs ng gs cs nf) b r after
+  pub join-written : (heap : Bytes) (starts lens items1 items2 : List ℕ) (m : ℕ) (ks ns is fs us gs cs : List ℕ) (np ng nt r : ℕ) (after : Bytes)
+      → JoinPut h g items1 items2 (replicate 128 0) (replicate 128 0) (replicate 512 0) (replicate 513 0) (replicate 4096 0) (replicate 4096 0) (replicate 4096 0) ks ns is fs us gs cs np ng nt
+      → DraftWritten (tablesOf heap starts lens m ks ns np is fs ng us gs cs nt) b r after
       → Writes h g heap starts lens m items1 items2 b r after
-  join-written heap starts lens items1 items2 m ks ns is fs gs cs np ng nf r after put w =
+  join-written heap starts lens items1 items2 m ks ns is fs us gs cs np ng nt r after put w =
       record {
         is = λ fh fg merged clear.
-            let T = tablesOf heap starts lens m ks ns np is fs ng gs cs nf in
+            let T = tablesOf heap starts lens m ks ns np is fs ng us gs cs nt in
             let room : Capacity T = record {
-              texts = held-texts h g heap starts lens items1 items2 m fh fg merged clear (replicate 128 0) (replicate 128 0) (replicate 512 0) (replicate 513 0) (replicate 4096 0) (replicate 4096 0) ks ns is fs gs cs np ng nf put zeros-space;
-              forms = held-forms h g heap starts lens items1 items2 m fh fg merged clear (replicate 128 0) (replicate 128 0) (replicate 512 0) (replicate 513 0) (replicate 4096 0) (replicate 4096 0) ks ns is fs gs cs np ng nf put zeros-space;
+              texts = held-texts h g heap starts lens items1 items2 m fh fg merged clear (replicate 128 0) (replicate 128 0) (replicate 512 0) (replicate 513 0) (replicate 4096 0) (replicate 4096 0) (replicate 4096 0) ks ns is fs us gs cs np ng nt put zeros-space;
+              terms = held-terms h g heap starts lens items1 items2 m fh fg merged clear (replicate 128 0) (replicate 128 0) (replicate 512 0) (replicate 513 0) (replicate 4096 0) (replicate 4096 0) (replicate 4096 0) ks ns is fs us gs cs np ng nt put zeros-space;
             } in
-            let draft = held-draft h g heap starts lens items1 items2 m fh fg merged clear (replicate 128 0) (replicate 128 0) (replicate 512 0) (replicate 513 0) (replicate 4096 0) (replicate 4096 0) ks ns is fs gs cs np ng nf put zeros-space in
-            let told = held-drafted h g heap starts lens items1 items2 m fh fg merged clear (replicate 128 0) (replicate 128 0) (replicate 512 0) (replicate 513 0) (replicate 4096 0) (replicate 4096 0) ks ns is fs gs cs np ng nf put zeros-space in
+            let draft = held-draft h g heap starts lens items1 items2 m fh fg merged clear (replicate 128 0) (replicate 128 0) (replicate 512 0) (replicate 513 0) (replicate 4096 0) (replicate 4096 0) (replicate 4096 0) ks ns is fs us gs cs np ng nt put zeros-space in
+            let told = held-drafted h g heap starts lens items1 items2 m fh fg merged clear (replicate 128 0) (replicate 128 0) (replicate 512 0) (replicate 513 0) (replicate 4096 0) (replicate 4096 0) (replicate 4096 0) ks ns is fs us gs cs np ng nt put zeros-space in
             as-told (joined-clear (registerIn h) (registerIn g) b clear ∙ ap (λ (R : Register). writeInto R b) (sym told)) (w .is draft room);
       }
 

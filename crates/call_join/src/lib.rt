@@ -29,6 +29,7 @@ fn write_join(
     let mut names = [0u16; layout::DRAFT_PROPERTIES];
     let mut identifiers = [0u16; layout::DRAFT_PAGES];
     let mut firsts = [0u16; layout::DRAFT_PAGE_STARTS];
+    let mut uses = [0u16; layout::DRAFT_FORMS];
     let mut groups = [0u8; layout::DRAFT_FORMS];
     let mut codes = [0u64; layout::DRAFT_FORMS];
     let c = draft_join(
@@ -40,6 +41,7 @@ fn write_join(
         &mut names,
         &mut identifiers,
         &mut firsts,
+        &mut uses,
         &mut groups,
         &mut codes,
     );
@@ -54,9 +56,10 @@ fn write_join(
         &identifiers,
         &firsts,
         c.pages,
+        &uses,
         &groups,
         &codes,
-        c.forms,
+        c.terms,
         held,
     )
 }

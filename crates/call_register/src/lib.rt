@@ -1,11 +1,25 @@
 // The register call: judges a register text, and writes the held register.
 ghost use Rattle.language.specs.Answer.{Answered};
+ghost use Rattle.register_form_assembly.specs.Terms.{Filling};
 ghost use Rattle.call_answers.specs.Calls.{registerCall};
 ghost use Rattle.call_register.specs.Writing.{Writes};
 use register_form::layout;
 use register_form_write::write_draft;
 use register_text_draft::draft_text;
 use register_text_verdict::judge;
+use tables::put;
+use tables::widen;
+
+// Writes of each of the first n forms that it is a term of its own.
+fn put_own(uses: &mut [u16], n: u16)
+    ensures { λ _. ⌜ Filling (λ f. f) (now (uses .entry)) n (now (uses .exit)) ⌝ }
+{
+    let mut f: u16 = 0;
+    while f < n {
+        put(uses, widen(f), f);
+        f += 1;
+    }
+}
 
 // Writes the register of an accepted text: 0, or 8 where the buffer is too short.
 fn write_text(text: &[u8], t: &[u16], n: usize, props: &[u16], np: usize, held: &mut [u8]) -> usize
@@ -18,6 +32,7 @@ fn write_text(text: &[u8], t: &[u16], n: usize, props: &[u16], np: usize, held: 
     let mut names = [0u16; layout::PROPERTY_ROOM];
     let mut identifiers = [0u16; layout::PAGE_ROOM];
     let mut firsts = [0u16; layout::PAGE_START_ROOM];
+    let mut uses = [0u16; layout::FORM_ROOM];
     let mut groups = [0u8; layout::FORM_ROOM];
     let mut codes = [0u64; layout::FORM_ROOM];
     let c = draft_text(
@@ -36,6 +51,7 @@ fn write_text(text: &[u8], t: &[u16], n: usize, props: &[u16], np: usize, held: 
         &mut groups,
         &mut codes,
     );
+    put_own(&mut uses, c.forms);
     write_draft(
         &heap,
         &starts,
@@ -47,6 +63,7 @@ fn write_text(text: &[u8], t: &[u16], n: usize, props: &[u16], np: usize, held: 
         &identifiers,
         &firsts,
         c.pages,
+        &uses,
         &groups,
         &codes,
         c.forms,

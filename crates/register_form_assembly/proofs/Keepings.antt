@@ -16,7 +16,7 @@ use Rattle.text.specs.Table.{tabulate}
 use Rattle.text.proofs.Laws.{any-append}
 use Rattle.register_form.specs.Draft.{onceBehind, filtered}
 use Rattle.buffer.proofs.Parts.{flat-more}
-use Rattle.register_form.specs.Tables.{range, formsAt}
+use Rattle.register_form.specs.Tables.{between, formsAt}
 use Rattle.register_form_assembly.specs.Keeping.{ofPass, passed, added, keptBy, keptOn, keptUpTo, Listed, Keeping, Kept, PassKept, Ready, PagesKept, Fresh, Within}
 
 -- One more in a table.
@@ -97,16 +97,16 @@ module _ (page x : ℕ) (wanted : Bool) (used table : List ℕ) (n : ℕ) where
         bound before kept b s y (no p) = rw (getD-set-other used x y page 0 p) (s .most y)
 
 -- Passes: lists grow at their ends.
-range-none : (from : ℕ) → range from from ≡ []
-unfolding range tabulate
-range-none from = ap (λ (k : ℕ). tabulate k (λ j. from + j)) (let e : from - from ≡ 0 = omega arith in e)
+between-none : (uses : List ℕ) (from : ℕ) → between uses from from ≡ []
+unfolding between tabulate
+between-none uses from = ap (λ (k : ℕ). tabulate k (λ j. getD uses (from + j) 0)) (let e : from - from ≡ 0 = omega arith in e)
 
-range-more : (from f : ℕ) → from ≤ f → range from (f + 1) ≡ range from f ++ (f ∷ [])
-unfolding range tabulate
-range-more from f h =
+between-more : (uses : List ℕ) (from f : ℕ) → from ≤ f → between uses from (f + 1) ≡ between uses from f ++ (getD uses f 0 ∷ [])
+unfolding between tabulate
+between-more uses from f h =
     let e : f + 1 - from ≡ suc (f - from) = omega arith in
     let g : from + (f - from) ≡ f = omega arith in
-    ap (λ (k : ℕ). tabulate k (λ j. from + j)) e ∙ ap (λ (k : ℕ). tabulate (f - from) (λ j. from + j) ++ (k ∷ [])) g
+    ap (λ (k : ℕ). tabulate k (λ j. getD uses (from + j) 0)) e ∙ ap (λ (k : ℕ). tabulate (f - from) (λ j. getD uses (from + j) 0) ++ (getD uses k 0 ∷ [])) g
 
 filtered-append : {A : Type 0} (p : A → Bool) (l m : List A) → filtered p (l ++ m) ≡ filtered p l ++ filtered p m
 unfolding filtered
@@ -139,26 +139,27 @@ module _ (first : Bool) (groups numbers : List ℕ) where
           ∙ once-append eqb kept (map (λ q. getD numbers q 0) (passed first groups l)) (getD numbers f 0 ∷ [])
       go false = rw append-nil
 
-  module _ (page from : ℕ) (used₀ table₀ : List ℕ) (n : ℕ) where
-    pub pass-none : PassKept page first groups numbers from from used₀ table₀ n used₀ table₀ n
-    pass-none = record { used-size = refl; table-size = refl; good = λ b before kept k. rw (range-none from, kept-none kept) k }
+  module _ (uses : List ℕ) (page from : ℕ) (used₀ table₀ : List ℕ) (n : ℕ) where
+    pub pass-none : PassKept page first groups numbers uses from from used₀ table₀ n used₀ table₀ n
+    pass-none = record { used-size = refl; table-size = refl; good = λ b before kept k. rw (between-none uses from, kept-none kept) k }
 
-    module _ (f : ℕ) (used table : List ℕ) (count : ℕ) (a : PassKept page first groups numbers from f used₀ table₀ n used table count) where
-      pub pass-more : (k g x : ℕ) (w : Bool) (used′ table′ : List ℕ) (r : ℕ) → from ≤ f → k ≡ f → g ≡ getD groups k 0 → w ≡ ofPass first g → x ≡ getD numbers k 0 → Kept page x w used table count used′ table′ r → PassKept page first groups numbers from (f + 1) used₀ table₀ n used′ table′ r
-      pass-more k g x w used′ table′ r h d e i j q =
+    module _ (f : ℕ) (used table : List ℕ) (count : ℕ) (a : PassKept page first groups numbers uses from f used₀ table₀ n used table count) where
+      pub pass-more : (k y g x : ℕ) (w : Bool) (used′ table′ : List ℕ) (r : ℕ) → from ≤ f → k ≡ f → y ≡ getD uses k 0 → g ≡ getD groups y 0 → w ≡ ofPass first g → x ≡ getD numbers y 0 → Kept page x w used table count used′ table′ r → PassKept page first groups numbers uses from (f + 1) used₀ table₀ n used′ table′ r
+      pass-more k y g x w used′ table′ r h d u e i j q =
           record {
             used-size = q .used-size ∙ a .used-size;
             table-size = q .table-size ∙ a .table-size;
             good = λ b before kept s.
-                let number : x ≡ getD numbers f 0 = j ∙ rw d in
-                let wanted : w ≡ ofPass first (getD groups f 0) = i ∙ rw (e, d) in
+                let term : y ≡ getD uses f 0 = u ∙ rw d in
+                let number : x ≡ getD numbers (getD uses f 0) 0 = j ∙ rw term in
+                let wanted : w ≡ ofPass first (getD groups (getD uses f 0) 0) = i ∙ rw (e, term) in
                 let below : x < length used = rw (number, a .used-size) (b f h (omega arith)) in
-                rw (range-more from f h, kept-more kept (range from f) f, ← wanted, ← number)
-                (q .good before (keptBy first groups numbers kept (range from f)) below (a .good (λ y c z. b y c (omega arith)) before kept s));
+                rw (between-more uses from f h, kept-more kept (between uses from f) (getD uses f 0), ← wanted, ← number)
+                (q .good before (keptBy first groups numbers kept (between uses from f)) below (a .good (λ y c z. b y c (omega arith)) before kept s));
           }
 
-      pub pass-all : (to : ℕ) → from ≤ f → f - from ≤ to - from → to ≤ f → PassKept page first groups numbers from to used₀ table₀ n used table count
-      unfolding range
+      pub pass-all : (to : ℕ) → from ≤ f → f - from ≤ to - from → to ≤ f → PassKept page first groups numbers uses from to used₀ table₀ n used table count
+      unfolding between
       pass-all to h b c =
           let e : f - from ≡ to - from = omega arith in
           record {
@@ -174,10 +175,10 @@ zeros-at (suc n) zero = refl
 zeros-at (suc n) (suc x) = zeros-at n x
 
 -- Page after page.
-module _ (groups numbers firsts : List ℕ) where
-  kept-up-to : (i : ℕ) → keptUpTo groups numbers firsts (i + 1) ≡ keptUpTo groups numbers firsts i ++ keptOn groups numbers firsts i
+module _ (groups numbers uses firsts : List ℕ) where
+  kept-up-to : (i : ℕ) → keptUpTo groups numbers uses firsts (i + 1) ≡ keptUpTo groups numbers uses firsts i ++ keptOn groups numbers uses firsts i
   unfolding keptUpTo
-  kept-up-to i = rw add-one (flat-more (λ (t : Bytes). t) i (keptOn groups numbers firsts))
+  kept-up-to i = rw add-one (flat-more (λ (t : Bytes). t) i (keptOn groups numbers uses firsts))
 
   module _ (n : ℕ) (table₀ starts₀ : List ℕ) where
     -- What holds when some pages are done.
@@ -185,8 +186,8 @@ module _ (groups numbers firsts : List ℕ) where
       pub used-size : length used ≡ 4096
       pub table-size : length table ≡ length table₀
       pub starts-size : length starts ≡ length starts₀
-      pub ready : Fresh n table₀ starts₀ → Within numbers firsts n 4096 → Ready page (keptUpTo groups numbers firsts page) used table count
-      pub begins : Fresh n table₀ starts₀ → Within numbers firsts n 4096 → (j : ℕ) → j ≤ page → getD starts j 0 ≡ min (length (keptUpTo groups numbers firsts j)) 2049
+      pub ready : Fresh n table₀ starts₀ → Within numbers uses firsts n 4096 → Ready page (keptUpTo groups numbers uses firsts page) used table count
+      pub begins : Fresh n table₀ starts₀ → Within numbers uses firsts n 4096 → (j : ℕ) → j ≤ page → getD starts j 0 ≡ min (length (keptUpTo groups numbers uses firsts j)) 2049
 
     pub paging-none : Paging 0 (replicate 4096 0) table₀ starts₀ 0
     unfolding keptUpTo tabulate flatMap
@@ -216,8 +217,8 @@ module _ (groups numbers firsts : List ℕ) where
           → from ≡ getD firsts p 0
           → q ≡ page + 1
           → to ≡ getD firsts q 0
-          → PassKept (page + 1) true groups numbers from to used table count used′ table′ some
-          → PassKept (page + 1) false groups numbers from to used′ table′ some used″ table″ r
+          → PassKept (page + 1) true groups numbers uses from to used table count used′ table′ some
+          → PassKept (page + 1) false groups numbers uses from to used′ table′ some used″ table″ r
           → k ≡ page + 1
           → starts′ ≡ set starts k r
           → Paging (page + 1) used″ table″ starts′ r
@@ -237,24 +238,24 @@ module _ (groups numbers firsts : List ℕ) where
           to-is : to ≡ getD firsts (suc page) 0
           to-is = g ∙ rw (f, add-one)
 
-          forms : range from to ≡ formsAt firsts page
-          forms = ap₂ range from-is to-is
+          forms : between uses from to ≡ formsAt uses firsts page
+          forms = ap₂ (between uses) from-is to-is
 
-          next : Fresh n table₀ starts₀ → Within numbers firsts n 4096 → Ready (page + 1) (keptUpTo groups numbers firsts (page + 1)) used″ table″ r
+          next : Fresh n table₀ starts₀ → Within numbers uses firsts n 4096 → Ready (page + 1) (keptUpTo groups numbers uses firsts (page + 1)) used″ table″ r
           next s w =
-              let before = keptUpTo groups numbers firsts page in
+              let before = keptUpTo groups numbers uses firsts page in
               let one = x .good (λ i b c. rw (a .used-size) (w page i h (omega (arith, from-is)) (omega (arith, to-is)))) before [] (ready-page page before used table count (a .ready s w)) in
-              let two = y .good (λ i b c. rw (x .used-size, a .used-size) (w page i h (omega (arith, from-is)) (omega (arith, to-is)))) before (keptBy true groups numbers [] (range from to)) one in
-              let same : keptBy false groups numbers (keptBy true groups numbers [] (range from to)) (range from to) ≡ keptOn groups numbers firsts page = rw forms in
+              let two = y .good (λ i b c. rw (x .used-size, a .used-size) (w page i h (omega (arith, from-is)) (omega (arith, to-is)))) before (keptBy true groups numbers [] (between uses from to)) one in
+              let same : keptBy false groups numbers (keptBy true groups numbers [] (between uses from to)) (between uses from to) ≡ keptOn groups numbers uses firsts page = rw forms in
               record { listed = rw (kept-up-to page, ← same) (two .listed); room = two .room; most = two .most }
 
-          go : Fresh n table₀ starts₀ → Within numbers firsts n 4096 → (j : ℕ) → Dec (j ≡ page + 1) → j ≤ page + 1 → getD starts′ j 0 ≡ min (length (keptUpTo groups numbers firsts j)) 2049
+          go : Fresh n table₀ starts₀ → Within numbers uses firsts n 4096 → (j : ℕ) → Dec (j ≡ page + 1) → j ≤ page + 1 → getD starts′ j 0 ≡ min (length (keptUpTo groups numbers uses firsts j)) 2049
           go s w j (yes i) b =
               let room : page + 1 < length starts = omega (arith, s .starts-room, a .starts-size) in
               rw (v, z, i) (getD-set-same starts (page + 1) r 0 room ∙ next s w .listed .count)
           go s w j (no i) b = rw (v, z) (getD-set-other starts (page + 1) j r 0 i ∙ a .begins s w j (omega (arith, i)))
 
-      pub paging-all : page ≤ n → n ≤ page → Fresh n table₀ starts₀ → Within numbers firsts n 4096 → PagesKept groups numbers firsts n table starts count
+      pub paging-all : page ≤ n → n ≤ page → Fresh n table₀ starts₀ → Within numbers uses firsts n 4096 → PagesKept groups numbers uses firsts n table starts count
       paging-all b c s w =
           let e : n ≡ page = omega arith in
           record { listed = rw e (a .ready s w .listed); begins = λ j h. a .begins s w j (omega arith) }

@@ -4,6 +4,7 @@ ghost use Prim.Native.Nat.{_+_, min};
 ghost use Rattle.register_form_assembly.specs.Keeping.{ofPass, Kept, PassKept, PagesKept, Fresh, Within};
 use register_form::layout;
 use tables::get;
+use tables::num_at;
 use tables::put;
 use tables::widen;
 use text::byte_at;
@@ -44,20 +45,21 @@ fn keep_pass(
     first: bool,
     groups: &[u8],
     numbers: &[u16],
+    uses: &[u16],
     from: u16,
     to: u16,
     used: &mut [u16],
     table: &mut [u16],
     n: u16,
 ) -> u16
-    ensures { λ r. ⌜ PassKept page first (now (groups .entry)) (now (numbers .entry)) from to (now (used .entry)) (now (table .entry)) n (now (used .exit)) (now (table .exit)) r ⌝ }
+    ensures { λ r. ⌜ PassKept page first (now (groups .entry)) (now (numbers .entry)) (now (uses .entry)) from to (now (used .entry)) (now (table .entry)) n (now (used .exit)) (now (table .exit)) r ⌝ }
 {
     let mut count = n;
     let mut f = from;
     while f < to {
-        let k = widen(f);
-        let wanted = is_wanted(first, byte_at(groups, k));
-        count = keep(page, get(numbers, k), wanted, used, table, count);
+        let x = num_at(uses, widen(f));
+        let wanted = is_wanted(first, byte_at(groups, x));
+        count = keep(page, get(numbers, x), wanted, used, table, count);
         f += 1;
     }
     count
@@ -67,12 +69,13 @@ fn keep_pass(
 pub fn keep_forms(
     groups: &[u8],
     numbers: &[u16],
+    uses: &[u16],
     firsts: &[u16],
     n: u16,
     table: &mut [u16],
     starts: &mut [u16],
 ) -> u16
-    ensures { λ r. ⌜ (Fresh n (now (table .entry)) (now (starts .entry)) → Within (now (numbers .entry)) (now (firsts .entry)) n 4096 → PagesKept (now (groups .entry)) (now (numbers .entry)) (now (firsts .entry)) n (now (table .exit)) (now (starts .exit)) r) ⌝ }
+    ensures { λ r. ⌜ (Fresh n (now (table .entry)) (now (starts .entry)) → Within (now (numbers .entry)) (now (uses .entry)) (now (firsts .entry)) n 4096 → PagesKept (now (groups .entry)) (now (numbers .entry)) (now (uses .entry)) (now (firsts .entry)) n (now (table .exit)) (now (starts .exit)) r) ⌝ }
 {
     let mut used = [0u16; layout::DRAFT_FORMS];
     let mut count: u16 = 0;
@@ -86,6 +89,7 @@ pub fn keep_forms(
             true,
             groups,
             numbers,
+            uses,
             from,
             to,
             &mut used,
@@ -97,6 +101,7 @@ pub fn keep_forms(
             false,
             groups,
             numbers,
+            uses,
             from,
             to,
             &mut used,

@@ -64,9 +64,9 @@ module _ (t : Tables) (v : Found) (h : Bytes) where
   over e = record { number = rw e; bytes = rw e }
 
   module _ (table₀ begins₀ table begins : List ℕ) (n : ℕ) (f : t .ng ≤ 256 → Fresh (t .ng) table₀ begins₀)
-      (p : Fresh (t .ng) table₀ begins₀ → Within (v .termNumbers) (t .firsts) (t .ng) 4096 → PagesKept (t .groups) (v .termNumbers) (t .firsts) (t .ng) table begins n)
+      (p : Fresh (t .ng) table₀ begins₀ → Within (v .termNumbers) (t .uses) (t .firsts) (t .ng) 4096 → PagesKept (t .groups) (v .termNumbers) (t .uses) (t .firsts) (t .ng) table begins n)
     where
-      pages : Within (v .termNumbers) (t .firsts) (t .ng) 4096 → t .ng ≤ 256 → PagesKept (t .groups) (v .termNumbers) (t .firsts) (t .ng) table begins n
+      pages : Within (v .termNumbers) (t .uses) (t .firsts) (t .ng) 4096 → t .ng ≤ 256 → PagesKept (t .groups) (v .termNumbers) (t .uses) (t .firsts) (t .ng) table begins n
       pages w g = p (f g) w
 
       pub kept-many : 2048 < n → KeptWritten t v h 7 h
@@ -81,11 +81,11 @@ module _ (t : Tables) (v : Found) (h : Bytes) where
       module _ (few : n ≤ 2048) (c : ℕ)
           (e : c ≡ min (total (textBytes (t .s) (t .starts) (t .lens)) (firstOf (t .names) (t .np)) + total (textBytes (t .s) (t .starts) (t .lens)) (firstOf (t .identifiers) (t .ng)) + total (termBytesBy (t .s) (t .starts) (t .lens) (t .kinds) (t .groups) (t .codes) (v .termRefs)) (firstOf table n)) 32769)
         where
-          counted : Within (v .termNumbers) (t .firsts) (t .ng) 4096 → t .ng ≤ 256 → c ≡ min (countedBy t v) 32769
+          counted : Within (v .termNumbers) (t .uses) (t .firsts) (t .ng) 4096 → t .ng ≤ 256 → c ≡ min (countedBy t v) 32769
           unfolding countedBy
-          counted w g = rw (kept-are (t .groups) (v .termNumbers) (t .firsts) (t .ng) table begins n (pages w g) few) e
+          counted w g = rw (kept-are (t .groups) (v .termNumbers) (t .uses) (t .firsts) (t .ng) table begins n (pages w g) few) e
 
-          forms-fit : Within (v .termNumbers) (t .firsts) (t .ng) 4096 → t .ng ≤ 256 → leb (length (keptAll t v)) 2048 ≡ true
+          forms-fit : Within (v .termNumbers) (t .uses) (t .firsts) (t .ng) 4096 → t .ng ≤ 256 → leb (length (keptAll t v)) 2048 ≡ true
           forms-fit w g = let k = pages w g in le-leb (length (keptAll t v)) 2048 (omega (arith, k .listed .count))
 
           pub kept-long : 32768 < c → KeptWritten t v h 7 h

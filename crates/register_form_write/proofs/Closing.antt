@@ -103,22 +103,22 @@ module _ (t : Tables) (v : Found) (r : Renumbering t v) (c : Capacity t) (p : t 
 -- Numbering the terms.
 pub terms-written : (t : Tables) (refs : List ℕ) (nx : ℕ) (numbers : List ℕ) (table : Bytes) (starts termRefs termNumbers scratch : List ℕ) (n nt : ℕ) (h : Bytes) (y : ℕ) (o : Bytes)
     → ((i : ℕ) → getD (t .codes) i 0 < 2 ^ 64)
-    → table ≡ written (replicate 36864 0) 0 (joined (termsBy (t .kinds) numbers (t .groups) (t .codes) (t .nf)))
-    → Filling (λ i. 9 * i) (replicate 4096 0) (t .nf) starts
-    → Numbering orderOf (textAt table starts (replicate 4096 9)) (t .nf) (replicate 4096 0) (replicate 4096 0) (replicate 4096 0) termRefs termNumbers scratch n
+    → table ≡ written (replicate 36864 0) 0 (joined (termsBy (t .kinds) numbers (t .groups) (t .codes) (t .nt)))
+    → Filling (λ i. 9 * i) (replicate 4096 0) (t .nt) starts
+    → Numbering orderOf (textAt table starts (replicate 4096 9)) (t .nt) (replicate 4096 0) (replicate 4096 0) (replicate 4096 0) termRefs termNumbers scratch n
     → nt ≡ n
     → KeptWritten t (foundOf refs nx numbers table starts (replicate 4096 9) termRefs nt termNumbers) h y o
     → TermsWritten t refs nx numbers h y o
 terms-written t refs nx numbers table starts termRefs termNumbers scratch n nt h y o small e s q d k =
     record {
       is = λ w x p g.
-          let b = w .capacity .forms in
-          let room : t .nf ≤ length (replicate {A = ℕ} 4096 0) = omega (arith, length-replicate {A = ℕ} 4096 0) in
+          let b = w .capacity .terms in
+          let room : t .nt ≤ length (replicate {A = ℕ} 4096 0) = omega (arith, length-replicate {A = ℕ} 4096 0) in
           let r : Renumbering t (foundOf refs nx numbers table starts (replicate 4096 9) termRefs nt termNumbers) = record {
             draft = w .draft;
             small = small;
             texts = x;
-            same = term-there (t .kinds) numbers (t .groups) (t .codes) (t .nf) b table starts e s;
+            same = term-there (t .kinds) numbers (t .groups) (t .codes) (t .nt) b table starts e s;
             terms = rw d (q .good room room room);
           } in
           tables-answered t (foundOf refs nx numbers table starts (replicate 4096 9) termRefs nt termNumbers) r (w .capacity) p g h y o (w .bounded) k (omega (arith, q .most));

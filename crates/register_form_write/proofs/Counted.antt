@@ -101,7 +101,7 @@ module _ (t : Tables) (v : Found) (r : Renumbering t v) (c : Capacity t) where
       rw (item-low x (b .0)) (plain-bytes x (b .0) (b .1))
 
   -- A form.
-  module _ (f : ℕ) (b : f < t .nf) where
+  module _ (f : ℕ) (b : f < t .nt) where
     kind-in : getD (t .groups) f 0 - 1 < t .np → propertyIn (tabled t v) (getD (t .groups) f 0 - 1) .kind ≡ kindFrom (getD (t .kinds) (getD (t .groups) f 0 - 1) 0)
     unfolding tabled rowsOf
     kind-in k =
@@ -135,22 +135,22 @@ module _ (t : Tables) (v : Found) (r : Renumbering t v) (c : Capacity t) where
       ap (termBytes (tabled t v)) (getD-listed (textAt (v .table) (v .termStarts) (v .termLens)) (v .termRefs) (v .nt) u [] b ∙ r .same f below) ∙ form-length f below
 
   -- The forms of all pages.
-  passed-below : (first : Bool) (i u : ℕ) → i < t .ng → List·Memᴰ u (map (λ f. getD (v .termNumbers) f 0) (passed first (t .groups) (formsAt (t .firsts) i))) → u < v .nt
+  passed-below : (first : Bool) (i u : ℕ) → i < t .ng → List·Memᴰ u (map (λ f. getD (v .termNumbers) f 0) (passed first (t .groups) (formsAt (t .uses) (t .firsts) i))) → u < v .nt
   unfolding passed
   passed-below first i u b m =
-      let q = Memᴰ·of-map (λ f. getD (v .termNumbers) f 0) (passed first (t .groups) (formsAt (t .firsts) i)) m in
-      let k = number-below t v r (q .0) (form-below t v r i (q .0) b (filtered-mem (λ f. ofPass first (getD (t .groups) f 0)) (formsAt (t .firsts) i) (q .1))) in
+      let q = Memᴰ·of-map (λ f. getD (v .termNumbers) f 0) (passed first (t .groups) (formsAt (t .uses) (t .firsts) i)) m in
+      let k = number-below t v r (q .0) (form-below t v r i (q .0) b (filtered-mem (λ f. ofPass first (getD (t .groups) f 0)) (formsAt (t .uses) (t .firsts) i) (q .1))) in
       omega (arith, q .2)
 
-  kept-below : (i u : ℕ) → i < t .ng → List·Memᴰ u (keptOn (t .groups) (v .termNumbers) (t .firsts) i) → u < v .nt
+  kept-below : (i u : ℕ) → i < t .ng → List·Memᴰ u (keptOn (t .groups) (v .termNumbers) (t .uses) (t .firsts) i) → u < v .nt
   unfolding keptOn keptBy
   kept-below i u b m = second (once-mem two (onceBehind eqb [] one) m)
     where
       one : List ℕ
-      one = map (λ f. getD (v .termNumbers) f 0) (passed true (t .groups) (formsAt (t .firsts) i))
+      one = map (λ f. getD (v .termNumbers) f 0) (passed true (t .groups) (formsAt (t .uses) (t .firsts) i))
 
       two : List ℕ
-      two = map (λ f. getD (v .termNumbers) f 0) (passed false (t .groups) (formsAt (t .firsts) i))
+      two = map (λ f. getD (v .termNumbers) f 0) (passed false (t .groups) (formsAt (t .uses) (t .firsts) i))
 
       first : List·Memᴰ u [] ⊎ List·Memᴰ u one → u < v .nt
       first (inl n) = absurd (List·Memᴰ·not-nil n)
@@ -163,10 +163,10 @@ module _ (t : Tables) (v : Found) (r : Renumbering t v) (c : Capacity t) where
   all-below : (u : ℕ) → List·Memᴰ u (keptAll t v) → u < v .nt
   unfolding keptUpTo
   all-below u m =
-      let q = of-flat (λ (l : List ℕ). l) (tabulate (t .ng) (keptOn (t .groups) (v .termNumbers) (t .firsts))) m in
+      let q = of-flat (λ (l : List ℕ). l) (tabulate (t .ng) (keptOn (t .groups) (v .termNumbers) (t .uses) (t .firsts))) m in
       let p = mem-place [] (q .1) in
-      let b : p .0 < t .ng = omega (arith, p .1, length-tabulate (t .ng) (keptOn (t .groups) (v .termNumbers) (t .firsts))) in
-      kept-below (p .0) u b (subst (λ (l : List ℕ). List·Memᴰ u l) (sym (p .2) ∙ getD-tabulate (t .ng) (keptOn (t .groups) (v .termNumbers) (t .firsts)) [] (p .0) b) (q .2))
+      let b : p .0 < t .ng = omega (arith, p .1, length-tabulate (t .ng) (keptOn (t .groups) (v .termNumbers) (t .uses) (t .firsts))) in
+      kept-below (p .0) u b (subst (λ (l : List ℕ). List·Memᴰ u l) (sym (p .2) ∙ getD-tabulate (t .ng) (keptOn (t .groups) (v .termNumbers) (t .uses) (t .firsts)) [] (p .0) b) (q .2))
 
   names-are : total (λ p. length (nameOf (textIn (tabled t v) (p .name)))) (tabled t v .properties) ≡ total (textBytes (t .s) (t .starts) (t .lens)) (firstOf (t .names) (t .np))
   unfolding tabled rowsOf firstOf

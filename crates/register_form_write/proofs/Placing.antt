@@ -40,38 +40,38 @@ unfolding putRegions
 all-put kinds numbers names np identifiers ng nt nx begins nb kept n terms texts h k l f g = g ∙ rw f
 
 -- What pages keep, up to each page.
-module _ (groups numbers firsts : List ℕ) where
-  up-to-none : length (keptUpTo groups numbers firsts 0) ≡ 0
+module _ (groups numbers uses firsts : List ℕ) where
+  up-to-none : length (keptUpTo groups numbers uses firsts 0) ≡ 0
   unfolding keptUpTo tabulate flatMap
   up-to-none = refl
 
-  up-to-more : (i : ℕ) → length (keptUpTo groups numbers firsts (suc i)) ≡ length (keptUpTo groups numbers firsts i) + length (keptOn groups numbers firsts i)
+  up-to-more : (i : ℕ) → length (keptUpTo groups numbers uses firsts (suc i)) ≡ length (keptUpTo groups numbers uses firsts i) + length (keptOn groups numbers uses firsts i)
   unfolding keptUpTo
-  up-to-more i = ap length (flat-more (λ (t : Bytes). t) i (keptOn groups numbers firsts)) ∙ length-append (keptUpTo groups numbers firsts i) (keptOn groups numbers firsts i)
+  up-to-more i = ap length (flat-more (λ (t : Bytes). t) i (keptOn groups numbers uses firsts)) ∙ length-append (keptUpTo groups numbers uses firsts i) (keptOn groups numbers uses firsts i)
 
-  module _ (n : ℕ) (table begins : List ℕ) (r : ℕ) (p : PagesKept groups numbers firsts n table begins r) (few : r ≤ 2048) where
-    count-is : r ≡ length (keptUpTo groups numbers firsts n)
+  module _ (n : ℕ) (table begins : List ℕ) (r : ℕ) (p : PagesKept groups numbers uses firsts n table begins r) (few : r ≤ 2048) where
+    count-is : r ≡ length (keptUpTo groups numbers uses firsts n)
     count-is = omega (arith, p .listed .count)
 
-    up-to-few : (j : ℕ) → j ≤ n → length (keptUpTo groups numbers firsts j) ≤ 2048
+    up-to-few : (j : ℕ) → j ≤ n → length (keptUpTo groups numbers uses firsts j) ≤ 2048
     up-to-few j b =
-        omega (arith, count-is, rises-to (λ i. length (keptUpTo groups numbers firsts i)) n (λ i c. omega (arith, up-to-more i)) j b)
+        omega (arith, count-is, rises-to (λ i. length (keptUpTo groups numbers uses firsts i)) n (λ i c. omega (arith, up-to-more i)) j b)
 
-    begin-is : (j : ℕ) → j ≤ n → getD begins j 0 ≡ length (keptUpTo groups numbers firsts j)
+    begin-is : (j : ℕ) → j ≤ n → getD begins j 0 ≡ length (keptUpTo groups numbers uses firsts j)
     begin-is j b = omega (arith, p .begins j b, up-to-few j b)
 
-    pub begins-are : startsFrom 0 (tabulate n (keptOn groups numbers firsts)) ≡ firstOf begins (suc n)
+    pub begins-are : startsFrom 0 (tabulate n (keptOn groups numbers uses firsts)) ≡ firstOf begins (suc n)
     unfolding firstOf
     begins-are =
-        starts-tabulate (λ j. getD begins j 0) (omega (arith, begin-is 0 (omega arith), up-to-none)) n (keptOn groups numbers firsts)
+        starts-tabulate (λ j. getD begins j 0) (omega (arith, begin-is 0 (omega arith), up-to-none)) n (keptOn groups numbers uses firsts)
         (λ i b. omega (arith, begin-is i (omega arith), begin-is (suc i) b, up-to-more i))
 
-    pub kept-are : keptUpTo groups numbers firsts n ≡ firstOf table r
+    pub kept-are : keptUpTo groups numbers uses firsts n ≡ firstOf table r
     unfolding firstOf
-    kept-are = is-tabulate r (λ j. getD table j 0) 0 (keptUpTo groups numbers firsts n) (sym count-is) (λ j b. sym (p .listed .at j (omega (arith, count-is)) (omega arith)))
+    kept-are = is-tabulate r (λ j. getD table j 0) 0 (keptUpTo groups numbers uses firsts n) (sym count-is) (λ j b. sym (p .listed .at j (omega (arith, count-is)) (omega arith)))
 
 -- The regions of the dictionary.
-module _ (t : Tables) (v : Found) (table begins : List ℕ) (r nb : ℕ) (p : PagesKept (t .groups) (v .termNumbers) (t .firsts) (t .ng) table begins r) (few : r ≤ 2048) (after : nb ≡ suc (t .ng)) where
+module _ (t : Tables) (v : Found) (table begins : List ℕ) (r nb : ℕ) (p : PagesKept (t .groups) (v .termNumbers) (t .uses) (t .firsts) (t .ng) table begins r) (few : r ≤ 2048) (after : nb ≡ suc (t .ng)) where
   counts-are : fourBytes (t .np) (t .ng) (v .nt) (v .nx) ≡ countBytes (tabled t v)
   unfolding countBytes tabled rowsOf
   counts-are = sym (rw (length-tabulate, length-tabulate, length-listed, length-listed))
@@ -82,10 +82,10 @@ module _ (t : Tables) (v : Found) (table begins : List ℕ) (r nb : ℕ) (p : Pa
 
   starts-are : firstOf begins nb ≡ startsFrom 0 (map formsOf (tabled t v .pages))
   unfolding tabled
-  starts-are = ap (firstOf begins) after ∙ sym (begins-are (t .groups) (v .termNumbers) (t .firsts) (t .ng) table begins r p few) ∙ ap (startsFrom 0) (sym (map-tabulate formsOf (t .ng) (pageBy t v)))
+  starts-are = ap (firstOf begins) after ∙ sym (begins-are (t .groups) (v .termNumbers) (t .uses) (t .firsts) (t .ng) table begins r p few) ∙ ap (startsFrom 0) (sym (map-tabulate formsOf (t .ng) (pageBy t v)))
 
   forms-are : firstOf table r ≡ flatMap formsOf (tabled t v .pages)
-  forms-are = sym (kept-are (t .groups) (v .termNumbers) (t .firsts) (t .ng) table begins r p few) ∙ sym (uses-are t v)
+  forms-are = sym (kept-are (t .groups) (v .termNumbers) (t .uses) (t .firsts) (t .ng) table begins r p few) ∙ sym (uses-are t v)
 
   region : (n : ℕ) {a b : Bytes} → a ≡ b → _≡_ {A = Region} (record { size = n; bytes = a }) (record { size = n; bytes = b })
   region n e = λ j. record { size = n; bytes = e j }

@@ -36,9 +36,9 @@ module _ (t : Tables) where
   unfolding draftIn
   text-count = length-tabulate (t .m) (textAt (t .s) (t .starts) (t .lens))
 
-  pub term-count : length (draftIn t .terms) ≡ t .nf
+  pub term-count : length (draftIn t .terms) ≡ t .nt
   unfolding draftIn
-  term-count = length-tabulate (t .nf) (λ f. termOf (getD (t .groups) f 0) (getD (t .codes) f 0))
+  term-count = length-tabulate (t .nt) (λ f. termOf (getD (t .groups) f 0) (getD (t .codes) f 0))
 
   pub property-count : length (draftIn t .properties) ≡ t .np
   unfolding draftIn
@@ -52,9 +52,9 @@ module _ (t : Tables) where
   unfolding draftIn
   text-in x b = getD-tabulate (t .m) (textAt (t .s) (t .starts) (t .lens)) [] x b
 
-  pub term-in : (f : ℕ) → f < t .nf → termIn (draftIn t) f ≡ termOf (getD (t .groups) f 0) (getD (t .codes) f 0)
+  pub term-in : (f : ℕ) → f < t .nt → termIn (draftIn t) f ≡ termOf (getD (t .groups) f 0) (getD (t .codes) f 0)
   unfolding draftIn
-  term-in f b = getD-tabulate (t .nf) (λ f. termOf (getD (t .groups) f 0) (getD (t .codes) f 0)) [] f b
+  term-in f b = getD-tabulate (t .nt) (λ f. termOf (getD (t .groups) f 0) (getD (t .codes) f 0)) [] f b
 
   pub property-in : (p : ℕ) → p < t .np → propertyIn (draftIn t) p ≡ rowOf (getD (t .kinds) p 0) (getD (t .names) p 0)
   unfolding draftIn
@@ -77,7 +77,7 @@ module _ (t : Tables) where
   string-below x h = plain-below x h
 
   -- What is known of form f: a category's text, or a value's property and code.
-  module _ (dr : Draft (draftIn t)) (small : (i : ℕ) → getD (t .codes) i 0 < 2 ^ 64) (f : ℕ) (b : f < t .nf) where
+  module _ (dr : Draft (draftIn t)) (small : (i : ℕ) → getD (t .codes) i 0 < 2 ^ 64) (f : ℕ) (b : f < t .nt) where
     abbrev kindAt : Kind
     kindAt = kindFrom (getD (t .kinds) (getD (t .groups) f 0 - 1) 0)
 
@@ -127,7 +127,7 @@ module _ (t : Tables) (refs : List ℕ) (nx : ℕ) (numbers : List ℕ) (q : Num
     code-is (Kind.Scalar k) c h = refl
     code-is Kind.String c h = number-is c (string-below t c h .0)
 
-    pub term-is : (f : ℕ) → f < t .nf → termBy (t .kinds) numbers (t .groups) (t .codes) f ≡ newTerm (draftIn t) (termIn (draftIn t) f)
+    pub term-is : (f : ℕ) → f < t .nt → termBy (t .kinds) numbers (t .groups) (t .codes) f ≡ newTerm (draftIn t) (termIn (draftIn t) f)
     unfolding newTerm termBy codeBy
     term-is f b = sym (rw (code-in t dr small f b, group-in t dr small f b) (ap (termOf (getD (t .groups) f 0)) (go (eqb (getD (t .groups) f 0) 0) refl)))
       where
@@ -136,20 +136,20 @@ module _ (t : Tables) (refs : List ℕ) (nx : ℕ) (numbers : List ℕ) (q : Num
         go false e = rw (value-kind t dr small f b e) (code-is (kindFrom (getD (t .kinds) (getD (t .groups) f 0 - 1) 0)) (getD (t .codes) f 0) (value-code t dr small f b e))
 
     -- The numbers of terms, by a table whose texts are they.
-    module _ (g : ℕ → Bytes) (same : (f : ℕ) → f < t .nf → g f ≡ termBy (t .kinds) numbers (t .groups) (t .codes) f) (termRefs : List ℕ) (nt : ℕ) (termNumbers : List ℕ) (w : Numbered orderOf g (t .nf) termRefs nt termNumbers) where
-      pub term-there : (f : ℕ) → f < t .nf → g f ≡ newTerm (draftIn t) (termIn (draftIn t) f)
+    module _ (g : ℕ → Bytes) (same : (f : ℕ) → f < t .nt → g f ≡ termBy (t .kinds) numbers (t .groups) (t .codes) f) (termRefs : List ℕ) (nt : ℕ) (termNumbers : List ℕ) (w : Numbered orderOf g (t .nt) termRefs nt termNumbers) where
+      pub term-there : (f : ℕ) → f < t .nt → g f ≡ newTerm (draftIn t) (termIn (draftIn t) f)
       term-there f b = same f b ∙ term-is f b
 
-      new-terms : tabulate (t .nf) g ≡ map (newTerm (draftIn t)) (draftIn t .terms)
+      new-terms : tabulate (t .nt) g ≡ map (newTerm (draftIn t)) (draftIn t .terms)
       unfolding draftIn
       new-terms =
-          tabulate-ext (t .nf) g (λ f. newTerm (draftIn t) (termOf (getD (t .groups) f 0) (getD (t .codes) f 0))) (λ f b. term-there f b ∙ ap (newTerm (draftIn t)) (term-in t f b))
-          ∙ sym (map-tabulate (newTerm (draftIn t)) (t .nf) (λ f. termOf (getD (t .groups) f 0) (getD (t .codes) f 0)))
+          tabulate-ext (t .nt) g (λ f. newTerm (draftIn t) (termOf (getD (t .groups) f 0) (getD (t .codes) f 0))) (λ f b. term-there f b ∙ ap (newTerm (draftIn t)) (term-in t f b))
+          ∙ sym (map-tabulate (newTerm (draftIn t)) (t .nt) (λ f. termOf (getD (t .groups) f 0) (getD (t .codes) f 0)))
 
       pub terms-are : listed g termRefs nt ≡ sortedTerms (draftIn t)
       unfolding sortedTerms
       terms-are = w .is ∙ ap (sorted orderOf) new-terms
 
-      pub form-is : (f : ℕ) → f < t .nf → newForm (draftIn t) f ≡ getD termNumbers f 0
+      pub form-is : (f : ℕ) → f < t .nt → newForm (draftIn t) f ≡ getD termNumbers f 0
       unfolding newForm sortedTerms
       form-is f b = ap₂ (λ (y : Bytes) (l : List Bytes). rank orderOf y (sorted orderOf l)) (sym (term-there f b)) (sym new-terms) ∙ sym (w .at f b)

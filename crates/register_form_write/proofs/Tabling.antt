@@ -24,7 +24,7 @@ use Rattle.register_form.specs.Draft.{Draft, onceBehind, filtered, newNumber, n
 use Rattle.register_form.proofs.Lists.{mem-at, mem-flat}
 use Rattle.buffer.proofs.Parts.{map-tabulate}
 use Rattle.register_form_bytes.specs.Writing.{rowOf, rowsOf}
-use Rattle.register_form.specs.Tables.{Tables, range, formsAt, draftIn}
+use Rattle.register_form.specs.Tables.{Tables, between, formsAt, draftIn}
 use Rattle.register_form_assembly.specs.Terms.{termBy}
 use Rattle.register_form_assembly.specs.Keeping.{ofPass, passed, keptBy, keptOn, Within}
 use Rattle.register_form_assembly.proofs.Keepings.{once-append}
@@ -36,8 +36,8 @@ pub record Renumbering (t : Tables) (v : Found) : Type 0 where
   pub draft : Draft (draftIn t)
   pub small : (i : ℕ) → getD (t .codes) i 0 < 2 ^ 64
   pub texts : Numbered orderOf (textAt (t .s) (t .starts) (t .lens)) (t .m) (v .refs) (v .nx) (v .numbers)
-  pub same : (f : ℕ) → f < t .nf → textAt (v .table) (v .termStarts) (v .termLens) f ≡ termBy (t .kinds) (v .numbers) (t .groups) (t .codes) f
-  pub terms : Numbered orderOf (textAt (v .table) (v .termStarts) (v .termLens)) (t .nf) (v .termRefs) (v .nt) (v .termNumbers)
+  pub same : (f : ℕ) → f < t .nt → textAt (v .table) (v .termStarts) (v .termLens) f ≡ termBy (t .kinds) (v .numbers) (t .groups) (t .codes) f
+  pub terms : Numbered orderOf (textAt (v .table) (v .termStarts) (v .termLens)) (t .nt) (v .termRefs) (v .nt) (v .termNumbers)
 
 -- What passes tests that agree.
 pub filtered-mem : {A : Type 0} (p : A → Bool) (l : List A) {a : A} → List·Memᴰ a (filtered p l) → List·Memᴰ a l
@@ -58,11 +58,11 @@ unfolding filtered
 filtered-same p q [] h = refl
 filtered-same p q (x ∷ l) h = rw (h x (List·Memᴰ·head refl), filtered-same p q l (λ a m. h a (List·Memᴰ·tail m)))
 
-range-mem : (from to f : ℕ) → from ≤ f → f < to → List·Memᴰ f (range from to)
-unfolding range
-range-mem from to f a b =
+between-mem : (uses : List ℕ) (from to f : ℕ) → from ≤ f → f < to → List·Memᴰ (getD uses f 0) (between uses from to)
+unfolding between
+between-mem uses from to f a b =
     let e : from + (f - from) ≡ f = omega arith in
-    Memᴰ·cast (sym (getD-tabulate (to - from) (λ j. from + j) 0 (f - from) (omega arith) ∙ e)) (mem-at (range from to) (f - from) 0 (rw length-tabulate (omega arith)))
+    Memᴰ·cast (sym (getD-tabulate (to - from) (λ j. getD uses (from + j) 0) 0 (f - from) (omega arith) ∙ ap (λ (k : ℕ). getD uses k 0) e)) (mem-at (between uses from to) (f - from) 0 (rw length-tabulate (omega arith)))
 
 module _ (t : Tables) (v : Found) (r : Renumbering t v) where
   -- Names, identifiers and forms are there.
@@ -73,39 +73,39 @@ module _ (t : Tables) (v : Found) (r : Renumbering t v) where
       (all-at (λ q. isPlainNumber (draftIn t) (q .name)) (r .draft .names)
       (Memᴰ·cast (sym (getD-tabulate (t .np) (λ q. rowOf (getD (t .kinds) q 0) (getD (t .names) q 0)) (noProperty (draftIn t)) p b)) (mem-at (draftIn t .properties) p (noProperty (draftIn t)) (rw length-tabulate b))))
 
-  page-mem : (i : ℕ) → i < t .ng → List·Memᴰ (record { identifier = getD (t .identifiers) i 0; forms = formsAt (t .firsts) i }) (draftIn t .pages)
+  page-mem : (i : ℕ) → i < t .ng → List·Memᴰ (record { identifier = getD (t .identifiers) i 0; forms = formsAt (t .uses) (t .firsts) i }) (draftIn t .pages)
   unfolding draftIn
   page-mem i b =
-      let row : ℕ → PageRow = λ j. record { identifier = getD (t .identifiers) j 0; forms = formsAt (t .firsts) j } in
+      let row : ℕ → PageRow = λ j. record { identifier = getD (t .identifiers) j 0; forms = formsAt (t .uses) (t .firsts) j } in
       Memᴰ·cast (sym (getD-tabulate (t .ng) row (row 0) i b)) (mem-at (draftIn t .pages) i (row 0) (rw length-tabulate b))
 
   pub identifier-below : (i : ℕ) → i < t .ng → getD (t .identifiers) i 0 < t .m
   identifier-below i b = omega (arith, ltb-true (getD (t .identifiers) i 0) (length (draftIn t .texts)) (all-at (λ q. ltb (q .identifier) (length (draftIn t .texts))) (r .draft .identifiers) (page-mem i b)), text-count t)
 
-  pub form-below : (i f : ℕ) → i < t .ng → List·Memᴰ f (formsAt (t .firsts) i) → f < t .nf
+  pub form-below : (i f : ℕ) → i < t .ng → List·Memᴰ f (formsAt (t .uses) (t .firsts) i) → f < t .nt
   form-below i f b m = omega (arith, ltb-true f (length (draftIn t .terms)) (all-at (λ q. ltb q (length (draftIn t .terms))) (r .draft .forms) (mem-flat formsOf (page-mem i b) m)), term-count t)
 
-  pub number-below : (f : ℕ) → f < t .nf → getD (v .termNumbers) f 0 < v .nt
-  number-below f b = numbered-below orderOf bytes-total (textAt (v .table) (v .termStarts) (v .termLens)) (t .nf) (v .termRefs) (v .nt) (v .termNumbers) (r .terms) f b
+  pub number-below : (f : ℕ) → f < t .nt → getD (v .termNumbers) f 0 < v .nt
+  number-below f b = numbered-below orderOf bytes-total (textAt (v .table) (v .termStarts) (v .termLens)) (t .nt) (v .termRefs) (v .nt) (v .termNumbers) (r .terms) f b
 
-  pub within : (size : ℕ) → v .nt ≤ size → Within (v .termNumbers) (t .firsts) (t .ng) size
-  within size c i f b lo hi = omega (arith, number-below f (form-below i f b (range-mem (getD (t .firsts) i 0) (getD (t .firsts) (suc i) 0) f lo hi)))
+  pub within : (size : ℕ) → v .nt ≤ size → Within (v .termNumbers) (t .uses) (t .firsts) (t .ng) size
+  within size c i f b lo hi = omega (arith, number-below (getD (t .uses) f 0) (form-below i (getD (t .uses) f 0) b (between-mem (t .uses) (getD (t .firsts) i 0) (getD (t .firsts) (suc i) 0) f lo hi)))
 
   -- The forms that a page keeps.
   module _ (i : ℕ) (b : i < t .ng) where
-    category-same : (f : ℕ) → List·Memᴰ f (formsAt (t .firsts) i) → isCategory (termIn (draftIn t) f) ≡ ofPass true (getD (t .groups) f 0)
+    category-same : (f : ℕ) → List·Memᴰ f (formsAt (t .uses) (t .firsts) i) → isCategory (termIn (draftIn t) f) ≡ ofPass true (getD (t .groups) f 0)
     category-same f m = ap (λ (g : ℕ). eqb g 0) (group-in t (r .draft) (r .small) f (form-below i f b m))
 
-    number-same : (first : Bool) (f : ℕ) → List·Memᴰ f (passed first (t .groups) (formsAt (t .firsts) i)) → newForm (draftIn t) f ≡ getD (v .termNumbers) f 0
+    number-same : (first : Bool) (f : ℕ) → List·Memᴰ f (passed first (t .groups) (formsAt (t .uses) (t .firsts) i)) → newForm (draftIn t) f ≡ getD (v .termNumbers) f 0
     unfolding passed
     number-same first f m =
         form-is t (v .refs) (v .nx) (v .numbers) (r .texts) (r .draft) (r .small) (textAt (v .table) (v .termStarts) (v .termLens)) (r .same) (v .termRefs) (v .nt) (v .termNumbers) (r .terms) f
-        (form-below i f b (filtered-mem (λ q. ofPass first (getD (t .groups) q 0)) (formsAt (t .firsts) i) m))
+        (form-below i f b (filtered-mem (λ q. ofPass first (getD (t .groups) q 0)) (formsAt (t .uses) (t .firsts) i) m))
 
-    pub forms-kept : newForms (draftIn t) (formsAt (t .firsts) i) ≡ keptOn (t .groups) (v .termNumbers) (t .firsts) i
+    pub forms-kept : newForms (draftIn t) (formsAt (t .uses) (t .firsts) i) ≡ keptOn (t .groups) (v .termNumbers) (t .uses) (t .firsts) i
     unfolding newForms keptOn keptBy passed
     forms-kept =
-        let l = formsAt (t .firsts) i in
+        let l = formsAt (t .uses) (t .firsts) i in
         let one = passed true (t .groups) l in
         let two = passed false (t .groups) l in
         let cats : filtered (λ f. isCategory (termIn (draftIn t) f)) l ≡ one = filtered-same (λ f. isCategory (termIn (draftIn t) f)) (λ f. ofPass true (getD (t .groups) f 0)) l category-same in
@@ -127,9 +127,9 @@ module _ (t : Tables) (v : Found) (r : Renumbering t v) where
   pages-are : tabulate (t .ng) (pageBy t v) ≡ assembled (draftIn t) .pages
   unfolding assembled draftIn
   pages-are =
-      tabulate-ext (t .ng) (pageBy t v) (λ i. record { identifier = newNumber (draftIn t) (getD (t .identifiers) i 0); forms = newForms (draftIn t) (formsAt (t .firsts) i) })
+      tabulate-ext (t .ng) (pageBy t v) (λ i. record { identifier = newNumber (draftIn t) (getD (t .identifiers) i 0); forms = newForms (draftIn t) (formsAt (t .uses) (t .firsts) i) })
       (λ i b j. record { identifier = sym (number-is t (v .refs) (v .nx) (v .numbers) (r .texts) (getD (t .identifiers) i 0) (identifier-below i b)) j; forms = sym (forms-kept i b) j })
-      ∙ sym (map-tabulate (λ p. record { identifier = newNumber (draftIn t) (p .identifier); forms = newForms (draftIn t) (p .forms) }) (t .ng) (λ i. record { identifier = getD (t .identifiers) i 0; forms = formsAt (t .firsts) i }))
+      ∙ sym (map-tabulate (λ p. record { identifier = newNumber (draftIn t) (p .identifier); forms = newForms (draftIn t) (p .forms) }) (t .ng) (λ i. record { identifier = getD (t .identifiers) i 0; forms = formsAt (t .uses) (t .firsts) i }))
 
   pub tabled-assembled : tabled t v ≡ assembled (draftIn t)
   unfolding tabled assembled

@@ -35,7 +35,7 @@ writeDictionary e h = cond (fitsLimits e) (fitted e h) (refused 7)
 -- The tables hold what they have room for.
 pub record Capacity (t : Tables) : Type 0 where
   pub texts : t .m ≤ 4736
-  pub forms : t .nf ≤ 4096
+  pub terms : t .nt ≤ 4096
 
 -- What numbering the texts and the terms of a draft found.
 pub record Found : Type 0 where
@@ -51,7 +51,7 @@ pub record Found : Type 0 where
 
 module _ (t : Tables) (v : Found) where
   abbrev pub pageBy : ℕ → PageRow
-  pageBy i = record { identifier = getD (v .numbers) (getD (t .identifiers) i 0) 0; forms = keptOn (t .groups) (v .termNumbers) (t .firsts) i }
+  pageBy i = record { identifier = getD (v .numbers) (getD (t .identifiers) i 0) 0; forms = keptOn (t .groups) (v .termNumbers) (t .uses) (t .firsts) i }
 
   unfoldable pub tabled : Dictionary
   tabled =
@@ -63,7 +63,7 @@ module _ (t : Tables) (v : Found) where
       }
 
   abbrev pub keptAll : List ℕ
-  keptAll = keptUpTo (t .groups) (v .termNumbers) (t .firsts) (t .ng)
+  keptAll = keptUpTo (t .groups) (v .termNumbers) (t .uses) (t .firsts) (t .ng)
 
   -- The bytes of its names and values.
   unfoldable pub countedBy : ℕ
@@ -106,7 +106,7 @@ pub record FittedWritten (l : List Region) (h : Bytes) (r : ℕ) (g : Bytes) : T
 
 -- What writing the forms that are kept, and all else, answers.
 pub record KeptWritten (t : Tables) (v : Found) (h : Bytes) (r : ℕ) (g : Bytes) : Type 0 where
-  pub is : Within (v .termNumbers) (t .firsts) (t .ng) 4096 → t .ng ≤ 256 → (fitsCounted t v ≡ true → Bounded (tabled t v)) → Answered (writeCounted t v h) h r g
+  pub is : Within (v .termNumbers) (t .uses) (t .firsts) (t .ng) 4096 → t .ng ≤ 256 → (fitsCounted t v ≡ true → Bounded (tabled t v)) → Answered (writeCounted t v h) h r g
 
 -- What the writer asks of a draft in tables.
 pub record Writable (t : Tables) : Type 0 where

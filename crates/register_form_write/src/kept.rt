@@ -60,6 +60,7 @@ pub fn write_kept(
     identifiers: &[u16],
     firsts: &[u16],
     ng: u16,
+    uses: &[u16],
     groups: &[u8],
     codes: &[u64],
     refs: &[u16],
@@ -73,11 +74,11 @@ pub fn write_kept(
     tnumbers: &[u16],
     held: &mut [u8],
 ) -> usize
-    ensures { λ r. ⌜ ((m nf : ℕ) → KeptWritten (tablesOf (now (s .entry)) (now (starts .entry)) (now (lens .entry)) m (now (kinds .entry)) (now (names .entry)) np (now (identifiers .entry)) (now (firsts .entry)) ng (now (groups .entry)) (now (codes .entry)) nf) (foundOf (now (refs .entry)) nx (now (numbers .entry)) (now (table .entry)) (now (tstarts .entry)) (now (tlens .entry)) (now (trefs .entry)) nt (now (tnumbers .entry))) (now (held .entry)) r (now (held .exit))) ⌝ }
+    ensures { λ r. ⌜ ((m terms : ℕ) → KeptWritten (tablesOf (now (s .entry)) (now (starts .entry)) (now (lens .entry)) m (now (kinds .entry)) (now (names .entry)) np (now (identifiers .entry)) (now (firsts .entry)) ng (now (uses .entry)) (now (groups .entry)) (now (codes .entry)) terms) (foundOf (now (refs .entry)) nx (now (numbers .entry)) (now (table .entry)) (now (tstarts .entry)) (now (tlens .entry)) (now (trefs .entry)) nt (now (tnumbers .entry))) (now (held .entry)) r (now (held .exit))) ⌝ }
 {
     let mut kept = [0u16; layout::FORM_ROOM];
     let mut begins = [0u16; layout::PAGE_START_ROOM];
-    let n = keep_forms(groups, tnumbers, firsts, ng, &mut kept, &mut begins);
+    let n = keep_forms(groups, tnumbers, uses, firsts, ng, &mut kept, &mut begins);
     if layout::MOST_FORMS < n {
         return OVER_LIMIT;
     }

@@ -29,15 +29,16 @@ fn write_terms(
     identifiers: &[u16],
     firsts: &[u16],
     ng: u16,
+    uses: &[u16],
     groups: &[u8],
     codes: &[u64],
-    nf: u16,
+    terms: u16,
     refs: &[u16],
     nx: u16,
     numbers: &[u16],
     held: &mut [u8],
 ) -> usize
-    ensures { λ r. ⌜ ((m : ℕ) → TermsWritten (tablesOf (now (s .entry)) (now (starts .entry)) (now (lens .entry)) m (now (kinds .entry)) (now (names .entry)) np (now (identifiers .entry)) (now (firsts .entry)) ng (now (groups .entry)) (now (codes .entry)) nf) (now (refs .entry)) nx (now (numbers .entry)) (now (held .entry)) r (now (held .exit))) ⌝ }
+    ensures { λ r. ⌜ ((m : ℕ) → TermsWritten (tablesOf (now (s .entry)) (now (starts .entry)) (now (lens .entry)) m (now (kinds .entry)) (now (names .entry)) np (now (identifiers .entry)) (now (firsts .entry)) ng (now (uses .entry)) (now (groups .entry)) (now (codes .entry)) terms) (now (refs .entry)) nx (now (numbers .entry)) (now (held .entry)) r (now (held .exit))) ⌝ }
 {
     let mut table = [0u8; layout::DRAFT_TERM_BYTES];
     let mut tstarts = [0u32; layout::DRAFT_FORMS];
@@ -45,13 +46,13 @@ fn write_terms(
     let mut trefs = [0u16; layout::DRAFT_FORMS];
     let mut tnumbers = [0u16; layout::DRAFT_FORMS];
     let mut scratch = [0u16; layout::DRAFT_FORMS];
-    put_terms(kinds, numbers, groups, codes, nf, &mut table);
-    put_term_starts(&mut tstarts, nf);
+    put_terms(kinds, numbers, groups, codes, terms, &mut table);
+    put_term_starts(&mut tstarts, terms);
     let nt = number(
         &table,
         &tstarts,
         &tlens,
-        nf,
+        terms,
         &mut trefs,
         &mut tnumbers,
         &mut scratch,
@@ -66,6 +67,7 @@ fn write_terms(
         identifiers,
         firsts,
         ng,
+        uses,
         groups,
         codes,
         refs,
@@ -93,12 +95,13 @@ fn write_assembled(
     identifiers: &[u16],
     firsts: &[u16],
     ng: u16,
+    uses: &[u16],
     groups: &[u8],
     codes: &[u64],
-    nf: u16,
+    terms: u16,
     held: &mut [u8],
 ) -> usize
-    ensures { λ r. ⌜ AssembledWritten (tablesOf (now (s .entry)) (now (starts .entry)) (now (lens .entry)) m (now (kinds .entry)) (now (names .entry)) np (now (identifiers .entry)) (now (firsts .entry)) ng (now (groups .entry)) (now (codes .entry)) nf) (now (held .entry)) r (now (held .exit)) ⌝ }
+    ensures { λ r. ⌜ AssembledWritten (tablesOf (now (s .entry)) (now (starts .entry)) (now (lens .entry)) m (now (kinds .entry)) (now (names .entry)) np (now (identifiers .entry)) (now (firsts .entry)) ng (now (uses .entry)) (now (groups .entry)) (now (codes .entry)) terms) (now (held .entry)) r (now (held .exit)) ⌝ }
 {
     if layout::MOST_PROPERTIES < np {
         return OVER_LIMIT;
@@ -120,9 +123,10 @@ fn write_assembled(
         identifiers,
         firsts,
         ng,
+        uses,
         groups,
         codes,
-        nf,
+        terms,
         &refs,
         nx,
         &numbers,
@@ -142,12 +146,13 @@ pub fn write_draft(
     identifiers: &[u16],
     firsts: &[u16],
     ng: u16,
+    uses: &[u16],
     groups: &[u8],
     codes: &[u64],
-    nf: u16,
+    terms: u16,
     held: &mut [u8],
 ) -> usize
-    ensures { λ r. ⌜ DraftWritten (tablesOf (now (s .entry)) (now (starts .entry)) (now (lens .entry)) m (now (kinds .entry)) (now (names .entry)) np (now (identifiers .entry)) (now (firsts .entry)) ng (now (groups .entry)) (now (codes .entry)) nf) (now (held .entry)) r (now (held .exit)) ⌝ }
+    ensures { λ r. ⌜ DraftWritten (tablesOf (now (s .entry)) (now (starts .entry)) (now (lens .entry)) m (now (kinds .entry)) (now (names .entry)) np (now (identifiers .entry)) (now (firsts .entry)) ng (now (uses .entry)) (now (groups .entry)) (now (codes .entry)) terms) (now (held .entry)) r (now (held .exit)) ⌝ }
 {
     write_assembled(
         s,
@@ -160,9 +165,10 @@ pub fn write_draft(
         identifiers,
         firsts,
         ng,
+        uses,
         groups,
         codes,
-        nf,
+        terms,
         held,
     )
 }

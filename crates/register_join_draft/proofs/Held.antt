@@ -39,11 +39,18 @@ module _ (h : Bytes) (f : Formed h) where
   unfolding dictionaryIn
   count-pages = length-tabulate (pageCount h) (pageAt h)
 
+  pub count-terms : length (d .terms) ≡ termCount h
+  unfolding dictionaryIn
+  count-terms = length-tabulate (termCount h) (termAt h)
+
   pub properties-few : propertyCount h ≤ 64
   properties-few = laid .counted .properties
 
   pub pages-few : pageCount h ≤ 256
   pages-few = laid .counted .pages
+
+  pub terms-few : length (d .terms) ≤ 2048
+  terms-few = omega (arith, laid .counted .terms, count-terms)
 
   pub forms-few : length (termUses d) ≤ 2048
   forms-few = bounded-in h (f .laid) (f .small) .forms

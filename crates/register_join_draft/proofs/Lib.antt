@@ -13,6 +13,6 @@ pub mod Totals
 pub mod Held
 pub mod Terms
 pub mod Tabled
-pub mod Sheeted
+pub mod Paging
 pub mod Clashing
 pub mod Whole

@@ -1,12 +1,13 @@
 -- The pages of a draft of a join are those of the join.
 use Rattle.language.proofs.Rules.{Ruled, RuledPage, page-rules}
-use Prim.Native.Nat.{ℕ, zero, suc, _<_}
+use Prim.Native.Nat.{ℕ, zero, suc, _+_, _<_}
 use mathlib.Core.Path.{_≡_, refl, sym, ap, ap₂, _∙_, subst}
 use mathlib.Core.Bool.{Bool, true, false, cond, not, _&&_}
 use mathlib.Core.Option.{Option, some, none}
 use mathlib.Core.List.{List, [], _∷_, _++_, map, map-map, map-append, append-nil, List·Memᴰ, List·Memᴰ·head, List·Memᴰ·tail, Memᴰ·map, Memᴰ·of-map}
 use lib.Dec.{eqb}
-use lib.ListN.{length, getD}
+use lib.ListN.{length, getD, length-map, List·getD-append}
+use lib.Seq.{getD-append-add}
 use borrow.Author.Tests.{not-true, eq-eqb}
 use Rattle.text.specs.Bytes.{Bytes, same, any}
 use Rattle.values.specs.Names.{sameIdentifier}
@@ -15,17 +16,16 @@ use Rattle.language.specs.Register.{Held, Page, Register, distinct, samePage}
 use Rattle.language.specs.RegisterText.{sameHeld}
 use Rattle.language.specs.Rules.{isPage}
 use Rattle.language.specs.Joining.{onlyIn, union, likeIn, joinPage, joinedWith, join}
-use Rattle.language.proofs.Members.{and-true, all-at, any-at, any-same, map-same}
+use Rattle.language.proofs.Members.{and-true, all-at, any-at, any-same, map-same, getD-mapped}
 use Rattle.language.proofs.Unions.{Likeness}
 use Rattle.language.proofs.Sameness.{same-likeness, sameHeld-likeness}
 use Rattle.register_form.specs.Dictionary.{PageRow, Dictionary, identifierOf, isCategory, textIn, termIn, categoryOf, heldOf, categoriesIn, valuesIn, decodePage, decode}
 use Rattle.register_form.specs.Opened.{next}
 use Rattle.register_form.specs.Draft.{once, pageOnce}
-use Rattle.register_form.proofs.Described.{page-term-mem}
-use Rattle.register_join_draft.specs.Sheets.{Sheet, draftOf}
-use Rattle.register_join_draft.specs.Joined.{nameIn, placeIn, formsIn, keyOf, keysOf, movedTerm, movedTerms, joinNames, secondTerms, sheetBoth, sheetSecond, joinSheets, joinDraft}
+use Rattle.register_form.proofs.Described.{form-below, page-term-mem}
+use Rattle.register_join_draft.specs.Joined.{nameIn, placeIn, formsIn, keyOf, keysOf, movedTerm, joinNames, secondForms, rowBoth, rowSecond, joinPages, joinTerms, joinDraft}
 use Rattle.register_join_draft.proofs.Once.{once-append, once-distinct, any-map, map-only}
-use Rattle.register_join_draft.proofs.Sheets.{pageFrom, draft-pages}
+use Rattle.register_join_draft.proofs.Sheets.{Sheet, pageFrom, movedTerms, secondTerms, sheetBoth, sheetSecond, forms-row}
 use Rattle.register_join_draft.proofs.Texts.{eqb-likeness, same-identifier, key-below, identifier-told, keys-distinct}
 use Rattle.register_join_draft.proofs.Moved.{Source, categories-told, values-told}
 use Rattle.register_join_draft.proofs.Rows.{Proper, Joint, items, source1, source2}
@@ -105,7 +105,7 @@ module _ (d e : Dictionary) (item1 item2 : ℕ → ℕ) (texts : List Bytes) (j 
   s2 = source2 d e item1 item2 texts j
 
   pub names-are : map nameIn (D .properties) ≡ joinNames d e item1 item2
-  unfolding joinNames joinDraft draftOf
+  unfolding joinNames joinDraft
   names-are = refl
 
   same-key : (x y : ℕ) → x < length (D .texts) → y < length (D .texts) → sameIdentifier (identifierOf (textIn D x)) (identifierOf (textIn D y)) ≡ eqb x y
@@ -116,9 +116,13 @@ module _ (d e : Dictionary) (item1 item2 : ℕ → ℕ) (texts : List Bytes) (j 
   unfolding keysOf
   keys-once = keys-distinct d e D item1 item2 (j .first .canon) (j .second .canon) (items d e item1 item2 texts j) e item2 (s2 .items) (s2 .canon) (j .second .keeps .pagesOnce)
 
-  pub second-terms : {r : PageRow} → List·Memᴰ r (e .pages) → secondTerms d e item1 item2 (keyOf e item2 r) ≡ movedTerms e item2 (joinNames d e item1 item2) (r .forms)
-  unfolding secondTerms keysOf
-  second-terms m = ap (movedTerms e item2 (joinNames d e item1 item2)) (forms-at e item2 (e .pages) keys-once m)
+  pub second-forms : {r : PageRow} → List·Memᴰ r (e .pages) → formsIn (e .pages) (placeIn (keysOf e item2) (keyOf e item2 r)) ≡ r .forms
+  unfolding keysOf
+  second-forms m = forms-at e item2 (e .pages) keys-once m
+
+  second-terms : {r : PageRow} → List·Memᴰ r (e .pages) → secondTerms d e item1 item2 (keyOf e item2 r) ≡ movedTerms e item2 (joinNames d e item1 item2) (r .forms)
+  unfolding secondTerms
+  second-terms m = ap (movedTerms e item2 (joinNames d e item1 item2)) (second-forms m)
 
   categories1 : {r : PageRow} → List·Memᴰ r (d .pages) → categoriesIn D (movedTerms d item1 (joinNames d e item1 item2) (r .forms)) ≡ decodePage d r .categories
   categories1 {r} m = ap (λ (l : List ℕ). categoriesIn D (movedTerms d item1 l (r .forms))) (sym names-are) ∙ page-categories d D item1 s1 m
@@ -216,16 +220,59 @@ module _ (d e : Dictionary) (item1 item2 : ℕ → ℕ) (texts : List Bytes) (j 
           ∙ any-same (λ r. samePage (secondPage x) (decodePage d r)) (λ r. eqb x (keyOf d item1 r)) (d .pages) (alike x b)
           ∙ sym (any-map (keyOf d item1) (eqb x) (d .pages))
 
-  described : decode D .pages ≡ map (pageFrom D) (joinSheets d e item1 item2)
-  unfolding decode joinDraft
-  described = draft-pages _ (joinSheets d e item1 item2) texts
+  -- The terms that forms of D are.
+  abbrev moved1 : Bytes → Bytes
+  moved1 = movedTerm d item1 (joinNames d e item1 item2)
 
-  sheet-pages : map sheetPage (joinSheets d e item1 item2) ≡ map (λ r. sheetPage (sheetBoth d e item1 item2 r)) (d .pages) ++ map secondPage (onlyIn eqb (keysOf d item1) (keysOf e item2))
-  unfolding joinSheets
-  sheet-pages =
-      map-append sheetPage (map (sheetBoth d e item1 item2) (d .pages)) (map (sheetSecond d e item1 item2) (onlyIn eqb (keysOf d item1) (keysOf e item2)))
-      ∙ ap₂ _++_ (map-map sheetPage (sheetBoth d e item1 item2) (d .pages)) (map-map sheetPage (sheetSecond d e item1 item2) (onlyIn eqb (keysOf d item1) (keysOf e item2)))
+  abbrev moved2 : Bytes → Bytes
+  moved2 = movedTerm e item2 (joinNames d e item1 item2)
+
+  forms1 : (l : List ℕ) → ((f : ℕ) → List·Memᴰ f l → f < length (d .terms)) → map (termIn D) l ≡ movedTerms d item1 (joinNames d e item1 item2) l
+  unfolding joinDraft joinTerms movedTerms
+  forms1 l h =
+      map-same (termIn D) (λ f. moved1 (termIn d f)) l
+      (λ f m. List·getD-append (map moved1 (d .terms)) (map moved2 (e .terms)) [] f (rw length-map (h f m)) ∙ getD-mapped moved1 (d .terms) f [] [] (h f m))
+
+  forms2 : (x : ℕ) → map (termIn D) (secondForms d e item1 item2 x) ≡ secondTerms d e item1 item2 x
+  unfolding joinDraft joinTerms movedTerms secondForms secondTerms
+  forms2 x =
+      let l = formsIn (e .pages) (placeIn (keysOf e item2) x) in
+      map-map (termIn D) (λ f. length (d .terms) + f) l
+      ∙ map-same (λ f. termIn D (length (d .terms) + f)) (λ f. moved2 (termIn e f)) l
+      (λ f m.
+      let r = forms-row (e .pages) (placeIn (keysOf e item2) x) m in
+      ap (λ (n : ℕ). getD (map moved1 (d .terms) ++ map moved2 (e .terms)) (n + f) []) (sym (length-map (d .terms) moved1))
+      ∙ getD-append-add (map moved1 (d .terms)) (map moved2 (e .terms)) f []
+      ∙ getD-mapped moved2 (e .terms) f [] [] (form-below e (j .second .canon) (r .1) (r .2)))
+
+  page-described : (x : ℕ) (l : List ℕ) (k : List Bytes) → map (termIn D) l ≡ k → decodePage D (record { identifier = x; forms = l }) ≡ pageFrom D (record { identifier = x; terms = k })
+  unfolding decodePage
+  page-described x l k h = λ i. record { identifier = identifierOf (textIn D x); categories = categoriesIn D (h i); values = valuesIn D (h i) }
+
+  described1 : (r : PageRow) → List·Memᴰ r (d .pages) → pageOnce (decodePage D (rowBoth d e item1 item2 r)) ≡ sheetPage (sheetBoth d e item1 item2 r)
+  described1 r m =
+      let x = keyOf d item1 r in
+      ap pageOnce (page-described x (r .forms ++ secondForms d e item1 item2 x) (sheetBoth d e item1 item2 r .terms)
+      (map-append (termIn D) (r .forms) (secondForms d e item1 item2 x) ∙ ap₂ _++_ (forms1 (r .forms) (λ f n. form-below d (j .first .canon) m n)) (forms2 x)))
+
+  described2 : (x : ℕ) → pageOnce (decodePage D (rowSecond d e item1 item2 x)) ≡ secondPage x
+  described2 x = ap pageOnce (page-described x (secondForms d e item1 item2 x) (secondTerms d e item1 item2 x) (forms2 x))
+
+  abbrev only : List ℕ
+  only = onlyIn eqb (keysOf d item1) (keysOf e item2)
+
+  abbrev told : PageRow → Page
+  told r = pageOnce (decodePage D r)
+
+  pages-told : map pageOnce (decode D .pages) ≡ map told (map (rowBoth d e item1 item2) (d .pages) ++ map (rowSecond d e item1 item2) only)
+  unfolding decode joinDraft joinPages
+  pages-told = map-map pageOnce (decodePage D) (map (rowBoth d e item1 item2) (d .pages) ++ map (rowSecond d e item1 item2) only)
 
   pub join-pages : map pageOnce (decode D .pages) ≡ join (decode d) (decode e) .pages
   unfolding join
-  join-pages = ap (map pageOnce) described ∙ map-map pageOnce (pageFrom D) (joinSheets d e item1 item2) ∙ sheet-pages ∙ ap₂ _++_ first-pages only-pages
+  join-pages =
+      pages-told
+      ∙ map-append told (map (rowBoth d e item1 item2) (d .pages)) (map (rowSecond d e item1 item2) only)
+      ∙ ap₂ _++_
+      (map-map told (rowBoth d e item1 item2) (d .pages) ∙ map-same (λ r. told (rowBoth d e item1 item2 r)) (λ r. sheetPage (sheetBoth d e item1 item2 r)) (d .pages) described1 ∙ first-pages)
+      (map-map told (rowSecond d e item1 item2) only ∙ map-same (λ x. told (rowSecond d e item1 item2 x)) secondPage only (λ x m. described2 x) ∙ only-pages)

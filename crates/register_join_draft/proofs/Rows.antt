@@ -24,7 +24,6 @@ use Rattle.register_form.specs.Dictionary.{PropertyRow, Dictionary, nameOf, tex
 use Rattle.register_form.specs.Tests.{isPlainNumber}
 use Rattle.register_form.proofs.Described.{Canon, Shaped, plain-below}
 use Rattle.register_join_merge.specs.Merged.{Itemed, Merged}
-use Rattle.register_join_draft.specs.Sheets.{draftOf}
 use Rattle.register_join_draft.specs.Joined.{sameRow, nameIn, rowOf, rowsOf, joinRows, joinDraft}
 use Rattle.register_join_draft.proofs.Once.{once-append, any-map, map-only, distinct-of}
 use Rattle.register_join_draft.proofs.Places.{Stands, stands}
@@ -118,11 +117,11 @@ module _ (d e : Dictionary) (item1 item2 : ℕ → ℕ) (texts : List Bytes) (j 
   D = joinDraft d e item1 item2 texts
 
   pub items : Merged d e (D .texts) item1 item2
-  unfolding joinDraft draftOf
+  unfolding joinDraft
   items = j .merged
 
   pub draft-rows : D .properties ≡ joinRows d e item1 item2
-  unfolding joinDraft draftOf
+  unfolding joinDraft
   draft-rows = refl
 
   same-row : (a b : PropertyRow) → isPlainNumber D (a .name) ≡ true → isPlainNumber D (b .name) ≡ true → sameProperty (decodeProperty D a) (decodeProperty D b) ≡ sameRow a b

@@ -1,76 +1,75 @@
 -- The tables hold the draft of the join.
 use Prim.Native.Nat.{ℕ, zero, suc, _+_, _-_, _≤_, _<_}
-use mathlib.Core.Path.{_≡_, refl, sym, ap, ap₂, _∙_, subst}
-use mathlib.Core.Bool.{Bool, true, false, cond}
-use mathlib.Core.List.{List, [], _∷_, _++_, map, flatMap, append-nil, List·Memᴰ, Memᴰ·of-map}
-use native.Mathlib.Nat.{add-zero, zero-add}
+use mathlib.Core.Path.{_≡_, sym, ap, _∙_, subst}
+use mathlib.Core.Bool.{true}
+use mathlib.Core.List.{List, [], _++_, append-nil, append-assoc}
+use native.Mathlib.Nat.{add-zero}
+use native.Mathlib.Numerals.{add-one}
 use native.Mathlib.Omega.{arith}
-use lib.Dec.{ltb, eqb}
-use lib.ListN.{length, getD, length-append, length-map, List·getD-append, List·getD-eq-default}
+use lib.Dec.{eqb}
+use lib.ListN.{length, getD, length-append, length-map, List·getD-append}
 use lib.Seq.{getD-append-add}
-use borrow.Author.Tests.{ltb-true, ltb-false}
 use Rattle.text.specs.Bytes.{Bytes}
 use Rattle.text.specs.Table.{tabulate}
-use Rattle.text.proofs.Tables.{length-tabulate, getD-tabulate, tabulate-ext, is-tabulate}
+use Rattle.text.proofs.Tables.{length-tabulate, tabulate-ext, is-tabulate}
 use Rattle.values.specs.Values.{kindFrom}
-use Rattle.values.specs.declared.Kind.{Kind}
 use Rattle.language.specs.Register.{distinct}
-use Rattle.language.specs.Joining.{onlyIn, union}
-use Rattle.language.proofs.Members.{by-test, getD-mapped}
-use Rattle.language.proofs.Unions.{only-member}
-use Rattle.dictionary.specs.Items.{textAt as itemAt}
+use Rattle.language.specs.Joining.{onlyIn}
+use Rattle.language.proofs.Members.{getD-mapped}
 use Rattle.register_form.specs.Dictionary.{PropertyRow, PageRow, Dictionary, termOf}
 use Rattle.register_form.specs.Form.{pageCount, propertyCount, propertyAt, pageAt, dictionaryIn}
-use Rattle.register_form.specs.Tests.{termUses}
-use Rattle.register_form.specs.Draft.{onceBehind, once}
-use Rattle.register_form.specs.Tables.{draftIn}
-use Rattle.register_form.proofs.Lists.{mem-at}
-use Rattle.buffer.proofs.Parts.{map-tabulate, flat-append, flat-more}
-use Rattle.register_form.proofs.Described.{Canon, form-below}
+use Rattle.register_form.specs.Draft.{onceBehind}
+use Rattle.register_form.specs.Tables.{between, formsAt}
+use Rattle.buffer.proofs.Parts.{map-tabulate}
 use Rattle.register_form.specs.Formed.{Formed}
-use Rattle.register_join_merge.specs.Merged.{Itemed, Merged}
-use Rattle.register_join_draft.specs.Sheets.{Sheet, termsOn, numberedFrom, draftOf}
-use Rattle.register_join_draft.specs.Joined.{sameRow, nameIn, placeIn, noPage, formsIn, rowOf, rowsOf, keyOf, keysOf, movedTerms, joinRows, joinNames, secondTerms, sheetBoth, sheetSecond, joinSheets, joinDraft}
-use Rattle.register_join_draft.specs.Drafting.{itemsIn, Listed, noRow, Rowed, PropertiesPut, IdentifiersPut, newTerms, TermsListed, newSheet, Ended, PagesPut, TableRoom, JoinPut}
+use Rattle.register_join_merge.specs.Merged.{Merged}
+use Rattle.register_join_draft.specs.Joined.{sameRow, nameIn, rowOf, rowsOf, keyOf, keysOf, joinRows, joinNames}
+use Rattle.register_join_draft.specs.Drafting.{itemsIn, Listed, noRow, Rowed, PropertiesPut, IdentifiersPut, TermsListed, formsTo, Ended}
 use Rattle.register_join_draft.proofs.Once.{behind-append, once-append, once-distinct}
-use Rattle.register_join_draft.proofs.Texts.{eqb-likeness, key-below, keys-distinct}
-use Rattle.register_join_draft.proofs.Rows.{Proper}
-use Rattle.register_join_draft.proofs.Drafted.{forms-row}
+use Rattle.register_join_draft.proofs.Texts.{eqb-likeness, keys-distinct}
 use Rattle.register_join_draft.proofs.Listing.{behind-most, listed-none, rowed-none}
-use Rattle.register_join_draft.proofs.Totals.{sheets-few}
-use Rattle.register_join_draft.proofs.Held.{held-canon, count-pages, properties-few, pages-few, forms-few, name-below, identifier-below, proper}
-use Rattle.register_join_draft.proofs.Terms.{terms-moved}
+use Rattle.register_join_draft.proofs.Writing.{forms-to-more, forms-to-length}
+use Rattle.register_join_draft.proofs.Held.{held-canon, properties-few, pages-few, name-below, identifier-below, proper}
 
--- Pages of a table of sheets.
-numbered-append : (at : ℕ) (l : List Sheet) (s : Sheet) → numberedFrom at (l ++ (s ∷ [])) ≡ numberedFrom at l ++ (record { identifier = s .identifier; forms = tabulate (length (s .terms)) (λ j. at + length (flatMap termsOn l) + j) } ∷ [])
-unfolding numberedFrom flatMap
-numbered-append at [] s = rw (add-zero at)
-numbered-append at (x ∷ l) s =
-    let size : at + length (x .terms) + length (flatMap termsOn l) ≡ at + length (flatMap termsOn (x ∷ l)) = omega (arith, length-append (x .terms) (flatMap termsOn l)) in
-    ap (λ (r : List PageRow). record { identifier = x .identifier; forms = tabulate (length (x .terms)) (λ j. at + j) } ∷ r)
-    (numbered-append (at + length (x .terms)) l s
-    ∙ ap (λ (n : ℕ). numberedFrom (at + length (x .terms)) l ++ (record { identifier = s .identifier; forms = tabulate (length (s .terms)) (λ j. n + j) } ∷ [])) size)
+-- The forms of pages in a table.
+module _ (rows : ℕ → PageRow) (m : ℕ) (firsts uses : List ℕ) (o : Ended rows m firsts uses) where
+  -- Behind those of the first i pages.
+  forms-split : (i k : ℕ) → (rest : List ℕ) × (formsTo rows (i + k) ≡ formsTo rows i ++ rest)
+  forms-split i zero = ([], rw (add-zero i) (sym (append-nil (formsTo rows i))))
+  forms-split i (suc k) =
+      let q = forms-split i k in
+      let z : i + suc k ≡ i + k + 1 = omega arith in
+      (q .0 ++ rows (i + k) .forms, ap (formsTo rows) z ∙ forms-to-more rows (i + k) ∙ ap (λ (l : List ℕ). l ++ rows (i + k) .forms) (q .1) ∙ append-assoc (formsTo rows i) (q .0) (rows (i + k) .forms))
 
-numbered-table : (n : ℕ) (sheets : ℕ → Sheet) → numberedFrom 0 (tabulate n sheets) ≡ tabulate n (λ i. record { identifier = sheets i .identifier; forms = tabulate (length (sheets i .terms)) (λ j. 0 + length (flatMap termsOn (tabulate i sheets)) + j) })
-unfolding numberedFrom tabulate
-numbered-table zero sheets = refl
-numbered-table (suc n) sheets = numbered-append 0 (tabulate n sheets) (sheets n) ∙ ap (λ (r : List PageRow). r ++ (record { identifier = sheets n .identifier; forms = tabulate (length (sheets n .terms)) (λ j. 0 + length (flatMap termsOn (tabulate n sheets)) + j) } ∷ [])) (numbered-table n sheets)
+  form-at : (i j : ℕ) → i < m → j < length (rows i .forms) → getD (rows i .forms) j 0 ≡ getD uses (getD firsts i 0 + j) 0
+  form-at i j b c =
+      let q = forms-split (i + 1) (m - (i + 1)) in
+      let all : formsTo rows m ≡ formsTo rows (i + 1) ++ q .0 = ap (formsTo rows) (let z : m ≡ i + 1 + (m - (i + 1)) = omega arith in z) ∙ q .1 in
+      let size = forms-to-length rows i in
+      let at = length (formsTo rows i) + j in
+      let start = o .starts i (omega arith) in
+      let short : at < length (formsTo rows (i + 1)) = omega arith in
+      let long : at < length (formsTo rows m) = omega (arith, ap length all, length-append (formsTo rows (i + 1)) (q .0)) in
+      sym (ap (λ (n : ℕ). getD uses (n + j) 0) start
+      ∙ o .written .is at long
+      ∙ ap (λ (l : List ℕ). getD l at 0) all
+      ∙ List·getD-append (formsTo rows (i + 1)) (q .0) 0 at short
+      ∙ ap (λ (l : List ℕ). getD l at 0) (forms-to-more rows i)
+      ∙ getD-append-add (formsTo rows i) (rows i .forms) j 0)
 
-module _ (sheets : ℕ → Sheet) (m : ℕ) (firsts groups codes : List ℕ) (n : ℕ) (o : Ended sheets m firsts groups codes n) where
-  pub pages-are : (identifiers : List ℕ) → ((i : ℕ) → i < m → sheets i .identifier ≡ getD identifiers i 0) → tabulate m (λ i. record { identifier = getD identifiers i 0; forms = tabulate (getD firsts (suc i) 0 - getD firsts i 0) (λ j. getD firsts i 0 + j) }) ≡ numberedFrom 0 (tabulate m sheets)
-  pages-are identifiers h = sym (numbered-table m sheets ∙ tabulate-ext m _ _ row)
-    where
-      row : (i : ℕ) → i < m → _≡_ {A = PageRow} (record { identifier = sheets i .identifier; forms = tabulate (length (sheets i .terms)) (λ j. 0 + length (flatMap termsOn (tabulate i sheets)) + j) }) (record { identifier = getD identifiers i 0; forms = tabulate (getD firsts (suc i) 0 - getD firsts i 0) (λ j. getD firsts i 0 + j) })
-      row i b =
-          let a = o .starts i (omega arith) in
-          let z = o .starts (suc i) (omega arith) in
-          let more = ap length (flat-more termsOn i sheets) ∙ length-append (flatMap termsOn (tabulate i sheets)) (sheets i .terms) in
-          let size : length (sheets i .terms) ≡ getD firsts (suc i) 0 - getD firsts i 0 = omega arith in
-          let start : 0 + length (flatMap termsOn (tabulate i sheets)) ≡ getD firsts i 0 = omega arith in
-          λ k. record { identifier = h i b k; forms = tabulate (size k) (λ j. start k + j) }
+  forms-are : (i : ℕ) → i < m → formsAt uses firsts i ≡ rows i .forms
+  unfolding between
+  forms-are i b =
+      let start = o .starts i (omega arith) in
+      let next = o .starts (suc i) (omega arith) in
+      let size : length (rows i .forms) ≡ getD firsts (suc i) 0 - getD firsts i 0 = omega (arith, forms-to-length rows i, ap (λ (k : ℕ). length (formsTo rows k)) (add-one i)) in
+      sym (is-tabulate (getD firsts (suc i) 0 - getD firsts i 0) (λ j. getD uses (getD firsts i 0 + j) 0) 0 (rows i .forms) size (λ j k. form-at i j b (omega arith)))
 
-  pub terms-are : tabulate n (λ f. termOf (getD groups f 0) (getD codes f 0)) ≡ flatMap termsOn (tabulate m sheets)
-  terms-are = sym (is-tabulate n (λ f. termOf (getD groups f 0) (getD codes f 0)) [] (flatMap termsOn (tabulate m sheets)) (sym (o .written .count)) (λ i b. sym (o .written .is i (omega (arith, o .written .count)))))
+  pub pages-are : (identifiers : List ℕ) → ((i : ℕ) → i < m → rows i .identifier ≡ getD identifiers i 0) → tabulate m (λ i. record { identifier = getD identifiers i 0; forms = formsAt uses firsts i }) ≡ tabulate m rows
+  pages-are identifiers h = tabulate-ext m (λ i. record { identifier = getD identifiers i 0; forms = formsAt uses firsts i }) rows (λ i b k. record { identifier = sym (h i b) k; forms = forms-are i b k })
+
+pub terms-are : (groups codes : List ℕ) (n : ℕ) (l : List Bytes) → TermsListed groups codes n l → tabulate n (λ f. termOf (getD groups f 0) (getD codes f 0)) ≡ l
+terms-are groups codes n l o = sym (is-tabulate n (λ f. termOf (getD groups f 0) (getD codes f 0)) [] l (sym (o .count)) (λ i b. sym (o .is i (omega (arith, o .count)))))
 
 pub rows-table : (kinds names table : List ℕ) (n : ℕ) (rows : List PropertyRow) → Rowed kinds names table n rows → tabulate n (λ p. record { kind = kindFrom (getD kinds p 0); name = getD names p 0 }) ≡ rows
 rows-table kinds names table n rows o =
@@ -90,12 +89,6 @@ module _ (h : Bytes) (item : ℕ → ℕ) where
   keys-in : keysOf (dictionaryIn h) item ≡ tabulate (pageCount h) (λ q. item (pageAt h q .identifier))
   unfolding keysOf dictionaryIn
   keys-in = map-tabulate (keyOf (dictionaryIn h) item) (pageCount h) (pageAt h)
-
-pub noSheet : Sheet
-noSheet = record { identifier = 0; terms = [] }
-
-pub sheet-same : (a b : Sheet) → a .identifier ≡ b .identifier → a .terms ≡ b .terms → a ≡ b
-sheet-same a b p q = λ k. record { identifier = p k; terms = q k }
 
 module _ (h g : Bytes) (items1 items2 : List ℕ) (fh : Formed h) (fg : Formed g) (texts : List Bytes) (mg : Merged (dictionaryIn h) (dictionaryIn g) texts (itemsIn items1) (itemsIn items2)) where
   abbrev d : Dictionary

@@ -10,15 +10,18 @@ use lib.ListN.{length, getD}
 use borrow.Author.Tests.{eqb-false}
 use Rattle.text.specs.Bytes.{Bytes}
 use Rattle.values.specs.declared.Kind.{Kind}
-use Rattle.language.proofs.Members.{map-same, by-test}
+use Rattle.text.specs.Table.{tabulate}
+use Rattle.text.proofs.Tables.{length-tabulate, tabulate-ext}
+use Rattle.language.proofs.Members.{by-test}
 use Rattle.register_form.specs.Dictionary.{PropertyRow, PageRow, Dictionary, termOf, groupOf, termCode, isCategory, termIn, propertyIn}
 use Rattle.register_form.specs.Opened.{next}
-use Rattle.register_form.specs.Form.{propertyCount, propertyAt, termAt, dictionaryIn}
+use Rattle.register_form.specs.Form.{propertyCount, termCount, propertyAt, termAt, dictionaryIn}
 use Rattle.register_form.proofs.Lists.{mem-at}
+use Rattle.buffer.proofs.Parts.{map-tabulate}
 use Rattle.register_form.proofs.Described.{value-group-fits}
 use Rattle.register_form.specs.Formed.{Formed}
-use Rattle.register_join_draft.specs.Joined.{placeIn, codeBy, movedTerm, movedTerms}
-use Rattle.register_join_draft.specs.Drafting.{itemsIn, newGroup, newCode, newTerm, newTerms}
+use Rattle.register_join_draft.specs.Joined.{placeIn, codeBy, movedTerm}
+use Rattle.register_join_draft.specs.Drafting.{itemsIn, newGroup, newCode, newTerm}
 use Rattle.register_join_draft.proofs.Held.{held-canon, count-properties, property-is, term-is, name-below}
 
 pub place-most : (l : List ℕ) (x : ℕ) → placeIn l x ≤ length l
@@ -64,6 +67,8 @@ module _ (h : Bytes) (f : Formed h) (items table names : List ℕ)
           let most = value-group-fits d (held-canon h f .terms) m e in
           rw e (ap₂ termOf (group-is (groupOf (termAt h q)) some most) (ap (λ (k : Kind). codeBy (itemsIn items) k (termCode (termAt h q))) (kind-is (groupOf (termAt h q)) some most))))
 
-  pub terms-moved : (forms : List ℕ) → ((q : ℕ) → List·Memᴰ q forms → q < length (d .terms)) → newTerms h items table forms ≡ movedTerms d (itemsIn items) names forms
-  unfolding newTerms movedTerms
-  terms-moved forms b = map-same (newTerm h items table) (λ q. movedTerm d (itemsIn items) names (termIn d q)) forms (λ q m. term-moved q (b q m))
+  pub terms-moved : tabulate (termCount h) (newTerm h items table) ≡ map (movedTerm d (itemsIn items) names) (d .terms)
+  unfolding dictionaryIn
+  terms-moved =
+      tabulate-ext (termCount h) (newTerm h items table) (λ q. movedTerm d (itemsIn items) names (termAt h q)) (λ q b. let k : q < length (d .terms) = rw length-tabulate b in term-moved q k ∙ ap (movedTerm d (itemsIn items) names) (term-is h f q k))
+      ∙ sym (map-tabulate (movedTerm d (itemsIn items) names) (termCount h) (termAt h))

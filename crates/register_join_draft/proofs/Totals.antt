@@ -1,7 +1,7 @@
 -- A join has at most the forms of both.
 use Rattle.register_form.proofs.Totals.{length-flat, total-most, total-same}
 use Prim.Native.Nat.{ℕ, zero, suc, _+_, _≤_, _<_}
-use mathlib.Core.Path.{_≡_, refl, sym, ap, ap₂, _∙_, subst}
+use mathlib.Core.Path.{_≡_, refl, ap, _∙_}
 use mathlib.Core.Bool.{Bool, true, false, cond, not, _&&_}
 use mathlib.Core.List.{List, [], _∷_, _++_, map, flatMap}
 use native.Mathlib.Omega.{arith}
@@ -18,8 +18,7 @@ use Rattle.register_form.specs.Dictionary.{PageRow, Dictionary}
 use Rattle.register_form.specs.Opened.{next}
 use Rattle.register_form.specs.Form.{formsOf}
 use Rattle.register_form.specs.Tests.{termUses}
-use Rattle.register_join_draft.specs.Sheets.{termsOn}
-use Rattle.register_join_draft.specs.Joined.{placeIn, formsIn, keyOf, keysOf, movedTerms, joinNames, secondTerms, sheetBoth, sheetSecond, joinSheets}
+use Rattle.register_join_draft.specs.Joined.{placeIn, formsIn, keyOf, keysOf, secondForms, rowBoth, rowSecond, joinPages}
 use Rattle.register_join_draft.proofs.Texts.{eqb-likeness}
 use Rattle.register_join_draft.proofs.Pages.{forms-behind}
 
@@ -84,36 +83,32 @@ by-keys key (r ∷ l) keys h =
     at x false = omega (arith, ap length (forms-behind r l (placeIn (map key l) x)))
 
 module _ (d e : Dictionary) (item1 item2 : ℕ → ℕ) (once1 : distinct eqb (keysOf d item1) ≡ true) (once2 : distinct eqb (keysOf e item2) ≡ true) where
-  moved-length : (x : Dictionary) (item : ℕ → ℕ) (names forms : List ℕ) → length (movedTerms x item names forms) ≡ length forms
-  unfolding movedTerms
-  moved-length x item names forms = length-map forms _
-
-  second-length : (x : ℕ) → length (secondTerms d e item1 item2 x) ≡ length (formsIn (e .pages) (placeIn (keysOf e item2) x))
-  unfolding secondTerms
-  second-length x = moved-length e item2 (joinNames d e item1 item2) (formsIn (e .pages) (placeIn (keysOf e item2) x))
-
   abbrev second : ℕ → ℕ
   second x = length (formsIn (e .pages) (placeIn (keysOf e item2) x))
 
-  pub sheets-few : length (flatMap termsOn (joinSheets d e item1 item2)) ≤ length (termUses d) + length (termUses e)
-  unfolding joinSheets keysOf
-  sheets-few =
+  second-length : (x : ℕ) → length (secondForms d e item1 item2 x) ≡ second x
+  unfolding secondForms
+  second-length x = length-map (formsIn (e .pages) (placeIn (keysOf e item2) x)) (λ f. length (d .terms) + f)
+
+  pub pages-few : length (flatMap formsOf (joinPages d e item1 item2)) ≤ length (termUses d) + length (termUses e)
+  unfolding joinPages keysOf
+  pages-few =
       let only = onlyIn eqb (keysOf d item1) (keysOf e item2) in
       omega (
         arith,
-        length-flat termsOn (map (sheetBoth d e item1 item2) (d .pages) ++ map (sheetSecond d e item1 item2) only),
-        total-append (λ s. length (termsOn s)) (map (sheetBoth d e item1 item2) (d .pages)) (map (sheetSecond d e item1 item2) only),
-        total-map (λ s. length (termsOn s)) (sheetBoth d e item1 item2) (d .pages),
-        total-map (λ s. length (termsOn s)) (sheetSecond d e item1 item2) only,
-        total-same (λ r. length (sheetBoth d e item1 item2 r .terms)) (λ r. length (r .forms) + second (keyOf d item1 r)) (d .pages) both,
+        length-flat formsOf (map (rowBoth d e item1 item2) (d .pages) ++ map (rowSecond d e item1 item2) only),
+        total-append (λ r. length (formsOf r)) (map (rowBoth d e item1 item2) (d .pages)) (map (rowSecond d e item1 item2) only),
+        total-map (λ r. length (formsOf r)) (rowBoth d e item1 item2) (d .pages),
+        total-map (λ r. length (formsOf r)) (rowSecond d e item1 item2) only,
+        total-same (λ r. length (rowBoth d e item1 item2 r .forms)) (λ r. length (r .forms) + second (keyOf d item1 r)) (d .pages) both,
         total-add (λ r. length (r .forms)) (λ r. second (keyOf d item1 r)) (d .pages),
         total-map second (keyOf d item1) (d .pages),
-        total-same (λ x. length (secondTerms d e item1 item2 x)) second only second-length,
+        total-same (λ x. length (secondForms d e item1 item2 x)) second only second-length,
         total-append second (map (keyOf d item1) (d .pages)) only,
         by-keys (keyOf e item2) (e .pages) (map (keyOf d item1) (d .pages) ++ only) (union-distinct eqb-likeness (keysOf d item1) (keysOf e item2) once1 once2),
         length-flat formsOf (d .pages),
         length-flat formsOf (e .pages),
       )
     where
-      both : (r : PageRow) → length (sheetBoth d e item1 item2 r .terms) ≡ length (r .forms) + second (keyOf d item1 r)
-      both r = length-append (movedTerms d item1 (joinNames d e item1 item2) (r .forms)) (secondTerms d e item1 item2 (keyOf d item1 r)) ∙ ap₂ _+_ (moved-length d item1 (joinNames d e item1 item2) (r .forms)) (second-length (keyOf d item1 r))
+      both : (r : PageRow) → length (rowBoth d e item1 item2 r .forms) ≡ length (r .forms) + second (keyOf d item1 r)
+      both r = length-append (r .forms) (secondForms d e item1 item2 (keyOf d item1 r)) ∙ ap (λ (n : ℕ). length (r .forms) + n) (second-length (keyOf d item1 r))

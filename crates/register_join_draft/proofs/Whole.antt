@@ -26,14 +26,11 @@ use Rattle.register_form.proofs.Canonical.{TermFrom, term-from, canonical}
 use Rattle.register_form.proofs.Described.{Shaped, canon}
 use Rattle.register_form.specs.Formed.{Formed}
 use Rattle.register_join_merge.specs.Merged.{Merged}
-use Rattle.register_join_draft.specs.Sheets.{draftOf}
 use Rattle.register_join_draft.specs.Joined.{joinDraft}
 use Rattle.register_join_draft.specs.Drafting.{itemsIn, TableRoom, JoinPut}
 use Rattle.register_join_draft.proofs.Rows.{Proper, Joint}
-use Rattle.register_join_draft.proofs.Drafted.{join-draft, join-drafted}
-use Rattle.register_join_draft.proofs.Totals.{sheets-few}
-use Rattle.register_join_draft.proofs.Held.{proper, forms-few}
-use Rattle.register_join_draft.proofs.Tabled.{once1, once2}
+use Rattle.register_join_draft.proofs.Drafted.{terms-many, join-draft, join-drafted}
+use Rattle.register_join_draft.proofs.Held.{proper, terms-few}
 
 -- The dictionary of a register.
 module _ (R : Register) (h : isRegister R ≡ true) where
@@ -83,8 +80,8 @@ module _ (R S : Register) (r : isRegister R ≡ true) (s : isRegister S ≡ true
 -- Of held registers: what `draft_join` leaves in the tables, where the texts are merged and the kinds do not clash.
 module _ (h g u : Bytes) (ss ls items1 items2 : List ℕ) (n : ℕ) (fh : Formed h) (fg : Formed g)
     (merged : Merged (dictionaryIn h) (dictionaryIn g) (tabulate n (itemAt u ss ls)) (itemsIn items1) (itemsIn items2)) (clear : kindsClash (registerIn h) (registerIn g) ≡ false)
-    (kinds names identifiers firsts groups codes ks ns is fs gs cs : List ℕ) (np ng nf : ℕ) (put : JoinPut h g items1 items2 kinds names identifiers firsts groups codes ks ns is fs gs cs np ng nf)
-    (space : TableRoom kinds names identifiers firsts groups codes)
+    (kinds names identifiers firsts uses groups codes ks ns is fs us gs cs : List ℕ) (np ng nt : ℕ) (put : JoinPut h g items1 items2 kinds names identifiers firsts uses groups codes ks ns is fs us gs cs np ng nt)
+    (space : TableRoom kinds names identifiers firsts uses groups codes)
   where
     abbrev texts : List Bytes
     texts = tabulate n (itemAt u ss ls)
@@ -92,37 +89,30 @@ module _ (h g u : Bytes) (ss ls items1 items2 : List ℕ) (n : ℕ) (fh : Formed
     abbrev made : Dictionary
     made = joinDraft (dictionaryIn h) (dictionaryIn g) (itemsIn items1) (itemsIn items2) texts
 
-    pub held-is-join : draftIn (tablesOf u ss ls n ks ns np is fs ng gs cs nf) ≡ made
+    pub held-is-join : draftIn (tablesOf u ss ls n ks ns np is fs ng us gs cs nt) ≡ made
     held-is-join = put .draft fh fg texts merged space u ss ls n
 
     held-joint : Joint (dictionaryIn h) (dictionaryIn g) (itemsIn items1) (itemsIn items2) texts
     unfolding registerIn
     held-joint = record { first = proper h fh; second = proper g fg; merged = merged; clear = clear }
 
-    pub held-draft : Draft (draftIn (tablesOf u ss ls n ks ns np is fs ng gs cs nf))
+    pub held-draft : Draft (draftIn (tablesOf u ss ls n ks ns np is fs ng us gs cs nt))
     held-draft = rw held-is-join (join-draft (dictionaryIn h) (dictionaryIn g) (itemsIn items1) (itemsIn items2) texts held-joint)
 
-    pub held-drafted : drafted (draftIn (tablesOf u ss ls n ks ns np is fs ng gs cs nf)) ≡ join (registerIn h) (registerIn g)
+    pub held-drafted : drafted (draftIn (tablesOf u ss ls n ks ns np is fs ng us gs cs nt)) ≡ join (registerIn h) (registerIn g)
     unfolding registerIn
     held-drafted = ap drafted held-is-join ∙ join-drafted (dictionaryIn h) (dictionaryIn g) (itemsIn items1) (itemsIn items2) texts held-joint
 
-    -- How many texts and forms there are.
+    -- How many texts and terms there are.
     pub held-texts : n ≤ 4736
     held-texts = omega (arith, merged .few, length-tabulate n (itemAt u ss ls))
 
     made-terms : length (made .terms) ≤ 4096
-    unfolding joinDraft draftOf
-    made-terms =
-        omega (
-          arith,
-          sheets-few (dictionaryIn h) (dictionaryIn g) (itemsIn items1) (itemsIn items2) (once1 h g items1 items2 fh fg texts merged) (once2 h g items1 items2 fh fg texts merged),
-          forms-few h fh,
-          forms-few g fg,
-        )
+    made-terms = omega (arith, terms-many (dictionaryIn h) (dictionaryIn g) (itemsIn items1) (itemsIn items2) texts held-joint, terms-few h fh, terms-few g fg)
 
-    draft-terms : length (draftIn (tablesOf u ss ls n ks ns np is fs ng gs cs nf) .terms) ≡ nf
+    draft-terms : length (draftIn (tablesOf u ss ls n ks ns np is fs ng us gs cs nt) .terms) ≡ nt
     unfolding draftIn
-    draft-terms = length-tabulate nf _
+    draft-terms = length-tabulate nt _
 
-    pub held-forms : nf ≤ 4096
-    held-forms = omega (arith, draft-terms, ap (λ (d : Dictionary). length (d .terms)) held-is-join, made-terms)
+    pub held-terms : nt ≤ 4096
+    held-terms = omega (arith, draft-terms, ap (λ (d : Dictionary). length (d .terms)) held-is-join, made-terms)

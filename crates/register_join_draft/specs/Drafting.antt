@@ -12,12 +12,11 @@ use Rattle.values.specs.declared.Kind.{Kind}
 use Rattle.language.specs.Joining.{kindsClash}
 use Rattle.dictionary.specs.Items.{textAt as itemAt}
 use Rattle.register_form.specs.Dictionary.{PropertyRow, PageRow, Dictionary, termOf, groupOf, termCode, noProperty}
-use Rattle.register_form.specs.Form.{kindByte, pageCount, propertyCount, propertyAt, pageAt, formAt, termAt, dictionaryIn, registerIn}
+use Rattle.register_form.specs.Form.{kindByte, pageCount, propertyCount, propertyAt, pageAt, formsOf, termAt, dictionaryIn, registerIn}
 use Rattle.register_form.specs.Draft.{onceBehind}
 use Rattle.register_form.specs.Tables.{tablesOf, draftIn}
 use Rattle.register_form.specs.Formed.{Formed}
 use Rattle.register_join_merge.specs.Merged.{Merged}
-use Rattle.register_join_draft.specs.Sheets.{Sheet, termsOn}
 use Rattle.register_join_draft.specs.Joined.{sameRow, nameIn, placeIn, formsIn, rowsOf, keysOf, codeBy, joinDraft}
 
 -- The items of numbers, by a table.
@@ -72,9 +71,6 @@ newCode h items g c = cond (eqb g 0) (itemsIn items c) (codeBy (itemsIn items) (
 unfoldable pub newTerm : Bytes → List ℕ → List ℕ → ℕ → Bytes
 newTerm h items table f = termOf (newGroup h items table (groupOf (termAt h f))) (newCode h items (groupOf (termAt h f)) (termCode (termAt h f)))
 
-unfoldable pub newTerms : Bytes → List ℕ → List ℕ → List ℕ → List Bytes
-newTerms h items table forms = map (newTerm h items table) forms
-
 -- The first n terms in tables of groups and codes.
 pub record TermsListed (groups codes : List ℕ) (n : ℕ) (l : List Bytes) : Type 0 where
   pub count : n ≡ length l
@@ -86,45 +82,62 @@ pub record TermsPut (groups codes : List ℕ) (n : ℕ) (more : List Bytes) (gs 
   pub codes-size : length cs ≡ length codes
   pub written : (l : List Bytes) → TermsListed groups codes n l → n + length more ≤ length groups → n + length more ≤ length codes → n + length more < 65536 → TermsListed gs cs r (l ++ more)
 
+-- The first n numbers of a table, and numbers put behind them.
+pub record Holds (table : List ℕ) (n : ℕ) (l : List ℕ) : Type 0 where
+  pub count : n ≡ length l
+  pub is : (i : ℕ) → i < length l → getD table i 0 ≡ getD l i 0
+
+pub record NumbersPut (table : List ℕ) (n : ℕ) (more u : List ℕ) (r : ℕ) : Type 0 where
+  pub size : length u ≡ length table
+  pub written : (l : List ℕ) → Holds table n l → n + length more ≤ length table → n + length more < 65536 → Holds u r (l ++ more)
+
+-- The places of terms that stand behind so many others.
+unfoldable pub behind : ℕ → List ℕ → List ℕ
+behind base l = map (λ f. (base + f) % 65536) l
+
 -- Page i of the draft: its forms in the first register, and those of the page of the second that a table tells.
-abbrev pub newSheet : Bytes → Bytes → List ℕ → List ℕ → List ℕ → List ℕ → List ℕ → ℕ → Sheet
-newSheet h g items1 items2 names pages identifiers i =
+abbrev pub newRow : Bytes → Bytes → ℕ → List ℕ → List ℕ → ℕ → PageRow
+newRow h g base pages identifiers i =
     record {
       identifier = getD identifiers i 0;
-      terms = newTerms h items1 names (formsIn (dictionaryIn h .pages) (suc i)) ++ newTerms g items2 names (formsIn (dictionaryIn g .pages) (getD pages (getD identifiers i 0) 0));
+      forms = behind 0 (formsIn (dictionaryIn h .pages) (suc i)) ++ behind base (formsIn (dictionaryIn g .pages) (getD pages (getD identifiers i 0) 0));
     }
 
--- The first i of some pages are put: their terms, and where the forms of each begin.
-pub record Paged (sheets : ℕ → Sheet) (i : ℕ) (firsts groups codes : List ℕ) (n : ℕ) : Type 0 where
-  pub written : TermsListed groups codes n (flatMap termsOn (tabulate i sheets))
-  pub starts : (k : ℕ) → k < i → getD firsts k 0 ≡ length (flatMap termsOn (tabulate k sheets))
+-- The forms of the first i of some pages.
+unfoldable pub formsTo : (ℕ → PageRow) → ℕ → List ℕ
+formsTo rows i = flatMap formsOf (tabulate i rows)
 
--- All m are, and firsts has where the last ends, where there was room.
-pub record Ended (sheets : ℕ → Sheet) (m : ℕ) (firsts groups codes : List ℕ) (n : ℕ) : Type 0 where
-  pub written : TermsListed groups codes n (flatMap termsOn (tabulate m sheets))
-  pub starts : (k : ℕ) → k ≤ m → getD firsts k 0 ≡ length (flatMap termsOn (tabulate k sheets))
+-- They are put, with where the forms of each page begin.
+pub record Paged (rows : ℕ → PageRow) (i : ℕ) (firsts uses : List ℕ) (n : ℕ) : Type 0 where
+  pub written : Holds uses n (formsTo rows i)
+  pub starts : (k : ℕ) → k < i → getD firsts k 0 ≡ length (formsTo rows k)
 
-pub record PagesPut (sheets : ℕ → Sheet) (m : ℕ) (firsts groups codes fs gs cs : List ℕ) (n : ℕ) : Type 0 where
+-- Those of all m are, and firsts has where the last ends, where there was room.
+pub record Ended (rows : ℕ → PageRow) (m : ℕ) (firsts uses : List ℕ) : Type 0 where
+  pub written : Holds uses (length (formsTo rows m)) (formsTo rows m)
+  pub starts : (k : ℕ) → k ≤ m → getD firsts k 0 ≡ length (formsTo rows k)
+
+pub record PagesPut (rows : ℕ → PageRow) (m : ℕ) (firsts uses fs us : List ℕ) : Type 0 where
   pub firsts-size : length fs ≡ length firsts
-  pub groups-size : length gs ≡ length groups
-  pub codes-size : length cs ≡ length codes
-  pub paged : m < length firsts → length (flatMap termsOn (tabulate m sheets)) ≤ length groups → length (flatMap termsOn (tabulate m sheets)) ≤ length codes → length (flatMap termsOn (tabulate m sheets)) < 65536 → Ended sheets m fs gs cs n
+  pub uses-size : length us ≡ length uses
+  pub paged : m < length firsts → length (formsTo rows m) ≤ length uses → length (formsTo rows m) < 65536 → Ended rows m fs us
 
 -- Room for the draft of a join.
-pub record TableRoom (kinds names identifiers firsts groups codes : List ℕ) : Type 0 where
+pub record TableRoom (kinds names identifiers firsts uses groups codes : List ℕ) : Type 0 where
   pub kinds-size : 128 ≤ length kinds
   pub names-size : 128 ≤ length names
   pub identifiers-size : 512 ≤ length identifiers
   pub firsts-size : 513 ≤ length firsts
+  pub uses-size : 4096 ≤ length uses
   pub groups-size : 4096 ≤ length groups
   pub codes-size : 4096 ≤ length codes
 
 -- The tables hold the draft of the join, whatever texts the items name, where there was room.
-pub record JoinPut (h g : Bytes) (items1 items2 kinds names identifiers firsts groups codes ks ns is fs gs cs : List ℕ) (np ng nf : ℕ) : Type 0 where
-  pub sizes : (length ks ≡ length kinds) × (length ns ≡ length names) × (length is ≡ length identifiers) × (length fs ≡ length firsts) × (length gs ≡ length groups) × (length cs ≡ length codes)
-  pub draft : Formed h → Formed g → (texts : List Bytes) → Merged (dictionaryIn h) (dictionaryIn g) texts (itemsIn items1) (itemsIn items2) → TableRoom kinds names identifiers firsts groups codes
+pub record JoinPut (h g : Bytes) (items1 items2 kinds names identifiers firsts uses groups codes ks ns is fs us gs cs : List ℕ) (np ng nt : ℕ) : Type 0 where
+  pub sizes : (length ks ≡ length kinds) × (length ns ≡ length names) × (length is ≡ length identifiers) × (length fs ≡ length firsts) × (length us ≡ length uses) × (length gs ≡ length groups) × (length cs ≡ length codes)
+  pub draft : Formed h → Formed g → (texts : List Bytes) → Merged (dictionaryIn h) (dictionaryIn g) texts (itemsIn items1) (itemsIn items2) → TableRoom kinds names identifiers firsts uses groups codes
       → (s : Bytes) (starts lens : List ℕ) (m : ℕ)
-      → draftIn (tablesOf s starts lens m ks ns np is fs ng gs cs nf) ≡ joinDraft (dictionaryIn h) (dictionaryIn g) (itemsIn items1) (itemsIn items2) (tabulate m (itemAt s starts lens))
+      → draftIn (tablesOf s starts lens m ks ns np is fs ng us gs cs nt) ≡ joinDraft (dictionaryIn h) (dictionaryIn g) (itemsIn items1) (itemsIn items2) (tabulate m (itemAt s starts lens))
 
 -- Whether property p of the first register and the like one of the second, if there is one, have different kinds; a table has the places
 -- of the second's names.

@@ -1,17 +1,16 @@
 -- The draft of the join of two registers, by their dictionaries, a list of the texts of both, and the items that their numbers have
 -- in it. By `join-drafted` it describes their join.
-use Prim.Native.Nat.{ℕ, zero, suc, _-_}
+use Prim.Native.Nat.{ℕ, zero, suc, _+_, _-_}
 use mathlib.Core.Bool.{Bool, cond}
 use mathlib.Core.List.{List, [], _∷_, _++_, map}
 use lib.Dec.{eqb}
-use lib.ListN.{getD}
+use lib.ListN.{length, getD}
 use Rattle.text.specs.Bytes.{Bytes}
 use Rattle.values.specs.declared.Kind.{Kind}
 use Rattle.language.specs.Joining.{onlyIn}
-use Rattle.register_form.specs.Dictionary.{PropertyRow, PageRow, Dictionary, termOf, groupOf, termCode, isCategory, termIn, propertyIn}
+use Rattle.register_form.specs.Dictionary.{PropertyRow, PageRow, Dictionary, termOf, groupOf, termCode, isCategory, propertyIn}
 use Rattle.register_form.specs.Opened.{next}
 use Rattle.register_form.specs.Draft.{once}
-use Rattle.register_join_draft.specs.Sheets.{Sheet, draftOf}
 
 abbrev pub sameRow : PropertyRow → PropertyRow → Bool
 sameRow p q = eqb (p .name) (q .name)
@@ -58,9 +57,6 @@ module _ (d : Dictionary) (item : ℕ → ℕ) where
       cond (isCategory t) (termOf 0 (item (termCode t)))
       (termOf (placeIn names (item (propertyIn d (groupOf t - 1) .name))) (codeBy item (propertyIn d (groupOf t - 1) .kind) (termCode t)))
 
-  unfoldable pub movedTerms : List ℕ → List ℕ → List Bytes
-  movedTerms names forms = map (λ f. movedTerm names (termIn d f)) forms
-
 module _ (d e : Dictionary) (item1 item2 : ℕ → ℕ) where
   -- The properties of the first, then those only in the second.
   unfoldable pub joinRows : List PropertyRow
@@ -69,19 +65,23 @@ module _ (d e : Dictionary) (item1 item2 : ℕ → ℕ) where
   unfoldable pub joinNames : List ℕ
   joinNames = map nameIn joinRows
 
-  -- What the second has of a page.
-  unfoldable pub secondTerms : ℕ → List Bytes
-  secondTerms x = movedTerms e item2 joinNames (formsIn (e .pages) (placeIn (keysOf e item2) x))
+  -- What the second has of a page. Its terms stand behind those of the first.
+  unfoldable pub secondForms : ℕ → List ℕ
+  secondForms x = map (λ f. length (d .terms) + f) (formsIn (e .pages) (placeIn (keysOf e item2) x))
 
-  abbrev pub sheetBoth : PageRow → Sheet
-  sheetBoth r = record { identifier = keyOf d item1 r; terms = movedTerms d item1 joinNames (r .forms) ++ secondTerms (keyOf d item1 r) }
+  abbrev pub rowBoth : PageRow → PageRow
+  rowBoth r = record { identifier = keyOf d item1 r; forms = r .forms ++ secondForms (keyOf d item1 r) }
 
-  abbrev pub sheetSecond : ℕ → Sheet
-  sheetSecond x = record { identifier = x; terms = secondTerms x }
+  abbrev pub rowSecond : ℕ → PageRow
+  rowSecond x = record { identifier = x; forms = secondForms x }
 
   -- The pages of the first, each with what the second has of it, then those only in the second.
-  unfoldable pub joinSheets : List Sheet
-  joinSheets = map sheetBoth (d .pages) ++ map sheetSecond (onlyIn eqb (keysOf d item1) (keysOf e item2))
+  unfoldable pub joinPages : List PageRow
+  joinPages = map rowBoth (d .pages) ++ map rowSecond (onlyIn eqb (keysOf d item1) (keysOf e item2))
+
+  -- The terms of both.
+  unfoldable pub joinTerms : List Bytes
+  joinTerms = map (movedTerm d item1 joinNames) (d .terms) ++ map (movedTerm e item2 joinNames) (e .terms)
 
   unfoldable pub joinDraft : List Bytes → Dictionary
-  joinDraft texts = draftOf joinRows joinSheets texts
+  joinDraft texts = record { properties = joinRows; pages = joinPages; terms = joinTerms; texts = texts }

@@ -1,12 +1,12 @@
-// The forms of a page in the draft of a join: terms with the items of their texts.
+// The terms of a register in the draft of a join, with the items of their texts, and the forms of a page.
 ghost use mathlib.Core.Path.{_≡_};
 ghost use mathlib.Core.List.{[], _∷_};
 ghost use Prim.Native.Nat.{_+_, _-_, _%_};
 ghost use lib.ListN.{getD, set};
 ghost use Rattle.text.specs.Table.{tabulate};
-ghost use Rattle.register_form.specs.Form.{formAt, dictionaryIn};
+ghost use Rattle.register_form.specs.Form.{termCount, formAt, dictionaryIn};
 ghost use Rattle.register_join_draft.specs.Joined.{formsIn};
-ghost use Rattle.register_join_draft.specs.Drafting.{newGroup, newCode, newTerm, newTerms, TermsPut};
+ghost use Rattle.register_join_draft.specs.Drafting.{newGroup, newCode, newTerm, TermsPut, behind, NumbersPut};
 use register_form::code_at;
 use register_form::form_at;
 use register_form::form_end;
@@ -15,9 +15,12 @@ use register_form::group_at;
 use register_form::kind_at;
 use register_form::name_number;
 use register_form::page_count;
+use register_form::term_count;
 use tables::get;
+use tables::narrow;
 use tables::next;
 use tables::num_at;
+use tables::put;
 use tables::put_byte;
 use tables::put_code;
 use tables::widen;
@@ -87,39 +90,51 @@ fn put_term(
     next(n)
 }
 
-// Puts the forms from first up to end.
-fn put_forms(
+// Puts the terms of a register behind the first n; answers how many there are.
+pub fn put_terms(
     h: &[u8],
     items: &[u16],
     table: &[u16],
-    first: u16,
-    end: u16,
     groups: &mut [u8],
     codes: &mut [u64],
     from: u16,
 ) -> u16
-    ensures { λ r. ⌜ TermsPut (now (groups .entry)) (now (codes .entry)) from (newTerms (now (h .entry)) (now (items .entry)) (now (table .entry)) (tabulate (end - first) (λ j. formAt (now (h .entry)) (first + j)))) (now (groups .exit)) (now (codes .exit)) r ⌝ }
+    ensures { λ r. ⌜ TermsPut (now (groups .entry)) (now (codes .entry)) from (tabulate (termCount (now (h .entry))) (newTerm (now (h .entry)) (now (items .entry)) (now (table .entry)))) (now (groups .exit)) (now (codes .exit)) r ⌝ }
+{
+    let most = term_count(h);
+    let mut n = from;
+    let mut f: u16 = 0;
+    while f < most {
+        n = put_term(h, items, table, f, groups, codes, n);
+        f += 1;
+    }
+    n
+}
+
+// The place of term f of a register whose terms stand behind so many others.
+fn place_behind(base: u16, f: u16) -> u16
+    ensures { λ r. ⌜ r ≡ (base + f) % 65536 ⌝ }
+{
+    narrow(widen(base) + widen(f))
+}
+
+// Puts the forms from first up to end, by the places of their terms; answers how many there are.
+fn put_forms(h: &[u8], base: u16, first: u16, end: u16, uses: &mut [u16], from: u16) -> u16
+    ensures { λ r. ⌜ NumbersPut (now (uses .entry)) from (behind base (tabulate (end - first) (λ j. formAt (now (h .entry)) (first + j)))) (now (uses .exit)) r ⌝ }
 {
     let mut n = from;
     let mut j = first;
     while j < end {
-        n = put_term(h, items, table, form_at(h, j), groups, codes, n);
+        put(uses, widen(n), place_behind(base, form_at(h, j)));
+        n = next(n);
         j += 1;
     }
     n
 }
 
 // Puts the forms of the page in a place, which is given 1 more; none for 0.
-pub fn put_page(
-    h: &[u8],
-    items: &[u16],
-    table: &[u16],
-    place: u16,
-    groups: &mut [u8],
-    codes: &mut [u64],
-    n: u16,
-) -> u16
-    ensures { λ r. ⌜ TermsPut (now (groups .entry)) (now (codes .entry)) n (newTerms (now (h .entry)) (now (items .entry)) (now (table .entry)) (formsIn (dictionaryIn (now (h .entry)) .pages) place)) (now (groups .exit)) (now (codes .exit)) r ⌝ }
+pub fn put_page(h: &[u8], base: u16, place: u16, uses: &mut [u16], n: u16) -> u16
+    ensures { λ r. ⌜ NumbersPut (now (uses .entry)) n (behind base (formsIn (dictionaryIn (now (h .entry)) .pages) place)) (now (uses .exit)) r ⌝ }
 {
     if place == 0 {
         return n;
@@ -128,14 +143,5 @@ pub fn put_page(
     if page_count(h) <= i {
         return n;
     }
-    put_forms(
-        h,
-        items,
-        table,
-        form_start(h, i),
-        form_end(h, i),
-        groups,
-        codes,
-        n,
-    )
+    put_forms(h, base, form_start(h, i), form_end(h, i), uses, n)
 }

@@ -3,8 +3,9 @@ ghost use mathlib.Core.Path.{_≡_};
 ghost use Prim.Native.Nat.{_+_, _<_};
 ghost use lib.ListN.{set};
 ghost use Rattle.register_form.specs.Form.{pageCount, propertyCount};
-ghost use Rattle.register_join_draft.specs.Drafting.{Entering, PropertiesPut, IdentifiersPut, newSheet, PagesPut, JoinPut, clashesAt, someClash, Clashed};
+ghost use Rattle.register_join_draft.specs.Drafting.{Entering, PropertiesPut, IdentifiersPut, newRow, PagesPut, JoinPut, clashesAt, someClash, Clashed};
 use forms::put_page;
+use forms::put_terms;
 use register_form::identifier_number;
 use register_form::kind_byte;
 use register_form::layout;
@@ -18,13 +19,13 @@ use tables::put;
 use tables::put_byte;
 use tables::widen;
 
-mod forms; // forms.rt: the forms of a page
+mod forms; // forms.rt: the terms of a register, the forms of a page
 
-// How many properties, pages and forms a draft has.
+// How many properties, pages and terms a draft has.
 pub struct Counts {
     pub properties: u16,
     pub pages: u16,
-    pub forms: u16,
+    pub terms: u16,
 }
 
 // Puts x behind the first n of a list, unless the table has a place for it; answers how many there are.
@@ -113,44 +114,33 @@ pub fn kinds_clash(h: &[u8], g: &[u8], items1: &[u16], items2: &[u16]) -> bool
     some_clash(h, g, items1, &table)
 }
 
-// Puts the pages: each with its forms in the first register and those of the like page of the second.
+// Puts the pages: each with its forms in the first register and those of the like page of the second, whose terms stand behind so many.
 fn put_pages(
     h: &[u8],
     g: &[u8],
-    items1: &[u16],
-    items2: &[u16],
-    names: &[u16],
+    base: u16,
     pages: &[u16],
     identifiers: &[u16],
     m: u16,
     firsts: &mut [u16],
-    groups: &mut [u8],
-    codes: &mut [u64],
-) -> u16
-    ensures { λ r. ⌜ PagesPut (newSheet (now (h .entry)) (now (g .entry)) (now (items1 .entry)) (now (items2 .entry)) (now (names .entry)) (now (pages .entry)) (now (identifiers .entry))) m (now (firsts .entry)) (now (groups .entry)) (now (codes .entry)) (now (firsts .exit)) (now (groups .exit)) (now (codes .exit)) r ⌝ }
+    uses: &mut [u16],
+)
+    ensures { λ _. ⌜ PagesPut (newRow (now (h .entry)) (now (g .entry)) base (now (pages .entry)) (now (identifiers .entry))) m (now (firsts .entry)) (now (uses .entry)) (now (firsts .exit)) (now (uses .exit)) ⌝ }
 {
     let mut n: u16 = 0;
     let mut i: u16 = 0;
     while i < m {
         put(firsts, widen(i), n);
-        n = put_page(h, items1, names, i + 1, groups, codes, n);
-        n = put_page(
-            g,
-            items2,
-            names,
-            get(pages, num_at(identifiers, widen(i))),
-            groups,
-            codes,
-            n,
-        );
+        n = put_page(h, 0, i + 1, uses, n);
+        let place = get(pages, num_at(identifiers, widen(i)));
+        n = put_page(g, base, place, uses, n);
         i += 1;
     }
     put(firsts, widen(m), n);
-    n
 }
 
 // Makes the draft of the join in tables: properties by kinds and names, pages by identifiers and the places where their forms begin,
-// forms by groups and codes.
+// forms by their terms, and the terms of the first register and then of the second by groups and codes.
 pub fn draft_join(
     h: &[u8],
     g: &[u8],
@@ -160,10 +150,11 @@ pub fn draft_join(
     names: &mut [u16],
     identifiers: &mut [u16],
     firsts: &mut [u16],
+    uses: &mut [u16],
     groups: &mut [u8],
     codes: &mut [u64],
 ) -> Counts
-    ensures { λ r. ⌜ JoinPut (now (h .entry)) (now (g .entry)) (now (items1 .entry)) (now (items2 .entry)) (now (kinds .entry)) (now (names .entry)) (now (identifiers .entry)) (now (firsts .entry)) (now (groups .entry)) (now (codes .entry)) (now (kinds .exit)) (now (names .exit)) (now (identifiers .exit)) (now (firsts .exit)) (now (groups .exit)) (now (codes .exit)) (r .properties) (r .pages) (r .forms) ⌝ }
+    ensures { λ r. ⌜ JoinPut (now (h .entry)) (now (g .entry)) (now (items1 .entry)) (now (items2 .entry)) (now (kinds .entry)) (now (names .entry)) (now (identifiers .entry)) (now (firsts .entry)) (now (uses .entry)) (now (groups .entry)) (now (codes .entry)) (now (kinds .exit)) (now (names .exit)) (now (identifiers .exit)) (now (firsts .exit)) (now (uses .exit)) (now (groups .exit)) (now (codes .exit)) (r .properties) (r .pages) (r .terms) ⌝ }
 {
     let mut places = [0u16; layout::DRAFT_TEXTS];
     let mut both = [0u16; layout::DRAFT_TEXTS];
@@ -174,22 +165,12 @@ pub fn draft_join(
     let own = put_identifiers(h, items1, identifiers, &mut both, 0);
     let count = put_identifiers(g, items2, identifiers, &mut both, own);
     put_identifiers(g, items2, &mut list, &mut pages, 0);
-    let forms = put_pages(
-        h,
-        g,
-        items1,
-        items2,
-        &places,
-        &pages,
-        identifiers,
-        count,
-        firsts,
-        groups,
-        codes,
-    );
+    let base = put_terms(h, items1, &places, groups, codes, 0);
+    let terms = put_terms(g, items2, &places, groups, codes, base);
+    put_pages(h, g, base, &pages, identifiers, count, firsts, uses);
     Counts {
         properties,
         pages: count,
-        forms,
+        terms,
     }
 }

@@ -11,7 +11,7 @@ use lib.Seq.{length-take-le, getD-take, getD-set-same}
 use borrow.Author.Tests.{ltb-false}
 use Rattle.text.specs.Bytes.{Bytes, part, any}
 use Rattle.text.specs.Table.{tabulate}
-use Rattle.text.proofs.Tables.{length-tabulate, getD-tabulate, is-tabulate}
+use Rattle.text.proofs.Tables.{length-tabulate, getD-tabulate, tabulate-ext, is-tabulate}
 use Rattle.language.specs.Answer.{accepted, numberOf, judge}
 use Rattle.language.specs.Register.{Property, Sound}
 use Rattle.language.specs.RegisterText.{Entry, close, entries, breaksRule, someTwice, properties, isUndeclared, isUnfit, overLimits, registerOf, readRegister}
@@ -25,17 +25,17 @@ use Rattle.register_text_entries.proofs.Cells.{rows-length, rows-at, rows-last}
 use Rattle.register_text_verdict.specs.Checks.{lowest, Indexed, Judges}
 use Rattle.register_text_verdict.specs.declared.Judged.{Judged}
 use Rattle.register_text_verdict.proofs.Verdict.{too-long, verdict}
-use Rattle.register_form.specs.Dictionary.{Dictionary}
+use Rattle.register_form.specs.Dictionary.{PageRow, Dictionary}
 use Rattle.register_form.specs.Form.{joined}
 use Rattle.register_form.specs.Draft.{drafted, Draft}
-use Rattle.register_form.specs.Tables.{tablesOf, range, draftIn}
+use Rattle.register_form.specs.Tables.{tablesOf, between, formsAt, draftIn}
 use Rattle.register_form.proofs.Lists.{mem-at}
 use Rattle.buffer.proofs.Parts.{part-before}
 use Rattle.register_text_draft.specs.declared.Counts.{Counts}
 use Rattle.register_text_draft.specs.Drafting.{noDraft, added, draftFrom, draftOf}
 use Rattle.register_text_draft.specs.Sizes.{Fits, Good}
 use Rattle.register_text_draft.specs.Lookup.{Lists}
-use Rattle.register_text_draft.specs.Tables.{Texts, Holding, Extends, Roomy, Accepted}
+use Rattle.register_text_draft.specs.Tables.{Texts, pageIn, Pages, Holding, Extends, Roomy, Accepted, Own}
 use Rattle.register_text_draft.proofs.Growing.{draft-more}
 use Rattle.register_text_draft.proofs.Entries.{passed-good}
 use Rattle.register_text_draft.proofs.Bounds.{passed-fits}
@@ -141,12 +141,23 @@ module _ (heap starts lens kinds names identifiers firsts groups codes : List �
       let whole : heap ≡ joined l ++ drop at heap = sym (take-append-drop at heap) ∙ ap (λ (z : List ℕ). z ++ drop at heap) (t .bytes) in
       sym (ap (λ (z : List ℕ). part z (getD starts i 0) (getD lens i 0)) whole ∙ part-before (joined l) (drop at heap) (getD starts i 0) (getD lens i 0) (t .lies i k .within) ∙ t .lies i k .is)))
 
-  holding-is : (c : Counts) (d : Dictionary) → Holding heap starts lens kinds names identifiers firsts groups codes c d
-      → draftIn (tablesOf heap starts lens (c .texts) kinds names (c .properties) identifiers firsts (c .pages) groups codes (c .forms)) ≡ d
-  unfolding draftIn range
-  holding-is c d h =
+  -- A page's forms are terms of their own.
+  pages-are : (n f : ℕ) (l : List PageRow) → Pages identifiers firsts n f l → (uses : List ℕ) → Own f uses → tabulate n (λ i. record { identifier = getD identifiers i 0; forms = formsAt uses firsts i }) ≡ l
+  unfolding between
+  pages-are n f l p uses own = tabulate-ext n (λ i. record { identifier = getD identifiers i 0; forms = formsAt uses firsts i }) (pageIn identifiers firsts) (λ i b k. record { identifier = getD identifiers i 0; forms = forms i b k }) ∙ p .rows
+    where
+      forms : (i : ℕ) → i < n → formsAt uses firsts i ≡ tabulate (getD firsts (suc i) 0 - getD firsts i 0) (λ j. getD firsts i 0 + j)
+      forms i b =
+          tabulate-ext (getD firsts (suc i) 0 - getD firsts i 0) (λ j. getD uses (getD firsts i 0 + j) 0) (λ j. getD firsts i 0 + j)
+          (λ j c. own (getD firsts i 0 + j) (omega (arith, p .most (suc i) (omega arith))))
+
+  holding-is : (c : Counts) (d : Dictionary) → Holding heap starts lens kinds names identifiers firsts groups codes c d → (uses : List ℕ) → Own (c .forms) uses
+      → draftIn (tablesOf heap starts lens (c .texts) kinds names (c .properties) identifiers firsts (c .pages) uses groups codes (c .forms)) ≡ d
+  unfolding draftIn
+  holding-is c d h uses own =
       let texts = texts-are (c .texts) (c .bytes) (d .texts) (h .texts) in
-      λ i. record { properties = h .properties .rows i; pages = h .pages .rows i; terms = h .terms .rows i; texts = texts i }
+      let pages = pages-are (c .pages) (c .forms) (d .pages) (h .pages) uses own in
+      λ i. record { properties = h .properties .rows i; pages = pages i; terms = h .terms .rows i; texts = texts i }
 
 -- After the last row; the tables are those at the start but for the first entry of firsts.
 module _ (s : Bytes) (t props : List ℕ) (n np : ℕ) (heap₀ starts₀ lens₀ kinds₀ names₀ identifiers₀ firsts₀ groups₀ codes₀ v : List ℕ) (ev : firsts₀ ≡ set v 0 0) where
@@ -166,9 +177,9 @@ module _ (s : Bytes) (t props : List ℕ) (n np : ℕ) (heap₀ starts₀ lens�
 
   pub draft-done : (heap starts lens kinds names identifiers firsts groups codes : List ℕ) (c : Counts) (i : ℕ) → i ≤ n → n ≤ i
       → (Accepted s t props n np → Roomy heap₀ starts₀ lens₀ kinds₀ names₀ identifiers₀ firsts₀ groups₀ codes₀ → Holding heap starts lens kinds names identifiers firsts groups codes c (draftOf (properties (entriesIn s t n)) (entriesIn s t i)))
-      → Accepted s t props n np → Roomy heap₀ starts₀ lens₀ kinds₀ names₀ identifiers₀ v groups₀ codes₀
-      → draftIn (tablesOf heap starts lens (c .texts) kinds names (c .properties) identifiers firsts (c .pages) groups codes (c .forms)) ≡ draftOf (properties (entriesIn s t n)) (entriesIn s t n)
-  draft-done heap starts lens kinds names identifiers firsts groups codes c i l m h a r =
+      → Accepted s t props n np → Roomy heap₀ starts₀ lens₀ kinds₀ names₀ identifiers₀ v groups₀ codes₀ → (uses : List ℕ) → Own (c .forms) uses
+      → draftIn (tablesOf heap starts lens (c .texts) kinds names (c .properties) identifiers firsts (c .pages) uses groups codes (c .forms)) ≡ draftOf (properties (entriesIn s t n)) (entriesIn s t n)
+  draft-done heap starts lens kinds names identifiers firsts groups codes c i l m h a r uses own =
       let e : i ≡ n = omega arith in
-      holding-is heap starts lens kinds names identifiers firsts groups codes c (draftOf (properties (entriesIn s t n)) (entriesIn s t i)) (h a (roomy r))
+      holding-is heap starts lens kinds names identifiers firsts groups codes c (draftOf (properties (entriesIn s t n)) (entriesIn s t i)) (h a (roomy r)) uses own
       ∙ ap (λ (k : ℕ). draftOf (properties (entriesIn s t n)) (entriesIn s t k)) e

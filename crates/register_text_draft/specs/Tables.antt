@@ -83,6 +83,10 @@ pub record FormsPushed (firsts groups codes : List ℕ) (n f group code : ℕ) (
   pub pages : (identifiers : List ℕ) (l : List PageRow) → Pages identifiers firsts n f l → n ≤ 256 → f < 2048 → Pages identifiers firsts′ n (f + 1) (onLast f l)
   pub terms : (l : List Bytes) → Terms groups codes f l → f < 2048 → Terms groups′ codes′ (f + 1) (l ++ (termOf group code ∷ []))
 
+-- Each of the first n forms is a term of its own.
+abbrev pub Own : ℕ → List ℕ → Type 0
+Own n uses = (f : ℕ) → f < n → getD uses f 0 ≡ f
+
 -- Tables with room for any draft.
 pub record Roomy (heap starts lens kinds names identifiers firsts groups codes : List ℕ) : Type 0 where
   pub heapRoom : 35136 ≤ length heap

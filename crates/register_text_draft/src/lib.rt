@@ -1,6 +1,7 @@
 // The draft of a register text: its entries, one after the other, into the tables of a draft.
 ghost use mathlib.Core.Path.{_≡_};
 ghost use mathlib.Core.List.{List};
+ghost use Prim.Native.Nat.{ℕ};
 ghost use Rattle.language.specs.Register.{Property};
 ghost use Rattle.language.specs.RegisterText.{properties};
 ghost use Rattle.register_text_entries.specs.Items.{entryIn};
@@ -9,7 +10,7 @@ ghost use Rattle.register_form.specs.Tables.{tablesOf, draftIn};
 ghost use Rattle.register_text_draft.specs.Drafting.{added, draftOf};
 ghost use Rattle.register_text_draft.specs.Sizes.{Good};
 ghost use Rattle.register_text_draft.specs.Lookup.{Lists};
-ghost use Rattle.register_text_draft.specs.Tables.{Holding, Extends, Roomy, Accepted};
+ghost use Rattle.register_text_draft.specs.Tables.{Holding, Extends, Roomy, Accepted, Own};
 
 pub mod adding; // adding.rt: what each entry adds
 pub mod lookup; // lookup.rt: a property by its name
@@ -125,7 +126,7 @@ pub fn draft_text(
     groups: &mut [u8],
     codes: &mut [u64],
 ) -> Counts
-    ensures { λ r. ⌜ (Accepted (now (s .entry)) (now (t .entry)) (now (props .entry)) n np → Roomy (now (heap .entry)) (now (starts .entry)) (now (lens .entry)) (now (kinds .entry)) (now (names .entry)) (now (identifiers .entry)) (now (firsts .entry)) (now (groups .entry)) (now (codes .entry)) → draftIn (tablesOf (now (heap .exit)) (now (starts .exit)) (now (lens .exit)) (r .texts) (now (kinds .exit)) (now (names .exit)) (r .properties) (now (identifiers .exit)) (now (firsts .exit)) (r .pages) (now (groups .exit)) (now (codes .exit)) (r .forms)) ≡ draftOf (properties (entriesIn (now (s .entry)) (now (t .entry)) n)) (entriesIn (now (s .entry)) (now (t .entry)) n)) ⌝ }
+    ensures { λ r. ⌜ (Accepted (now (s .entry)) (now (t .entry)) (now (props .entry)) n np → Roomy (now (heap .entry)) (now (starts .entry)) (now (lens .entry)) (now (kinds .entry)) (now (names .entry)) (now (identifiers .entry)) (now (firsts .entry)) (now (groups .entry)) (now (codes .entry)) → (uses : List ℕ) → Own (r .forms) uses → draftIn (tablesOf (now (heap .exit)) (now (starts .exit)) (now (lens .exit)) (r .texts) (now (kinds .exit)) (now (names .exit)) (r .properties) (now (identifiers .exit)) (now (firsts .exit)) (r .pages) uses (now (groups .exit)) (now (codes .exit)) (r .forms)) ≡ draftOf (properties (entriesIn (now (s .entry)) (now (t .entry)) n)) (entriesIn (now (s .entry)) (now (t .entry)) n)) ⌝ }
 {
     put(firsts, 0, 0);
     let mut c = Counts {

@@ -33,6 +33,12 @@ slice-aggregate-draft-text-9 c = search needs
 draft-text-requires : tie.Need-draft-text-requires
 draft-text-requires c κs = search needs
 
+slice-aggregate-put-own : tie.Need-slice-aggregate-put-own
+slice-aggregate-put-own c = search needs
+
+put-own-requires : tie.Need-put-own-requires
+put-own-requires c κs = search needs
+
 slice-aggregate-write-draft : tie.Need-slice-aggregate-write-draft
 slice-aggregate-write-draft c = search needs
 
@@ -60,6 +66,9 @@ slice-aggregate-write-draft-8 c = search needs
 slice-aggregate-write-draft-9 : tie.Need-slice-aggregate-write-draft-9
 slice-aggregate-write-draft-9 c = search needs
 
+slice-aggregate-write-draft-10 : tie.Need-slice-aggregate-write-draft-10
+slice-aggregate-write-draft-10 c = search needs
+
 write-draft-requires : tie.Need-write-draft-requires
 write-draft-requires c κs = search needs
 
@@ -67,7 +76,7 @@ same-length : tie.Need-same-length
 same-length c = search needs
 
 returns : tie.Need-returns
-returns c = text-written _ _ _ _ _ _ _ _ _ (λ a. c .before .before .before .before .before .before .before .before .before .before .before .before .before .before .before .before .before .before .before .before .before .before .draft-text .ensures a zeros-roomy) (c .before .before .write-draft .ensures)
+returns c = text-written _ _ _ _ _ _ _ _ _ _ _ _ _ _ _ _ _ _ _ (λ a. c .before .before .before .before .before .before .before .before .before .before .before .before .before .before .before .before .before .before .before .before .before .before .before .before .before .before .draft-text .ensures a zeros-roomy) _ _ _ (c .before .before .before .before .before .before .before .before .before .before .before .before .before .before .before .put-own .ensures) (c .before .before .write-draft .ensures)
 
 pub write-text-spec : {M : Type 1} → statement M
 write-text-spec =
@@ -83,6 +92,8 @@ write-text-spec =
     slice-aggregate-draft-text-8
     slice-aggregate-draft-text-9
     draft-text-requires
+    slice-aggregate-put-own
+    put-own-requires
     slice-aggregate-write-draft
     slice-aggregate-write-draft-2
     slice-aggregate-write-draft-3
@@ -92,6 +103,7 @@ write-text-spec =
     slice-aggregate-write-draft-7
     slice-aggregate-write-draft-8
     slice-aggregate-write-draft-9
+    slice-aggregate-write-draft-10
     write-draft-requires
     same-length
     returns)

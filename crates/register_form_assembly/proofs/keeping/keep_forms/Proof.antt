@@ -6,13 +6,13 @@ use Rattle.register_form_assembly.proofs.keeping.keep_forms.Statement.{
 use Rattle.register_form_assembly.proofs.keeping.keep_forms.Tie as tie
 
 abbrev Inv-loop : tie.InvT-loop
-Inv-loop groups numbers firsts n table₀ starts₀ used₀ count₀ page₀ table starts used count page = (page ≤ n) × Paging groups numbers firsts n table₀ starts₀ page used table starts count
+Inv-loop groups numbers uses firsts n table₀ starts₀ used₀ count₀ page₀ table starts used count page = (page ≤ n) × Paging groups numbers uses firsts n table₀ starts₀ page used table starts count
 
 abbrev μ-loop : tie.MeasureT-loop
-μ-loop groups numbers firsts n table₀ starts₀ used₀ count₀ page₀ table starts used count page = n - page
+μ-loop groups numbers uses firsts n table₀ starts₀ used₀ count₀ page₀ table starts used count page = n - page
 
 loop-holds : tie.Need-loop-holds Inv-loop μ-loop
-loop-holds c = (omega arith, paging-none _ _ _ _ _ _)
+loop-holds c = (omega arith, paging-none _ _ _ _ _ _ _)
 
 widen-requires : tie.Need-widen-requires Inv-loop μ-loop
 widen-requires c κs = search needs
@@ -51,7 +51,7 @@ loop-less : tie.Need-loop-less Inv-loop μ-loop
 loop-less c = search needs
 
 loop-again : tie.Need-loop-again Inv-loop μ-loop
-loop-again c = (omega arith, paging-more _ _ _ _ _ _ _ _ _ _ _ (c .before .before .before .before .before .before .before .before .before .before .before .before .before .before .before .before .before .before .before .before .before .before .loop .inv .1) _ _ _ _ _ _ _ _ _ _ _ _ (c .before .before .before .before .before .before .before .before .before .before .before .before .before .before .before .before .before .before .before .before .before .loop-test .taken) (c .before .before .before .before .before .before .before .before .before .before .before .before .before .before .before .before .before .before .before .before .widen .ensures) (c .before .before .before .before .before .before .before .before .before .before .before .before .before .before .before .before .before .before .before .get .ensures) (c .before .before .before .before .before .before .before .before .before .before .before .before .before .before .before .before .before .before .widen2 .ensures) (c .before .before .before .before .before .before .before .before .before .before .before .before .before .before .before .before .before .get2 .ensures) (c .before .before .before .before .before .before .before .before .before .before .before .before .before .before .keep-pass .ensures) (c .before .before .before .before .before .before .before .before .keep-pass2 .ensures) (c .before .before .before .widen3 .ensures) (c .before .before .put .ensures))
+loop-again c = (omega arith, paging-more _ _ _ _ _ _ _ _ _ _ _ _ (c .before .before .before .before .before .before .before .before .before .before .before .before .before .before .before .before .before .before .before .before .before .before .loop .inv .1) _ _ _ _ _ _ _ _ _ _ _ _ (c .before .before .before .before .before .before .before .before .before .before .before .before .before .before .before .before .before .before .before .before .before .loop-test .taken) (c .before .before .before .before .before .before .before .before .before .before .before .before .before .before .before .before .before .before .before .before .widen .ensures) (c .before .before .before .before .before .before .before .before .before .before .before .before .before .before .before .before .before .before .before .get .ensures) (c .before .before .before .before .before .before .before .before .before .before .before .before .before .before .before .before .before .before .widen2 .ensures) (c .before .before .before .before .before .before .before .before .before .before .before .before .before .before .before .before .before .get2 .ensures) (c .before .before .before .before .before .before .before .before .before .before .before .before .before .before .keep-pass .ensures) (c .before .before .before .before .before .before .before .before .keep-pass2 .ensures) (c .before .before .before .widen3 .ensures) (c .before .before .put .ensures))
 
 same-length : tie.Need-same-length Inv-loop μ-loop
 same-length c = search needs
@@ -60,7 +60,7 @@ same-length-2 : tie.Need-same-length-2 Inv-loop μ-loop
 same-length-2 c = search needs
 
 returns : tie.Need-returns Inv-loop μ-loop
-returns c = paging-all _ _ _ _ _ _ _ _ _ _ _ (c .before .loop .inv .1) (c .before .loop .inv .0) (c .loop-test .left)
+returns c = paging-all _ _ _ _ _ _ _ _ _ _ _ _ (c .before .loop .inv .1) (c .before .loop .inv .0) (c .loop-test .left)
 
 pub keep-forms-spec : {M : Type 1} → statement M
 keep-forms-spec =

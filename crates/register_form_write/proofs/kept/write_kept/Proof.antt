@@ -13,7 +13,7 @@ keep-forms-requires : tie.Need-keep-forms-requires
 keep-forms-requires c κs = search needs
 
 returns : tie.Need-returns
-returns c = λ m nf. kept-many _ _ _ _ _ _ _ _ (zeros-fresh _) (c .before .before .before .keep-forms .ensures) (c .if1 .taken)
+returns c = λ m terms. kept-many _ _ _ _ _ _ _ _ (zeros-fresh _) (c .before .before .before .keep-forms .ensures) (c .if1 .taken)
 
 slice-aggregate-count-all : tie.Need-slice-aggregate-count-all
 slice-aggregate-count-all c = search needs
@@ -22,7 +22,7 @@ count-all-requires : tie.Need-count-all-requires
 count-all-requires c κs = search needs
 
 returns-2 : tie.Need-returns-2
-returns-2 c = λ m nf. kept-long _ _ _ _ _ _ _ _ (zeros-fresh _) (c .before .before .before .before .before .before .keep-forms .ensures) (c .before .before .before .if1 .left) _ (c .before .count-all .ensures) (c .if2 .taken)
+returns-2 c = λ m terms. kept-long _ _ _ _ _ _ _ _ (zeros-fresh _) (c .before .before .before .before .before .before .keep-forms .ensures) (c .before .before .before .if1 .left) _ (c .before .count-all .ensures) (c .if2 .taken)
 
 next-requires : tie.Need-next-requires
 next-requires c κs = search needs
@@ -40,7 +40,7 @@ same-length : tie.Need-same-length
 same-length c = search needs
 
 returns-3 : tie.Need-returns-3
-returns-3 c = λ m nf. kept-written _ _ _ _ _ _ _ _ (zeros-fresh _) (c .before .before .before .before .before .before .before .before .before .before .before .before .before .keep-forms .ensures) (c .before .before .before .before .before .before .before .before .before .before .if1 .left) _ (c .before .before .before .before .before .before .before .before .count-all .ensures) _ _ _ (c .before .before .before .before .before .before .before .if2 .left) (c .before .before .before .before .before .before .next .ensures) (c .before .before .write-fitting .ensures)
+returns-3 c = λ m terms. kept-written _ _ _ _ _ _ _ _ (zeros-fresh _) (c .before .before .before .before .before .before .before .before .before .before .before .before .before .keep-forms .ensures) (c .before .before .before .before .before .before .before .before .before .before .if1 .left) _ (c .before .before .before .before .before .before .before .before .count-all .ensures) _ _ _ (c .before .before .before .before .before .before .before .if2 .left) (c .before .before .before .before .before .before .next .ensures) (c .before .before .write-fitting .ensures)
 
 pub write-kept-spec : {M : Type 1} → statement M
 write-kept-spec =

@@ -27,9 +27,6 @@ put-forms-requires c κs = search needs
 same-length : tie.Need-same-length
 same-length c = search needs
 
-same-length-2 : tie.Need-same-length-2
-same-length-2 c = search needs
-
 returns-3 : tie.Need-returns-3
 returns-3 c = search (drafting, needs)
 
@@ -45,5 +42,4 @@ put-page-spec =
     form-end-requires
     put-forms-requires
     same-length
-    same-length-2
     returns-3)
