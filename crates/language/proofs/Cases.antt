@@ -12,6 +12,7 @@ use Rattle.language.specs.Answer.{Answer, refused, accepted, judge}
 use Rattle.language.specs.Register.{kindAmong, holds, leads}
 use Rattle.language.specs.RegisterText.{quoted, kindWordAt, propForm, pageForm, catForm, valForm, closing, nextEntry, entriesWithin, entriesFrom, someTwice, properties, valueOf, countOf, overLimits, addCategory, addHeld, filled, pagesOf, registerOf, readRegister}
 use Rattle.language.specs.Surface.{namesOf, propertiesOf}
+use Rattle.language.specs.Comparators.{firstTyped}
 use Rattle.language.specs.RawQuery.{token, comparator, pieceAt, headLength, splitDots, trimNames, piecesWithin, readPieces, plainBody, closedInner, closedGroup, closedBody, nextTerm, queryWithin, readQuery, readWhole}
 use Rattle.language.specs.QueryText.{namesIn, depth, longest, breaksNames, breaks, breaksValue, categoriesFrom, identifiersFrom, surface, readText}
 use Rattle.language.specs.Core.{nodes}
@@ -56,7 +57,7 @@ holdsTest c = answers (coreAnswer (c .query)) (marksAt 6 (c .places)) && answers
 
 -- The claim: every case holds, for the core semantics and for the direct meaning.
 pub claim : all holdsTest cases ≡ true
-unfolding holdsTest answers sameMarks coreAnswer directAnswer marksAt cases sampleText coreOf runText any all same orderOf numbers span trimEnd trim starts after isFree isQuotable isNameByte isValueByte isDigit isName isPropertyName isNamespace isValue reference decimal readDigits readNumber readBoolean readLink judge kindAmong holds leads quoted firstKind kindWordAt propForm pageForm catForm valForm closing nextEntry entriesWithin entriesFrom someTwice properties valueOf countOf overLimits addCategory addHeld filled pagesOf registerOf readRegister namesOf propertiesOf token comparator pieceAt headLength splitDots trimNames piecesWithin readPieces plainBody closedInner closedGroup closedBody nextTerm queryWithin readQuery readWhole namesIn depth longest breaksNames breaks breaksValue categoriesFrom identifiersFrom surface readText nodes compared elaborateReference elaborateIdentifiers elaborateCategories elaborateConstant elaborateValue inside joined along elaborate fit Ca Cv follows Q someOther mismatch run namespaceMeant meansReference meansIdentifiers meansCategories standsTo meansValue meansChain means meaning
+unfolding holdsTest answers sameMarks coreAnswer directAnswer marksAt cases sampleText coreOf runText any all same orderOf numbers span trimEnd trim starts after isFree isQuotable isNameByte isValueByte isDigit isName isPropertyName isNamespace isValue reference decimal readDigits readNumber readBoolean readLink judge kindAmong holds leads quoted firstKind kindWordAt propForm pageForm catForm valForm closing nextEntry entriesWithin entriesFrom someTwice properties valueOf countOf overLimits addCategory addHeld filled pagesOf registerOf readRegister namesOf propertiesOf token firstTyped comparator pieceAt headLength splitDots trimNames piecesWithin readPieces plainBody closedInner closedGroup closedBody nextTerm queryWithin readQuery readWhole namesIn depth longest breaksNames breaks breaksValue categoriesFrom identifiersFrom surface readText nodes compared elaborateReference elaborateIdentifiers elaborateCategories elaborateConstant elaborateValue inside joined along elaborate fit Ca Cv follows Q someOther mismatch run namespaceMeant meansReference meansIdentifiers meansCategories standsTo meansValue meansChain means meaning
 claim = refl
 
 -- The law that turns the claim into each entry.

@@ -12,11 +12,11 @@ use Rattle.text.specs.Class.{isFree}
 use Rattle.text.proofs.Laws.{starts-fits}
 use Rattle.values.specs.Values.{mapOption}
 use Rattle.language.specs.Answer.{_>>=_, found, onlyIf}
+use Rattle.language.specs.Comparators.{word, typed, firstTyped}
 use Rattle.language.specs.Surface.{Chain}
 use Rattle.language.specs.RawQuery.{Piece, RawQuery, RawAlternatives, token, comparator, pieceAt, endsHead, headLength, splitDots, trimNames, piecesWithin, readPieces, bracketOf, plainBody, closedInner, closedGroup, closedBody, nextTerm, queryWithin, orWithin, conjunctionWithin, andWithin, termWithin, bodyWithin, alternativesWithin, moreWithin, alternativeWithin, enough, readQuery, readOr, readConjunction, readAnd, readTerm, readBody, readAlternatives, readMore, readAlternative}
-use Rattle.language.specs.declared.SurfaceComparator.{SurfaceComparator}
 use Rattle.language.proofs.Options.{OnSome, on-bind, on-found, same-bind, same-found, on-weaker, settled}
-use Rattle.language.proofs.Shorter.{Less, NoMore, after-leaves, behind-leaves, of-found}
+use Rattle.language.proofs.Shorter.{Less, NoMore, after-leaves, behind-leaves}
 
 abbrev pub Behind : Bytes → Bytes → Type 0
 Behind s r = length r < length s
@@ -29,14 +29,7 @@ token-leaves w s h =
 
 pub comparator-leaves : (s : Bytes) → length (comparator s .1) ≤ length s
 unfolding comparator
-comparator-leaves s =
-    at (bytes ">>") SurfaceComparator.Greater _ (at (bytes ">") SurfaceComparator.AtLeast _ (at (bytes "<<") SurfaceComparator.Less _ (at (bytes "<") SurfaceComparator.AtMost _ (at (bytes "!") SurfaceComparator.Unequal _ (omega arith)))))
-  where
-    P : SurfaceComparator × Bytes → Type 0
-    P x = length (x .1) ≤ length s
-
-    at : (w : Bytes) (c : SurfaceComparator) (y : SurfaceComparator × Bytes) → P y → P (found (after w s) (λ r. (c, r)) y)
-    at w c y h = of-found P (after w s) (λ r. (c, r)) y (on-weaker _ (λ r. P (c, r)) (after w s) (after-leaves w s) (λ r l. omega arith)) h
+comparator-leaves s = omega (arith, length-drop (length (word (firstTyped typed s))) s)
 
 pub piece-leaves : (s : Bytes) → length (pieceAt s .1) ≤ length s
 unfolding pieceAt

@@ -3,6 +3,7 @@ pub mod Register
 pub mod RegisterText
 pub mod Rules
 pub mod Joining
+pub mod Comparators
 pub mod Surface
 pub mod RawQuery
 pub mod QueryText

@@ -7,20 +7,13 @@ use lib.ListN.{length}
 use Rattle.text.specs.Bytes.{Bytes, bytes, same, any}
 use Rattle.values.specs.Names.{Reference, bare, qualified, reference, isReference, isName, isPropertyName, isNamespace, isValue}
 use Rattle.language.specs.Answer.{Answer, refused, Check, _if_, judge, found}
+use Rattle.language.specs.Comparators.{isEqual}
 use Rattle.language.specs.Surface.{Chain, single, chain, Categories, Identifiers, Alternatives, Query}
 use Rattle.language.specs.RawQuery.{Piece, RawAlternatives, RawQuery, readWhole}
-use Rattle.language.specs.declared.SurfaceComparator.{SurfaceComparator}
 
 -- "Without such a `::`, if the first piece has no comparator and the trimmed text before its first colon is `Category`"
 abbrev pub isPlain : Piece → Bool
-isPlain p = elim (p .comparator) [
-  | SurfaceComparator.Equal ↦ true
-  | SurfaceComparator.Unequal ↦ false
-  | SurfaceComparator.Greater ↦ false
-  | SurfaceComparator.Less ↦ false
-  | SurfaceComparator.AtLeast ↦ false
-  | SurfaceComparator.AtMost ↦ false
-]
+isPlain p = isEqual (p .comparator)
 
 abbrev pub isCategoryOf : Reference → Bool
 isCategoryOf (bare x) = false

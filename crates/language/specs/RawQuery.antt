@@ -9,6 +9,7 @@ use Rattle.text.specs.Bytes.{Bytes, bytes, all, isBlank, front, behind, trim, s
 use Rattle.text.specs.Class.{isFree}
 use Rattle.values.specs.Values.{mapOption}
 use Rattle.language.specs.Answer.{_>>=_, found, onlyIf}
+use Rattle.language.specs.Comparators.{word, typed, firstTyped}
 use Rattle.language.specs.Surface.{Chain, single, chain}
 use Rattle.language.specs.declared.SurfaceComparator.{SurfaceComparator}
 
@@ -35,14 +36,9 @@ mutual
 unfoldable pub token : Bytes → Bytes → Option Bytes
 token w s = after w (behind isBlank s)
 
--- "an optional comparator, the longest of `!`, `>`, `>>`, `<`, `<<`", and what is behind it. `>` means greater or equal.
+-- "an optional comparator, the longest of `!`, `>`, `>>`, `<`, `<<`", and what is behind it.
 unfoldable pub comparator : Bytes → SurfaceComparator × Bytes
-comparator s =
-    found (after (bytes ">>") s) (λ r. (SurfaceComparator.Greater, r))
-    (found (after (bytes ">") s) (λ r. (SurfaceComparator.AtLeast, r))
-    (found (after (bytes "<<") s) (λ r. (SurfaceComparator.Less, r))
-    (found (after (bytes "<") s) (λ r. (SurfaceComparator.AtMost, r))
-    (found (after (bytes "!") s) (λ r. (SurfaceComparator.Unequal, r)) (SurfaceComparator.Equal, s)))))
+comparator s = let c = firstTyped typed s in (c, drop (length (word c)) s)
 
 -- The piece at the front, "blanks before a comparator do not hide it", and what is behind it.
 unfoldable pub pieceAt : Bytes → Piece × Bytes

@@ -1,4 +1,12 @@
 // The comparators that reader, fitting and evaluation share.
+pub mod comparators; // comparators.rt: what differs from comparator to comparator
+
+pub use comparators::LAST_COMPARATOR;
+pub use comparators::comparator_at;
+pub use comparators::comparator_code;
+pub use comparators::comparator_from;
+pub use comparators::is_equal;
+pub use comparators::word_length;
 
 // Comparators of core queries (thesis 4.2.1).
 pub enum Comparator {

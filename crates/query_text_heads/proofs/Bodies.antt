@@ -19,6 +19,7 @@ use Rattle.values.specs.Names.{Reference, bare, qualified, isName, isPropertyNa
 use Rattle.values.specs.Answers.{splitOf}
 use Rattle.values.specs.declared.Split.{Split}
 use Rattle.language.specs.Answer.{_>>=_, found, onlyIf}
+use Rattle.language.specs.Comparators.{isEqual}
 use Rattle.language.specs.Surface.{Chain, single, chain, Categories, Identifiers, Alternatives}
 use Rattle.language.specs.RawQuery.{Piece, RawQuery, RawAlternatives, pieceAt, readPieces, bracketOf, plainBody}
 use Rattle.language.specs.QueryText.{namesIn, depth, depthIn, longest, longestIn, breaks, breaksIn, breaksValue, breaksValueIn, breaksNames, breaksCategory, breaksReference, isPlusOf, isCategory, isNamespacePiece, namespaceOf, articleOf, isExistence, categoriesFrom, identifiersFrom, identifierOf, surface, surfaceIn}
@@ -27,7 +28,7 @@ use Rattle.language.proofs.Options.{OnSome}
 use Rattle.language.proofs.Shorter.{after-leaves}
 use Rattle.language.proofs.Leaving.{piece-leaves}
 use Rattle.language.proofs.Readers.{pieces-eq}
-use Rattle.query_text_pieces.specs.Places.{from, restOf, headOf, pieceOf, tellsPiece, isBare, categoryTold, readTold}
+use Rattle.query_text_pieces.specs.Places.{from, restOf, headOf, pieceOf, tellsPiece, categoryTold, readTold}
 use Rattle.query_text_pieces.specs.declared.Found.{Found}
 use Rattle.query_text_pieces.specs.declared.First.{First}
 use Rattle.query_text_pieces.specs.declared.Placed.{Placed}
@@ -89,7 +90,7 @@ value-is s c text d t t′ n n′ r b v y x e f a g h k =
         (same-test 8 (max (d + 0) 0) 8 d (λ h. omega arith) (λ h. omega arith)) refl (rw (h, g))
 
 -- The node of a piece that is `namespace:+` or a reference, by how its reference is split.
-module _ (s : Bytes) (c : SurfaceComparator) (text : Span) (p : Split) (e : splitOf s p ≡ reference (partOf s text)) (b m : Bool) (y : Bytes) (f : b ≡ isBare c) (k : y ≡ partOf s (p .article)) (g : m ≡ same y (bytes "+")) where
+module _ (s : Bytes) (c : SurfaceComparator) (text : Span) (p : Split) (e : splitOf s p ≡ reference (partOf s text)) (b m : Bool) (y : Bytes) (f : b ≡ isEqual c) (k : y ≡ partOf s (p .article)) (g : m ≡ same y (bytes "+")) where
   node-split : cond (b && p .qualified && m) (Node.namespace (partOf s (p .namespace))) (Node.reference c (splitOf s p)) ≡ nodeOfPiece (pieceOf s c text)
   unfolding nodeOfPiece
   node-split = rw (← e, ← f) (go b (p .qualified))
@@ -176,7 +177,7 @@ pub category-is : (s : Bytes) (x : Span) (t t′ : Bytes) (n n′ r : Seen) (b m
 category-is s x t t′ n n′ r b m y a e f g = rw (← e, ← f) (rw (← e) at (after-noded t t′ n n′ r (Node.category (partOf s x)) false (not (b && m)) false a g))
 
 module _ (s : Bytes) (c : SurfaceComparator) (text : Span) (t t′ : Bytes) (n r : Seen) (cats : Bool) where
-  pub piece-category : (b : Bool) → cats ≡ true → b ≡ isBare c → After t n (noded (Node.category (partOf s text)) false (not (b && isName (partOf s text))) false) t′ r → After t n (pieceEffect cats (pieceOf s c text)) t′ r
+  pub piece-category : (b : Bool) → cats ≡ true → b ≡ isEqual c → After t n (noded (Node.category (partOf s text)) false (not (b && isName (partOf s text))) false) t′ r → After t n (pieceEffect cats (pieceOf s c text)) t′ r
   unfolding pieceEffect
   piece-category b e f a = rw (e, ← f) a
 

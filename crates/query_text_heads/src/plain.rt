@@ -15,12 +15,12 @@ use crate::Seen;
 use crate::adding::add;
 use crate::adding::flag;
 use language::SurfaceComparator;
+use language::is_equal;
 use query_text_pieces::First;
 use query_text_pieces::Found;
 use query_text_pieces::Read;
 use query_text_pieces::after;
 use query_text_pieces::category_of;
-use query_text_pieces::is_bare;
 use query_text_pieces::is_existence;
 use query_text_pieces::piece_at;
 use query_text_pieces::read_piece;
@@ -111,7 +111,7 @@ fn identifier_node(s: &[u8], c: SurfaceComparator, text: Span) -> TreeNode
     let n = split.namespace;
     let a = split.article;
     let qualified = split.qualified;
-    let plus = is_bare(c) & qualified & same_bytes(part(s, a.start, a.len), b"+");
+    let plus = is_equal(c) & qualified & same_bytes(part(s, a.start, a.len), b"+");
     if plus {
         return TreeNode::Namespace(n);
     }
@@ -177,7 +177,7 @@ fn piece(
     ensures { λ r. ⌜ After (now (tree .entry)) seen (pieceEffect categories (pieceOf (now (s .entry)) c text)) (now (tree .exit)) r ⌝ }
 {
     if categories {
-        category(s, is_bare(c), text, tree, seen)
+        category(s, is_equal(c), text, tree, seen)
     } else {
         identifier(s, c, text, tree, seen)
     }

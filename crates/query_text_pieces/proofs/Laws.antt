@@ -19,13 +19,14 @@ use Rattle.values.specs.Values.{mapOption}
 use Rattle.values.specs.Answers.{splitOf, Splits}
 use Rattle.values.specs.declared.Split.{Split}
 use Rattle.language.specs.Answer.{found, onlyIf}
+use Rattle.language.specs.Comparators.{word, typed, firstTyped, isEqual}
 use Rattle.language.specs.Surface.{Chain, single, chain}
 use Rattle.language.specs.RawQuery.{Piece, token, nextTerm, comparator, pieceAt, endsHead, headLength, prefixed, splitDots, trimNames}
-use Rattle.language.specs.QueryText.{isPlain, isCategory, isCategoryOf, articleOf, isExistence, isNamespacePiece, isPlusOf, namespaceOf, breaksReference, identifierOf}
+use Rattle.language.specs.QueryText.{isCategory, isCategoryOf, articleOf, isExistence, isNamespacePiece, isPlusOf, namespaceOf, breaksReference, identifierOf}
 use Rattle.language.specs.declared.SurfaceComparator.{SurfaceComparator}
-use Rattle.query_text_pieces.specs.Places.{from, textAt, restOf, innerEnd, placeOf, headAt, headOf, lastOf, pieceOf, tellsPiece, isBare, SplitsAt, categoryTold, readTold}
+use Rattle.language.proofs.AllComparators.{typed-fits}
+use Rattle.query_text_pieces.specs.Places.{from, textAt, restOf, innerEnd, placeOf, headAt, headOf, lastOf, pieceOf, tellsPiece, SplitsAt, categoryTold, readTold}
 use Rattle.query_text_pieces.specs.declared.Found.{Found}
-use Rattle.query_text_pieces.specs.declared.Compared.{Compared}
 use Rattle.query_text_pieces.specs.declared.First.{First}
 use Rattle.query_text_pieces.specs.declared.Read.{Read}
 
@@ -89,45 +90,22 @@ module _ (s : Bytes) (at : ℕ) (a : Found) (p : restOf s a ≡ token (bytes "</
   unfolding innerEnd restOf
   inner-no g = rw (← p, g)
 
--- The comparator at a place.
-module _ (s : Bytes) (at i : ℕ) where
-  module _ (a : Found) (p : restOf s a ≡ after (bytes ">>") (from s at)) where
-    pub way-greater : a ≡ Found.At i → comparator (from s at) ≡ (SurfaceComparator.Greater, from s i)
-    unfolding comparator restOf
-    way-greater g = rw (← p, g)
-
-    module _ (n : a ≡ Found.Nothing) (b : Found) (q : restOf s b ≡ after (bytes ">") (from s at)) where
-      pub way-at-least : b ≡ Found.At i → comparator (from s at) ≡ (SurfaceComparator.AtLeast, from s i)
-      unfolding comparator restOf
-      way-at-least g = rw (← p, n, ← q, g)
-
-      module _ (n′ : b ≡ Found.Nothing) (c : Found) (q′ : restOf s c ≡ after (bytes "<<") (from s at)) where
-        pub way-less : c ≡ Found.At i → comparator (from s at) ≡ (SurfaceComparator.Less, from s i)
-        unfolding comparator restOf
-        way-less g = rw (← p, n, ← q, n′, ← q′, g)
-
-        module _ (n″ : c ≡ Found.Nothing) (d : Found) (q″ : restOf s d ≡ after (bytes "<") (from s at)) where
-          pub way-at-most : d ≡ Found.At i → comparator (from s at) ≡ (SurfaceComparator.AtMost, from s i)
-          unfolding comparator restOf
-          way-at-most g = rw (← p, n, ← q, n′, ← q′, n″, ← q″, g)
-
-          module _ (n‴ : d ≡ Found.Nothing) (e : Found) (q‴ : restOf s e ≡ after (bytes "!") (from s at)) where
-            pub way-unequal : e ≡ Found.At i → comparator (from s at) ≡ (SurfaceComparator.Unequal, from s i)
-            unfolding comparator restOf
-            way-unequal g = rw (← p, n, ← q, n′, ← q′, n″, ← q″, n‴, ← q‴, g)
-
-            pub way-equal : e ≡ Found.Nothing → comparator (from s at) ≡ (SurfaceComparator.Equal, from s at)
-            unfolding comparator restOf
-            way-equal g = rw (← p, n, ← q, n′, ← q′, n″, ← q″, n‴, ← q‴, g)
-
-pub ruleset ways = (token-is, inner-yes, inner-no, next-and, next-bracket, next-group, next-none, way-greater, way-at-least, way-less, way-at-most, way-unequal, way-equal)
+pub ruleset ways = (token-is, inner-yes, inner-no, next-and, next-bracket, next-group, next-none)
 
 -- A piece.
-pub piece-is : (s : Bytes) (at i end : ℕ) (c : Compared) (t : Span) → i ≡ at + span isBlank (drop at s) → comparator (from s i) ≡ (c .comparator, from s (c .next)) → end ≡ c .next + span isFree (drop (c .next) s) → Trimmed s (c .next) (end - c .next) t → pieceAt (from s at) ≡ tellsPiece s (record { comparator = c .comparator; text = t; next = end })
-unfolding pieceAt tellsPiece from
-piece-is s at i end c t e p q h =
-    let k : end - c .next ≡ span isFree (drop (c .next) s) = omega arith in
-    rw (drop-drop (span isBlank (drop at s)) at s, ← e, p, h .is, k, q, drop-drop)
+module _ (s : Bytes) (i n : ℕ) (c : SurfaceComparator) (e : c ≡ firstTyped typed (drop i s)) (f : n ≡ length (word c)) where
+  pub comparator-ends : n ≤ length s - i
+  comparator-ends = omega (arith, f, ap (λ c. length (word c)) e, typed-fits typed (drop i s), length-drop i s)
+
+  comparator-is : comparator (drop i s) ≡ (c, drop (i + n) s)
+  unfolding comparator
+  comparator-is = rw (← e, ← f, drop-drop)
+
+  pub piece-is : (at end : ℕ) (t : Span) → i ≡ at + span isBlank (drop at s) → end ≡ i + n + span isFree (drop (i + n) s) → Trimmed s (i + n) (end - (i + n)) t → pieceAt (from s at) ≡ tellsPiece s (record { comparator = c; text = t; next = end })
+  unfolding pieceAt tellsPiece from
+  piece-is at end t p q h =
+      let k : end - (i + n) ≡ span isFree (drop (i + n) s) = omega arith in
+      rw (drop-drop (span isBlank (drop at s)) at s, ← p, comparator-is, h .is, k, q, drop-drop)
 
 -- The `::` of a property body.
 head-colon : (s : Bytes) → starts (bytes "::") s ≡ true → headLength s ≡ some 0
@@ -228,7 +206,7 @@ split-is s t text r e h =
       article = omega (arith, f .article);
     }
 
-module _ (s : Bytes) (c : SurfaceComparator) (text : Span) (r : Split) (b m : Bool) (e : splitOf s r ≡ reference (partOf s text)) (f : b ≡ isBare c) where
+module _ (s : Bytes) (c : SurfaceComparator) (text : Span) (r : Split) (b m : Bool) (e : splitOf s r ≡ reference (partOf s text)) (f : b ≡ isEqual c) where
   module _ (y : Bytes) (k : y ≡ partOf s (r .namespace)) (g : m ≡ same y (bytes "Category")) where
     test : isCategory (pieceOf s c text) ≡ (b && r .qualified && m)
     test = rw (← e, ← f) (go b (r .qualified))

@@ -15,7 +15,6 @@ use Rattle.values.specs.Answers.{splitOf}
 use Rattle.language.specs.Answer.{_>>=_}
 use Rattle.language.specs.Surface.{Chain, single, chain, Identifiers}
 use Rattle.language.specs.RawQuery.{Piece, token, headLength, splitDots, trimNames}
-use Rattle.language.specs.QueryText.{isPlain}
 use Rattle.language.specs.declared.SurfaceComparator.{SurfaceComparator}
 use Rattle.query_text_pieces.specs.declared.Found.{Found}
 use Rattle.query_text_pieces.specs.declared.Placed.{Placed}
@@ -63,10 +62,6 @@ pieceOf s c p = record { comparator = c; text = partOf s p }
 -- The piece that was placed, and what is behind it.
 unfoldable pub tellsPiece : Bytes → Placed → Piece × Bytes
 tellsPiece s p = (pieceOf s (p .comparator) (p .text), from s (p .next))
-
--- No comparator is written.
-abbrev pub isBare : SurfaceComparator → Bool
-isBare c = isPlain (record { comparator = c; text = [] })
 
 -- Where the two sides of the reference at p lie in a text: neither ends behind the part that p has.
 pub record SplitsAt (s : Bytes) (p : Span) (r : Split) : Type 0 where

@@ -6,16 +6,20 @@ ghost use Rattle.text.specs.Bytes.{after as afterWord};
 ghost use Rattle.text.specs.Parts.{partOf};
 ghost use Rattle.values.specs.Names.{reference};
 ghost use Rattle.language.specs.Answer.{onlyIf};
-ghost use Rattle.language.specs.RawQuery.{token as tokenIn, comparator as comparatorIn, pieceAt, endsHead, nextTerm};
+ghost use Rattle.language.specs.RawQuery.{token as tokenIn, pieceAt, endsHead, nextTerm};
 ghost use Rattle.language.specs.QueryText.{isCategory, articleOf, isExistence, breaksReference, identifierOf};
-ghost use Rattle.query_text_pieces.specs.Places.{from, textAt, restOf, innerEnd, placeOf, headAt, headOf, lastOf, isBare, pieceOf, tellsPiece, SplitsAt, categoryTold, readTold};
+ghost use Rattle.query_text_pieces.specs.Places.{from, textAt, restOf, innerEnd, placeOf, headAt, headOf, lastOf, pieceOf, tellsPiece, SplitsAt, categoryTold, readTold};
 use language::SurfaceComparator;
+use language::comparator_at;
+use language::is_equal;
+use language::word_length;
 use text::Class;
 use text::Span;
 use text::part;
 use text::same_bytes;
 use text::scan;
 use text::trimmed;
+use text::widen;
 use text::word_at;
 use values::Split;
 use values::is_namespace;
@@ -26,12 +30,6 @@ use values::split_reference;
 pub enum Found {
     At(usize),
     Nothing,
-}
-
-// A comparator, and the place behind it.
-pub struct Compared {
-    pub comparator: SurfaceComparator,
-    pub next: usize,
 }
 
 // A piece: its comparator, where its text lies, and the place behind it.
@@ -122,55 +120,15 @@ pub fn head_end(s: &[u8], at: usize) -> Found
     Found::Nothing
 }
 
-// The comparator at a place: the longest that stands there.
-fn comparator_at(s: &[u8], at: usize) -> Compared
-    ensures { λ r. ⌜ comparatorIn (from (now (s .entry)) at) ≡ (r .comparator, from (now (s .entry)) (r .next)) ⌝ }
-{
-    match after(s, at, b">>") {
-        Found::At(next) => Compared {
-            comparator: SurfaceComparator::Greater,
-            next,
-        },
-        Found::Nothing => match after(s, at, b">") {
-            Found::At(next) => Compared {
-                comparator: SurfaceComparator::AtLeast,
-                next,
-            },
-            Found::Nothing => match after(s, at, b"<<") {
-                Found::At(next) => Compared {
-                    comparator: SurfaceComparator::Less,
-                    next,
-                },
-                Found::Nothing => match after(s, at, b"<") {
-                    Found::At(next) => Compared {
-                        comparator: SurfaceComparator::AtMost,
-                        next,
-                    },
-                    Found::Nothing => match after(s, at, b"!") {
-                        Found::At(next) => Compared {
-                            comparator: SurfaceComparator::Unequal,
-                            next,
-                        },
-                        Found::Nothing => Compared {
-                            comparator: SurfaceComparator::Equal,
-                            next: at,
-                        },
-                    },
-                },
-            },
-        },
-    }
-}
-
 // The piece at a place.
 pub fn piece_at(s: &[u8], at: usize) -> Placed
     ensures { λ r. ⌜ pieceAt (from (now (s .entry)) at) ≡ tellsPiece (now (s .entry)) r ⌝ }
 {
-    let c = comparator_at(s, scan(s, at, Class::Blank));
-    let start = c.next;
+    let begin = scan(s, at, Class::Blank);
+    let comparator = comparator_at(s, begin);
+    let start = begin + widen(word_length(comparator));
     let end = scan(s, start, Class::Free);
     let text = trimmed(s, start, end - start);
-    let comparator = c.comparator;
     Placed {
         comparator,
         text,
@@ -191,25 +149,11 @@ pub fn last_name(s: &[u8], at: usize, len: usize) -> Span
     }
 }
 
-// Whether no comparator is written.
-pub fn is_bare(c: SurfaceComparator) -> bool
-    ensures { λ r. ⌜ r ≡ isBare c ⌝ }
-{
-    match c {
-        SurfaceComparator::Equal => true,
-        SurfaceComparator::Unequal => false,
-        SurfaceComparator::Greater => false,
-        SurfaceComparator::Less => false,
-        SurfaceComparator::AtLeast => false,
-        SurfaceComparator::AtMost => false,
-    }
-}
-
 // Whether a property piece is exactly `+`.
 pub fn is_existence(s: &[u8], c: SurfaceComparator, text: Span) -> bool
     ensures { λ r. ⌜ r ≡ isExistence (pieceOf (now (s .entry)) c text) ⌝ }
 {
-    is_bare(c) & same_bytes(part(s, text.start, text.len), b"+")
+    is_equal(c) & same_bytes(part(s, text.start, text.len), b"+")
 }
 
 // Where the two sides of a piece's reference lie.
@@ -243,7 +187,7 @@ pub fn category_of(s: &[u8], c: SurfaceComparator, text: Span) -> First
     let split = split_at(s, text);
     let n = split.namespace;
     let article = split.article;
-    let yes = is_bare(c) & split.qualified & same_bytes(part(s, n.start, n.len), b"Category");
+    let yes = is_equal(c) & split.qualified & same_bytes(part(s, n.start, n.len), b"Category");
     if yes {
         First::Category(article)
     } else {
@@ -259,7 +203,7 @@ pub fn read_piece(s: &[u8], c: SurfaceComparator, text: Span) -> Read
     let split = split_at(s, text);
     let n = split.namespace;
     let a = split.article;
-    let plus = is_bare(c) & split.qualified & same_bytes(part(s, a.start, a.len), b"+");
+    let plus = is_equal(c) & split.qualified & same_bytes(part(s, a.start, a.len), b"+");
     if plus {
         if is_namespace(part(s, n.start, n.len)) {
             return Read::Namespace(n);

@@ -11,28 +11,20 @@ use Rattle.text.specs.Bytes.{Bytes, part}
 use Rattle.buffer.proofs.Parts.{length-part, part-add}
 use Rattle.values.specs.Names.{bare}
 use Rattle.language.proofs.Members.{and-true}
+use Rattle.language.specs.Comparators.{comparatorFrom, lastComparator}
+use Rattle.language.proofs.EachComparator.{comparator-told}
 use Rattle.query_tree.specs.Nodes.{Node, stringOf}
 use Rattle.query_tree.specs.declared.Row.{Row}
-use Rattle.query_tree.specs.Form.{rowOf, comparatorCode, rowAt, comparatorFrom, nodeFrom}
+use Rattle.query_tree.specs.Form.{rowOf, rowAt, nodeFrom}
 use Rattle.query_tree.specs.Testing.{usesComparator, usesFirst, usesSecond, numberFits, rowFits}
 
 -- What a row that fits tells.
 record Fitting (at t c n a b : ℕ) : Type 0 where
-  comparator : c ≤ cond (usesComparator t) 5 0
+  comparator : c ≤ cond (usesComparator t) lastComparator 0
   number : numberFits t at n ≡ true
   first : usesFirst t || eqb a 0 ≡ true
   second : usesSecond t || eqb b 0 ≡ true
   room : at + a + b ≤ 1024
-
-code-back : (c : ℕ) → c ≤ 5 → comparatorCode (comparatorFrom c) ≡ c
-unfolding comparatorFrom
-code-back zero h = refl
-code-back (suc zero) h = refl
-code-back (suc (suc zero)) h = refl
-code-back (suc (suc (suc zero))) h = refl
-code-back (suc (suc (suc (suc zero)))) h = refl
-code-back (suc (suc (suc (suc (suc zero))))) h = refl
-code-back (suc (suc (suc (suc (suc (suc c)))))) h = absurd (omega (arith, h))
 
 -- A node's row and string, by the row that it was read from.
 pub record Same (s : Bytes) (at : ℕ) (r : Row) : Type 0 where
@@ -71,10 +63,10 @@ module _ (s : Bytes) (long : length s ≡ 1024) (at : ℕ) where
   fitting-same (suc (suc zero)) c n a b l f = rw (below (f .comparator), eqb-true a 0 (f .first), eqb-true b 0 (f .second)) (alone 2 n (Node.bar n) refl refl refl (omega (arith, f .room)))
   fitting-same (suc (suc (suc zero))) c n a b l f = let i = eqb-true a 0 (f .first) in rw (below (f .comparator), eqb-true n at (f .number), i) (with-second 3 0 b Node.category refl (λ y. refl) (λ y. refl) (omega (arith, f .room, i)))
   fitting-same (suc (suc (suc (suc zero)))) c n a b l f = let i = eqb-true b 0 (f .second) in rw (below (f .comparator), eqb-true n at (f .number), i) (record { row = ap (λ (k : ℕ). rowOf 4 0 at k 0) (length-part s at a (omega (arith, f .room, long))); string = first-part a; room = omega (arith, f .room, i) })
-  fitting-same (suc (suc (suc (suc (suc zero))))) c n a b l f = let i = eqb-true a 0 (f .first) in rw (eqb-true n at (f .number), i) (with-second 5 c b (λ y. Node.reference (comparatorFrom c) (bare y)) refl (λ y. ap (λ (k : ℕ). rowOf 5 k at 0 (length y)) (code-back c (f .comparator))) (λ y. refl) (omega (arith, f .room, i)))
-  fitting-same (suc (suc (suc (suc (suc (suc zero)))))) c n a b l f = rw (eqb-true n at (f .number)) (record { row = rw (code-back c (f .comparator), length-part s at a (omega (arith, f .room, long)), length-part s (at + a) b (omega (arith, f .room, long))); string = sym (part-add s at a b); room = f .room })
+  fitting-same (suc (suc (suc (suc (suc zero))))) c n a b l f = let i = eqb-true a 0 (f .first) in rw (eqb-true n at (f .number), i) (with-second 5 c b (λ y. Node.reference (comparatorFrom c) (bare y)) refl (λ y. ap (λ (k : ℕ). rowOf 5 k at 0 (length y)) (comparator-told c (f .comparator))) (λ y. refl) (omega (arith, f .room, i)))
+  fitting-same (suc (suc (suc (suc (suc (suc zero)))))) c n a b l f = rw (eqb-true n at (f .number)) (record { row = rw (comparator-told c (f .comparator), length-part s at a (omega (arith, f .room, long)), length-part s (at + a) b (omega (arith, f .room, long))); string = sym (part-add s at a b); room = f .room })
   fitting-same (suc (suc (suc (suc (suc (suc (suc zero))))))) c n a b l f = rw (below (f .comparator), eqb-true n 0 (f .number), eqb-true a 0 (f .first), eqb-true b 0 (f .second)) (alone 7 0 Node.existence refl refl refl (omega (arith, f .room)))
-  fitting-same (suc (suc (suc (suc (suc (suc (suc (suc zero)))))))) c n a b l f = let i = eqb-true a 0 (f .first) in rw (eqb-true n at (f .number), i) (with-second 8 c b (λ y. Node.value (comparatorFrom c) y) refl (λ y. ap (λ (k : ℕ). rowOf 8 k at 0 (length y)) (code-back c (f .comparator))) (λ y. refl) (omega (arith, f .room, i)))
+  fitting-same (suc (suc (suc (suc (suc (suc (suc (suc zero)))))))) c n a b l f = let i = eqb-true a 0 (f .first) in rw (eqb-true n at (f .number), i) (with-second 8 c b (λ y. Node.value (comparatorFrom c) y) refl (λ y. ap (λ (k : ℕ). rowOf 8 k at 0 (length y)) (comparator-told c (f .comparator))) (λ y. refl) (omega (arith, f .room, i)))
   fitting-same (suc (suc (suc (suc (suc (suc (suc (suc (suc zero))))))))) c n a b l f = rw (below (f .comparator), eqb-true n 0 (f .number), eqb-true a 0 (f .first), eqb-true b 0 (f .second)) (alone 9 0 Node.subquery refl refl refl (omega (arith, f .room)))
   fitting-same (suc (suc (suc (suc (suc (suc (suc (suc (suc (suc zero)))))))))) c n a b l f = let i = eqb-true a 0 (f .first) in rw (below (f .comparator), eqb-true n at (f .number), i) (with-second 10 0 b Node.property refl (λ y. refl) (λ y. refl) (omega (arith, f .room, i)))
   fitting-same (suc (suc (suc (suc (suc (suc (suc (suc (suc (suc (suc zero))))))))))) c n a b l f = let i = eqb-true a 0 (f .first) in rw (below (f .comparator), eqb-true n at (f .number), i) (with-second 11 0 b Node.link refl (λ y. refl) (λ y. refl) (omega (arith, f .room, i)))
@@ -87,6 +79,6 @@ module _ (s : Bytes) (long : length s ≡ 1024) (at : ℕ) where
       let d = and-true _ (usesSecond (r .tag) || eqb (r .second) 0) (e .0) in
       let k = and-true _ (usesFirst (r .tag) || eqb (r .first) 0) (d .0) in
       let n = and-true _ (numberFits (r .tag) at (r .number)) (k .0) in
-      let c = and-true (leb (r .tag) 11) (leb (r .comparator) (cond (usesComparator (r .tag)) 5 0)) (n .0) in
+      let c = and-true (leb (r .tag) 11) (leb (r .comparator) (cond (usesComparator (r .tag)) lastComparator 0)) (n .0) in
       fitting-same (r .tag) (r .comparator) (r .number) (r .first) (r .second) (leb-true (r .tag) 11 (c .0))
       (record { comparator = leb-true (r .comparator) _ (c .1); number = n .1; first = k .1; second = d .1; room = leb-true _ 1024 (e .1) })

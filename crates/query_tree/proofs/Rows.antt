@@ -20,9 +20,10 @@ use Rattle.buffer.proofs.Regions.{part-region}
 use Rattle.values.specs.Names.{Reference, bare, qualified}
 use Rattle.language.proofs.Members.{and-true}
 use Rattle.language.specs.declared.SurfaceComparator.{SurfaceComparator}
+use Rattle.language.proofs.EachComparator.{comparator-coded}
 use Rattle.query_tree.specs.Nodes.{Node, stringOf, strings}
 use Rattle.query_tree.specs.declared.Row.{Row}
-use Rattle.query_tree.specs.Form.{rowOf, comparatorCode, referenceRow, rowAt, rowBytes, rowsFrom, comparatorFrom, nodeFrom, rowIn, nodeIn, nodesIn, stringsIn}
+use Rattle.query_tree.specs.Form.{rowOf, referenceRow, rowAt, rowBytes, rowsFrom, nodeFrom, rowIn, nodeIn, nodesIn, stringsIn}
 use Rattle.query_tree.proofs.Counts.{strings-append}
 use Rattle.query_tree.proofs.Small.{isShort, isSmall, AllSmall}
 
@@ -55,15 +56,6 @@ row-read h i r b e =
     byte k at l z = ap (λ (n : ℕ). getD h n 0) z ∙ sym (getD-part h (2 + 6 * i) 6 k l) ∙ ap (λ (s : Bytes). getD s k 0) e
 
 -- A node from its row and its string.
-comparator-back : (c : SurfaceComparator) → comparatorFrom (comparatorCode c) ≡ c
-unfolding comparatorFrom
-comparator-back SurfaceComparator.Equal = refl
-comparator-back SurfaceComparator.Unequal = refl
-comparator-back SurfaceComparator.Greater = refl
-comparator-back SurfaceComparator.Less = refl
-comparator-back SurfaceComparator.AtLeast = refl
-comparator-back SurfaceComparator.AtMost = refl
-
 module _ (s : Bytes) (at : ℕ) where
   behind-none : (x : Bytes) → part s at (length x) ≡ x → part s (at + 0) (length x) ≡ x
   behind-none x e = ap (λ (n : ℕ). part s n (length x)) (add-zero at) ∙ e
@@ -87,10 +79,10 @@ module _ (s : Bytes) (at : ℕ) where
   node-back (Node.bar n) e = refl
   node-back (Node.category x) e = ap Node.category (behind-none x e)
   node-back (Node.namespace n) e = ap Node.namespace e
-  node-back (Node.reference c (bare x)) e = ap₂ (λ (d : SurfaceComparator) (y : Bytes). Node.reference d (bare y)) (comparator-back c) (behind-none x e)
-  node-back (Node.reference c (qualified n x)) e = rw (comparator-back c, first-of n x e, second-of n x e)
+  node-back (Node.reference c (bare x)) e = ap₂ (λ (d : SurfaceComparator) (y : Bytes). Node.reference d (bare y)) (comparator-coded c) (behind-none x e)
+  node-back (Node.reference c (qualified n x)) e = rw (comparator-coded c, first-of n x e, second-of n x e)
   node-back Node.existence e = refl
-  node-back (Node.value c v) e = ap₂ Node.value (comparator-back c) (behind-none v e)
+  node-back (Node.value c v) e = ap₂ Node.value (comparator-coded c) (behind-none v e)
   node-back Node.subquery e = refl
   node-back (Node.property x) e = ap Node.property (behind-none x e)
   node-back (Node.link x) e = ap Node.link (behind-none x e)

@@ -8,6 +8,7 @@ use Rattle.text.specs.Class.{isFree, isNameByte, isValueByte}
 use Rattle.values.specs.Names.{Reference, bare, qualified, isName, isPropertyName, isNamespace, isValue, reference}
 use Rattle.language.specs.Answer.{Answer, refused, accepted, judge}
 use Rattle.language.specs.Surface.{Query}
+use Rattle.language.specs.Comparators.{firstTyped}
 use Rattle.language.specs.RawQuery.{token, comparator, pieceAt, headLength, splitDots, trimNames, piecesWithin, readPieces, plainBody, closedInner, closedGroup, closedBody, nextTerm, queryWithin, readQuery, readWhole}
 use Rattle.language.specs.QueryText.{namesIn, depth, longest, breaksNames, breaks, breaksValue, categoriesFrom, identifiersFrom, surface, readText}
 use Rattle.language.specs.declared.SurfaceComparator.{SurfaceComparator}
@@ -40,7 +41,7 @@ abbrev Each : Type 0
 Each = all (λ p. spelledAs (readText (p .0)) (p .1)) texts ≡ true
 
 pub spelled : Each
-unfolding any all same span trimEnd trim starts after isFree isNameByte isValueByte isName isPropertyName isNamespace isValue reference judge token comparator pieceAt headLength splitDots trimNames piecesWithin readPieces plainBody closedInner closedGroup closedBody nextTerm queryWithin readQuery readWhole namesIn depth longest breaksNames breaks breaksValue categoriesFrom identifiersFrom surface readText spelledCategories spelledIdentifiers readsAsCategory spelledValue spelledChain isSpelled costCategories costReference costIdentifiers costChain cost deep hasText plain compared referenceText rawCategories rawIdentifiers raw unreadPiece unreadPieces unreadChain unread spell treeCategories treeIdentifiers treeChain tree leafItem subqueryItem propertyItem linkItem barItem orItem andItem itemRun isTree
+unfolding any all same span trimEnd trim starts after isFree isNameByte isValueByte isName isPropertyName isNamespace isValue reference judge token firstTyped comparator pieceAt headLength splitDots trimNames piecesWithin readPieces plainBody closedInner closedGroup closedBody nextTerm queryWithin readQuery readWhole namesIn depth longest breaksNames breaks breaksValue categoriesFrom identifiersFrom surface readText spelledCategories spelledIdentifiers readsAsCategory spelledValue spelledChain isSpelled costCategories costReference costIdentifiers costChain cost deep hasText plain compared referenceText rawCategories rawIdentifiers raw unreadPiece unreadPieces unreadChain unread spell treeCategories treeIdentifiers treeChain tree leafItem subqueryItem propertyItem linkItem barItem orItem andItem itemRun isTree
 spelled = refl
 
 -- No tree: nothing; alternatives without a property; a `||` on its right; two shapes; a count that is wrong; `Category:x` that would be

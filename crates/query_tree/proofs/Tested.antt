@@ -20,9 +20,10 @@ use Rattle.buffer.proofs.Regions.{region, zeros-region}
 use Rattle.values.specs.Names.{Reference, bare, qualified}
 use Rattle.language.proofs.Members.{and-true, both-true}
 use Rattle.language.specs.declared.SurfaceComparator.{SurfaceComparator}
+use Rattle.language.proofs.EachComparator.{comparator-few}
 use Rattle.query_tree.specs.Nodes.{Node, stringOf, strings}
 use Rattle.query_tree.specs.declared.Row.{Row}
-use Rattle.query_tree.specs.Form.{rowOf, comparatorCode, rowAt, rowBytes, rowsFrom, nodeBytes, nodeFrom, rowIn, nodeIn, nodesIn, nodeCount, stringsIn, treeSize}
+use Rattle.query_tree.specs.Form.{rowOf, rowAt, rowBytes, rowsFrom, nodeBytes, nodeFrom, rowIn, nodeIn, nodesIn, nodeCount, stringsIn, treeSize}
 use Rattle.query_tree.specs.Testing.{rowFits, stringAt, rowsFit, isExact}
 use Rattle.query_tree.proofs.Counts.{strings-append}
 use Rattle.query_tree.proofs.Rows.{length-rows, rows-append, Holds, Fits, texts-long, small-there, row-there}
@@ -98,14 +99,6 @@ row-lengths at Node.subquery = refl
 row-lengths at (Node.property x) = omega arith
 row-lengths at (Node.link x) = omega arith
 
-code-few : (c : SurfaceComparator) → leb (comparatorCode c) 5 ≡ true
-code-few SurfaceComparator.Equal = refl
-code-few SurfaceComparator.Unequal = refl
-code-few SurfaceComparator.Greater = refl
-code-few SurfaceComparator.Less = refl
-code-few SurfaceComparator.AtLeast = refl
-code-few SurfaceComparator.AtMost = refl
-
 row-fits : (at : ℕ) (x : Node) → at + length (stringOf x) ≤ 1024 → rowFits at (rowAt at x) ≡ true
 unfolding rowFits
 row-fits at x b = go x (le-leb (at + rowAt at x .first + rowAt at x .second) 1024 (omega (arith, b, row-lengths at x)))
@@ -119,10 +112,10 @@ row-fits at x b = go x (le-leb (at + rowAt at x .first + rowAt at x .second) 102
     go (Node.bar n) h = h
     go (Node.category x) h = rw (here, h)
     go (Node.namespace n) h = rw (here, h)
-    go (Node.reference c (bare x)) h = rw (code-few c, here, h)
-    go (Node.reference c (qualified n x)) h = rw (code-few c, here, h)
+    go (Node.reference c (bare x)) h = rw (comparator-few c, here, h)
+    go (Node.reference c (qualified n x)) h = rw (comparator-few c, here, h)
     go Node.existence h = h
-    go (Node.value c v) h = rw (code-few c, here, h)
+    go (Node.value c v) h = rw (comparator-few c, here, h)
     go Node.subquery h = h
     go (Node.property x) h = rw (here, h)
     go (Node.link x) h = rw (here, h)

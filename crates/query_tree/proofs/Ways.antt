@@ -11,10 +11,11 @@ use Rattle.text.specs.declared.Span.{Span}
 use Rattle.buffer.specs.Numbers.{twoAt}
 use Rattle.values.specs.Names.{bare, qualified}
 use Rattle.language.specs.declared.SurfaceComparator.{SurfaceComparator}
+use Rattle.language.specs.Comparators.{comparatorFrom}
 use Rattle.query_tree.specs.Nodes.{Node}
 use Rattle.query_tree.specs.declared.Row.{Row}
 use Rattle.query_tree.specs.declared.TreeNode.{TreeNode}
-use Rattle.query_tree.specs.Form.{rowOf, comparatorFrom, nodeFrom, rowIn}
+use Rattle.query_tree.specs.Form.{rowOf, nodeFrom, rowIn}
 use Rattle.query_tree.specs.Reading.{nodeBy}
 use Rattle.query_tree.proofs.Rows.{same-row}
 

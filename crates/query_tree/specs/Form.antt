@@ -10,6 +10,7 @@ use Rattle.text.specs.Table.{tabulate}
 use Rattle.buffer.specs.Numbers.{twoBytes, twoAt, padded}
 use Rattle.values.specs.Names.{Reference, bare, qualified}
 use Rattle.language.specs.Answer.{_>>=_, onlyIf}
+use Rattle.language.specs.Comparators.{comparatorCode, comparatorFrom}
 use Rattle.language.specs.Surface.{Query}
 use Rattle.language.specs.declared.SurfaceComparator.{SurfaceComparator}
 use Rattle.query_tree_spelling.specs.Spelled.{hasText}
@@ -19,14 +20,6 @@ use Rattle.query_tree.specs.declared.Row.{Row}
 
 abbrev pub treeSize : ℕ
 treeSize = 5112
-
-abbrev pub comparatorCode : SurfaceComparator → ℕ
-comparatorCode SurfaceComparator.Equal = 0
-comparatorCode SurfaceComparator.Unequal = 1
-comparatorCode SurfaceComparator.Greater = 2
-comparatorCode SurfaceComparator.Less = 3
-comparatorCode SurfaceComparator.AtLeast = 4
-comparatorCode SurfaceComparator.AtMost = 5
 
 -- A node in six bytes: a tag, a comparator, a number of two bytes (how many nodes the second of two has, or where a string begins), the
 -- lengths of a namespace and of a name or value.
@@ -67,15 +60,7 @@ nodeBytes l = twoBytes (length l) ++ (padded 4086 (rowsFrom 0 l) ++ padded 1024 
 unfoldable pub treeOf : Query → Bytes
 treeOf q = nodeBytes (tree q)
 
--- What bytes hold, whatever they are. A comparator above 5 is read as 5, a tag above 11 as 11.
-unfoldable pub comparatorFrom : ℕ → SurfaceComparator
-comparatorFrom c =
-    cond (eqb c 0) SurfaceComparator.Equal
-    (cond (eqb c 1) SurfaceComparator.Unequal
-    (cond (eqb c 2) SurfaceComparator.Greater
-    (cond (eqb c 3) SurfaceComparator.Less
-    (cond (eqb c 4) SurfaceComparator.AtLeast SurfaceComparator.AtMost))))
-
+-- What bytes hold, whatever they are. A tag above 11 is read as 11.
 module _ (s : Bytes) where
   -- The two strings of a row, in the bytes of all strings.
   abbrev pub firstString : Row → Bytes

@@ -9,10 +9,11 @@ use lib.Dec.{leb, eqb}
 use lib.ListN.{length}
 use Rattle.text.specs.Bytes.{Bytes, bytes, same}
 use Rattle.values.specs.Names.{Reference, isName, isPropertyName, isNamespace, isReference}
+use Rattle.language.specs.Comparators.{word, isEqual}
 use Rattle.language.specs.Answer.{_>>=_, found, onlyIf}
 use Rattle.language.specs.QueryText.{isCategoryOf}
 use Rattle.language.specs.declared.SurfaceComparator.{SurfaceComparator}
-use Rattle.query_tree_spelling.specs.Spelled.{word, isEqual, spelledValue, costReference, wrapped, under}
+use Rattle.query_tree_spelling.specs.Spelled.{spelledValue, costReference, wrapped, under}
 use Rattle.query_tree.specs.Nodes.{Node}
 use Rattle.query_tree.specs.declared.Shape.{Shape}
 use Rattle.query_tree.specs.declared.Item.{Item}

@@ -4,6 +4,7 @@ use mathlib.Core.Bool.{Bool, true, cond, _&&_, _||_}
 use lib.Dec.{eqb, leb, ltb}
 use Rattle.text.specs.Bytes.{Bytes}
 use Rattle.buffer.specs.Tests.{zerosAt}
+use Rattle.language.specs.Comparators.{lastComparator}
 use Rattle.query_tree.specs.declared.Row.{Row}
 use Rattle.query_tree.specs.Form.{rowIn, nodeCount}
 
@@ -27,7 +28,7 @@ numberFits t at n = ltb t 3 || eqb n (cond (usesNothing t) 0 at)
 -- The numbers of a row are those of its node, whose string begins at a place.
 abbrev pub numbersFit : ℕ → Row → Bool
 numbersFit at r =
-    leb (r .tag) 11 && leb (r .comparator) (cond (usesComparator (r .tag)) 5 0) && numberFits (r .tag) at (r .number)
+    leb (r .tag) 11 && leb (r .comparator) (cond (usesComparator (r .tag)) lastComparator 0) && numberFits (r .tag) at (r .number)
     && (usesFirst (r .tag) || eqb (r .first) 0) && (usesSecond (r .tag) || eqb (r .second) 0)
 
 -- A row is that of its node, whose string begins at a place and ends within 1,024 bytes.

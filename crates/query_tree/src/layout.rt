@@ -37,16 +37,3 @@ pub const SUBQUERY: u8 = 9;
 pub const PROPERTY: u8 = 10;
 
 pub const LINK: u8 = 11;
-
-// The codes of comparators.
-pub const EQUAL: u8 = 0;
-
-pub const UNEQUAL: u8 = 1;
-
-pub const GREATER: u8 = 2;
-
-pub const LESS: u8 = 3;
-
-pub const AT_LEAST: u8 = 4;
-
-pub const AT_MOST: u8 = 5;

@@ -1,30 +1,16 @@
 // Nodes from their bytes.
 ghost use mathlib.Core.Path.{_≡_};
 ghost use Rattle.text.specs.Bytes.{Bytes};
-ghost use Rattle.query_tree.specs.Form.{comparatorFrom, nodeFrom, rowIn, stringsIn, nodeIn};
+ghost use Rattle.query_tree.specs.Form.{nodeFrom, rowIn, stringsIn, nodeIn};
 ghost use Rattle.query_tree.specs.Reading.{nodeBy};
 use crate::Row;
 use crate::TreeNode;
 use crate::layout;
 use buffer::two_at;
-use language::SurfaceComparator;
+use language::comparator_from;
 use text::Span;
 use text::byte_at;
 use text::widen;
-
-// The comparator of a code.
-fn comparator_from(code: u8) -> SurfaceComparator
-    ensures { λ r. ⌜ r ≡ comparatorFrom code ⌝ }
-{
-    match code {
-        layout::EQUAL => SurfaceComparator::Equal,
-        layout::UNEQUAL => SurfaceComparator::Unequal,
-        layout::GREATER => SurfaceComparator::Greater,
-        layout::LESS => SurfaceComparator::Less,
-        layout::AT_LEAST => SurfaceComparator::AtLeast,
-        _ => SurfaceComparator::AtMost,
-    }
-}
 
 // The node of a row.
 fn node_from(row: Row) -> TreeNode

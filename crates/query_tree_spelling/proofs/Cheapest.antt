@@ -14,13 +14,14 @@ use Rattle.text.proofs.Laws.{same-eq}
 use Rattle.text.proofs.Trim.{trim-le}
 use Rattle.values.specs.Names.{Reference, bare, qualified, reference, isReference, isName, isNamespace, isValue, first}
 use Rattle.language.specs.Answer.{Answer, refused, accepted, judge, found}
+use Rattle.language.specs.Comparators.{word, isEqual}
 use Rattle.language.specs.Surface.{Chain, single, chain, Categories, Identifiers, Alternatives, Query}
 use Rattle.language.specs.RawQuery.{Piece, RawQuery, RawAlternatives, readWhole}
 use Rattle.language.specs.QueryText.{isPlain, isCategory, isCategoryOf, articleOf, isPlusOf, isNamespacePiece, namespaceOf, isExistence, namesIn, depthIn, depth, longestIn, longest, breaksNames, breaksCategory, breaksReference, breaksPieces, breaksIn, breaks, breaksValueIn, breaksValue, categoriesFrom, identifierOf, identifiersFrom, piecesQuery, surfaceIn, surface, checks, readText}
 use Rattle.language.proofs.Members.{and-true, or-false, both-true, both-false}
 use Rattle.language.proofs.Options.{OnSome}
 use Rattle.language.specs.declared.SurfaceComparator.{SurfaceComparator}
-use Rattle.query_tree_spelling.specs.Spelled.{word, isEqual, isOneCategory, isOneIdentifier, isOneAlternative, isDisjunction, isJoined, spelledCategories, spelledIdentifiers, readsAsCategory, spelledValue, spelledChain, spelledIn, isSpelled, costCategories, costReference, costIdentifiers, costChain, wrapped, under, costIn, cost, deepIn, deep, hasText}
+use Rattle.query_tree_spelling.specs.Spelled.{isOneCategory, isOneIdentifier, isOneAlternative, isDisjunction, isJoined, spelledCategories, spelledIdentifiers, readsAsCategory, spelledValue, spelledChain, spelledIn, isSpelled, costCategories, costReference, costIdentifiers, costChain, wrapped, under, costIn, cost, deepIn, deep, hasText}
 use Rattle.query_tree_spelling.proofs.Texts.{not-not}
 use Rattle.query_tree_spelling.proofs.Reading.{isRawDisjunction, isRawJoined, isRawEither}
 use Rattle.query_tree_spelling.proofs.Spells.{sizePiece, sizePieces}
@@ -45,17 +46,6 @@ reference-takes t = go (ltb k (length t)) refl
     go : (b : Bool) → ltb k (length t) ≡ b → costReference (cond b (qualified (trim (take k t)) (trim (drop (suc k) t))) (bare (trim t))) ≤ length t
     go true e = omega (arith, ltb-true k (length t) e, trim-le (take k t), trim-le (drop (suc k) t), length-take k t, length-drop (suc k) t)
     go false e = trim-le t
-
-plain-is : (p : Piece) → isPlain p ≡ isEqual (p .comparator)
-plain-is p = go (p .comparator)
-  where
-    go : (c : SurfaceComparator) → isPlain (record { comparator = c; text = p .text }) ≡ isEqual c
-    go SurfaceComparator.Equal = refl
-    go SurfaceComparator.Unequal = refl
-    go SurfaceComparator.Greater = refl
-    go SurfaceComparator.Less = refl
-    go SurfaceComparator.AtLeast = refl
-    go SurfaceComparator.AtMost = refl
 
 -- Categories.
 article-takes : (r : Reference) → isCategoryOf r ≡ true → 9 + length (articleOf r) ≤ costReference r
@@ -115,7 +105,7 @@ leaf p = go (isNamespacePiece p) refl
           is = ap spelledIdentifiers i ∙ not-yes (isReference r) h;
           one = ap isOneIdentifier i;
           costs = omega (arith, ap costIdentifiers i, reference-takes (p .text));
-          leads = λ c. ap readsAsCategory i ∙ ap (λ (b : Bool). b && isCategoryOf r) (sym (plain-is p)) ∙ c;
+          leads = λ c. ap readsAsCategory i ∙ c;
         }
 
     go : (t : Bool) → isNamespacePiece p ≡ t → breaksReference p ≡ false → Leaf p
@@ -231,7 +221,7 @@ piece-cheap p h v = go (isExistence p) refl
         record { is = rw k; costs = rw k (omega (arith, ap length (same-eq (p .text) (bytes "+") (m .1)))); deepness = rw k (omega arith) }
     go false e =
         let k : surfaceIn (RawAlternatives.piece p) ≡ value = rw e in
-        let m = ap (λ (b : Bool). b && (eqb (first (p .text)) 33 || same (p .text) (bytes "+"))) (sym (plain-is p)) ∙ joined (isPlain p) (eqb (first (p .text)) 33) (same (p .text) (bytes "+")) h e in
+        let m = joined (isPlain p) (eqb (first (p .text)) 33) (same (p .text) (bytes "+")) h e in
         record { is = rw k (both-true (not-yes (isValue (p .text)) v) (yes-not m)); costs = rw k (omega arith); deepness = rw k (omega arith) }
 
 head-spelled : (c : Chain) → breaksNames c ≡ false → namesIn c ≤ 8 → spelledChain c ≡ true

@@ -13,12 +13,14 @@ use Rattle.text.specs.Bytes.{Bytes, bytes, any, all, same, isBlank, span, front
 use Rattle.text.specs.Class.{oneOf, isFree, isNameByte, isValueByte, isOther}
 use Rattle.text.proofs.Laws.{all-append, all-span}
 use Rattle.values.specs.Names.{Reference, bare, qualified, reference, isReference, isSized, first, last, isName, isPropertyName, isNamespace, isValue}
+use Rattle.language.specs.Comparators.{word, isEqual}
 use Rattle.language.specs.Surface.{Chain, single, chain}
 use Rattle.language.specs.RawQuery.{Piece, headLength, splitDots, trimNames, prefixed}
 use Rattle.language.specs.QueryText.{breaksNames}
+use Rattle.language.proofs.EachComparator.{word-no-colon}
 use Rattle.language.proofs.Members.{and-true, or-false, both-true}
 use Rattle.language.specs.declared.SurfaceComparator.{SurfaceComparator}
-use Rattle.query_tree_spelling.specs.Spelled.{word, isEqual, spelledValue}
+use Rattle.query_tree_spelling.specs.Spelled.{spelledValue}
 use Rattle.query_tree_spelling.specs.Spelling.{plain, compared, referenceText, unreadPiece, unreadChain}
 use Rattle.query_tree_spelling.proofs.Texts.{all-in, not-not, name-free, value-free, name-colon, span-part, trimEnd-none, trimEnd-behind, trim-none, no-head, no-head-colon, head-reads}
 use Rattle.query_tree_spelling.proofs.Reading.{CleanText, CleanHead, CleanFirst}
@@ -98,15 +100,6 @@ module _ (c : SurfaceComparator) (n : Bytes) (h : isNamespace n ≡ true) (b : �
       go (y ∷ n) h =
           let k = named y n (namespace-is y n h) in
           (k .noBlank, all-append isFree (y ∷ n) (58 ∷ b ∷ x) ∙ both-true (all-in name-free (y ∷ n) (k .bytes)) f, trimEnd-behind (y ∷ n) 58 (b ∷ x) tail, λ e. no-bang y (k .noMark) .0)
-
-word-no-colon : (c : SurfaceComparator) → all (isOther 58) (word c) ≡ true
-unfolding all
-word-no-colon SurfaceComparator.Equal = refl
-word-no-colon SurfaceComparator.Unequal = refl
-word-no-colon SurfaceComparator.Greater = refl
-word-no-colon SurfaceComparator.Less = refl
-word-no-colon SurfaceComparator.AtLeast = refl
-word-no-colon SurfaceComparator.AtMost = refl
 
 pub plain-first : (c : SurfaceComparator) (x : Bytes) → all (isOther 58) x ≡ true → CleanFirst (compared c x)
 unfolding unreadPiece compared

@@ -8,20 +8,24 @@ use native.Mathlib.Omega.{arith}
 use lib.Dec.{eqb}
 use lib.ListN.{length, take, drop, length-drop, length-take}
 use lib.Seq.{length-take-le}
+use borrow.Author.Tests.{ne-eqb}
 use Rattle.text.specs.Bytes.{Bytes, bytes, all, isBlank, span, front, behind, trimEnd, unlessLast, trim, starts, after}
 use Rattle.text.specs.Class.{isFree}
 use Rattle.text.proofs.Laws.{span-le}
 use Rattle.text.proofs.Trim.{trim-le}
 use Rattle.values.specs.Names.{first}
 use Rattle.language.specs.Answer.{_>>=_, found, onlyIf}
+use Rattle.language.specs.Comparators.{word, typed, firstTyped, isEqual}
 use Rattle.language.specs.Surface.{Chain, single, chain}
 use Rattle.language.specs.RawQuery.{Piece, RawQuery, RawAlternatives, token, comparator, pieceAt, headLength, splitDots, trimNames, prefixed, piecesWithin, readPieces, bracketOf, plainBody, closedInner, closedGroup, closedBody, nextTerm, queryWithin, orWithin, conjunctionWithin, andWithin, termWithin, bodyWithin, alternativesWithin, moreWithin, alternativeWithin, enough, readQuery, readWhole}
 use Rattle.language.specs.QueryText.{isPlain}
+use Rattle.language.proofs.EachComparator.{equal-no-mark}
+use Rattle.language.proofs.AllComparators.{typed-fits}
 use Rattle.language.proofs.Options.{OnSome, on-bind, on-found, on-weaker}
 use Rattle.language.proofs.Shorter.{after-leaves, behind-leaves, of-found}
 use Rattle.language.proofs.Leaving.{head-leaves, next-leaves}
 use Rattle.language.specs.declared.SurfaceComparator.{SurfaceComparator}
-use Rattle.query_tree_spelling.specs.Spelled.{word, costChain}
+use Rattle.query_tree_spelling.specs.Spelled.{costChain}
 use Rattle.query_tree_spelling.proofs.Texts.{behind-none, span-not}
 use Rattle.query_tree_spelling.proofs.Reading.{isRawDisjunction, isRawJoined, isRawEither}
 use Rattle.query_tree_spelling.proofs.Spells.{sizePiece, sizePieces}
@@ -80,14 +84,7 @@ token-takes w s = on-weaker _ (Took (length w) s) (after w (behind isBlank s)) (
 -- Comparators and pieces.
 comparator-takes : (s : Bytes) → length (word (comparator s .0)) + length (comparator s .1) ≤ length s
 unfolding comparator
-comparator-takes s =
-    at (bytes ">>") SurfaceComparator.Greater _ refl (at (bytes ">") SurfaceComparator.AtLeast _ refl (at (bytes "<<") SurfaceComparator.Less _ refl (at (bytes "<") SurfaceComparator.AtMost _ refl (at (bytes "!") SurfaceComparator.Unequal _ refl (omega arith)))))
-  where
-    P : SurfaceComparator × Bytes → Type 0
-    P x = length (word (x .0)) + length (x .1) ≤ length s
-
-    at : (w : Bytes) (c : SurfaceComparator) (y : SurfaceComparator × Bytes) → word c ≡ w → P y → P (found (after w s) (λ r. (c, r)) y)
-    at w c y e h = of-found P (after w s) (λ r. (c, r)) y (on-weaker _ (λ r. P (c, r)) (after w s) (after-leaves w s) (λ r l. omega (arith, ap length e))) h
+comparator-takes s = omega (arith, typed-fits typed s, length-drop (length (word (firstTyped typed s))) s)
 
 front-behind : (p : ℕ → Bool) (s : Bytes) → length (front p s) + length (behind p s) ≡ length s
 front-behind p s = omega (arith, length-take-le (span p s) s (span-le p s), length-drop (span p s) s, span-le p s)
@@ -143,27 +140,16 @@ text-first (b ∷ s) h e = go (isFree b) refl
     go true p = rw (p, span) (ap (λ (x : ℕ). eqb x 33) (shown (front isFree s)) ∙ no-mark b s e)
     go false p = ap (λ (n : ℕ). eqb (first (trim (take n (b ∷ s)))) 33) (span-not isFree b s p)
 
-NoMark : SurfaceComparator × Bytes → Type 0
-NoMark x = isPlain (record { comparator = x .0; text = trim (front isFree (x .1)) }) && eqb (first (trim (front isFree (x .1)))) 33 ≡ false
-
-marked : (s : Bytes) → span isBlank s ≡ 0 → NoMark (comparator s)
-unfolding NoMark comparator after
-marked s h =
-    at (bytes ">>") SurfaceComparator.Greater _ (λ x. refl) (at (bytes ">") SurfaceComparator.AtLeast _ (λ x. refl) (at (bytes "<<") SurfaceComparator.Less _ (λ x. refl) (at (bytes "<") SurfaceComparator.AtMost _ (λ x. refl) (go (starts (bytes "!") s) refl))))
+marked : (s : Bytes) → span isBlank s ≡ 0 → isEqual (comparator s .0) && eqb (first (trim (front isFree (comparator s .1)))) 33 ≡ false
+unfolding comparator
+marked s h = go (length (word (firstTyped typed s))) (equal-no-mark s)
   where
-    at : (w : Bytes) (c : SurfaceComparator) (y : SurfaceComparator × Bytes) → ((x : Bytes) → NoMark (c, x)) → NoMark y → NoMark (found (after w s) (λ r. (c, r)) y)
-    at w c y k m = pick (after w s)
-      where
-        pick : (o : Option Bytes) → NoMark (found o (λ r. (c, r)) y)
-        pick none = m
-        pick (some r) = k r
-
-    go : (t : Bool) → starts (bytes "!") s ≡ t → NoMark (found (cond t (some (drop 1 s)) none) (λ r. (SurfaceComparator.Unequal, r)) (SurfaceComparator.Equal, s))
-    go true e = refl
-    go false e = text-first s h e
+    go : (n : ℕ) → (eqb n 0 ≡ true → starts (bytes "!") s ≡ false) → eqb n 0 && eqb (first (trim (front isFree (drop n s)))) 33 ≡ false
+    go zero k = text-first s h (k refl)
+    go (suc n) k = rw (ne-eqb (suc n) 0 (λ e. omega (arith, e)))
 
 pub piece-laid : (s : Bytes) → LaidIn (RawAlternatives.piece (pieceAt s .0))
-unfolding pieceAt NoMark
+unfolding pieceAt
 piece-laid s = marked (behind isBlank s) (bare-front s)
 
 -- Heads.

@@ -12,12 +12,13 @@ use lib.Seq.{take-append-seam, drop-append-add}
 use Rattle.text.specs.Bytes.{Bytes, bytes, all, isBlank, span, front, behind, trimEnd, trim, starts, after}
 use Rattle.text.specs.Class.{isFree}
 use Rattle.language.specs.Answer.{_>>=_, found, onlyIf}
+use Rattle.language.specs.Comparators.{word, isEqual}
 use Rattle.language.specs.Surface.{Chain}
 use Rattle.language.specs.RawQuery.{Piece, RawQuery, RawAlternatives, token, comparator, pieceAt, endsHead, headLength, splitDots, trimNames, readPieces, bracketOf, plainBody, closedInner, closedGroup, closedBody, nextTerm, readQuery, readOr, readConjunction, readAnd, readTerm, readBody, readAlternatives, readMore, readAlternative, readWhole}
+use Rattle.language.proofs.EachComparator.{word-no-blank, word-no-subquery}
 use Rattle.language.proofs.Readers.{query-eq, or-eq, conjunction-eq, and-eq, term-eq, body-eq, alternatives-eq, more-eq, alternative-eq, pieces-eq}
 use Rattle.language.proofs.Members.{and-true}
 use Rattle.language.specs.declared.SurfaceComparator.{SurfaceComparator}
-use Rattle.query_tree_spelling.specs.Spelled.{word, isEqual}
 use Rattle.query_tree_spelling.specs.Spelling.{unreadPiece, unreadPieces, unreadChain, unreadIn, unread}
 use Rattle.query_tree_spelling.proofs.Texts.{front-part, behind-part, behind-none, span-not, trim-none, comparator-reads, free-not}
 
@@ -35,13 +36,7 @@ AllClean (p ∷ l) = Clean p × AllClean l
 
 -- What stands before a piece's text hides nothing.
 word-bare : (c : SurfaceComparator) (b : ℕ) (s : Bytes) → isBlank b ≡ false → behind isBlank (word c ++ (b ∷ s)) ≡ word c ++ (b ∷ s)
-unfolding span
-word-bare SurfaceComparator.Equal b s h = behind-none isBlank (b ∷ s) (span-not isBlank b s h)
-word-bare SurfaceComparator.Unequal b s h = refl
-word-bare SurfaceComparator.Greater b s h = refl
-word-bare SurfaceComparator.Less b s h = refl
-word-bare SurfaceComparator.AtLeast b s h = refl
-word-bare SurfaceComparator.AtMost b s h = refl
+word-bare c b s h = behind-none isBlank (word c ++ (b ∷ s)) (word-no-blank c (b ∷ s) (span-not isBlank b s h))
 
 text-reads : (c : SurfaceComparator) (t s : Bytes) → CleanText c t → span isFree s ≡ 0 → pieceAt (word c ++ (t ++ s)) ≡ (record { comparator = c; text = t }, s)
 unfolding pieceAt all
@@ -294,18 +289,11 @@ no-greater (b ∷ t) s h e = rw (free-not b (and-true (isFree b) (all isFree t) 
 no-subquery : (c : SurfaceComparator) (t s : Bytes) → CleanText c t → starts (bytes ">") s ≡ false → token (bytes "<q>") (word c ++ (t ++ s)) ≡ none
 unfolding token after starts all
 no-subquery c [] s h e = absurd h
-no-subquery c (b ∷ t) s h e = ap (after (bytes "<q>")) (word-bare c b (t ++ s) (h .0)) ∙ ap (λ (x : Bool). cond x (some (drop 3 (word c ++ (b ∷ t ++ s)))) none) (go c)
-  where
-    free : (isFree b ≡ true) × (all isFree t ≡ true)
-    free = and-true (isFree b) (all isFree t) (h .1)
-
-    go : (c : SurfaceComparator) → starts (bytes "<q>") (word c ++ (b ∷ t ++ s)) ≡ false
-    go SurfaceComparator.Equal = no-word b (t ++ s) (free .0)
-    go SurfaceComparator.Unequal = refl
-    go SurfaceComparator.Greater = refl
-    go SurfaceComparator.Less = refl
-    go SurfaceComparator.AtLeast = refl
-    go SurfaceComparator.AtMost = later-false 113 (bytes ">") b (t ++ s) (no-greater t s (free .1) e)
+no-subquery c (b ∷ t) s h e =
+    let k = and-true (isFree b) (all isFree t) (h .1) in
+    ap (after (bytes "<q>")) (word-bare c b (t ++ s) (h .0))
+    ∙ ap (λ (x : Bool). cond x (some (drop 3 (word c ++ (b ∷ t ++ s)))) none)
+    (word-no-subquery c (b ∷ t ++ s) (no-word b (t ++ s) (k .0)) (later-false 113 (bytes ">") b (t ++ s) (no-greater t s (k .1) e)))
 
 piece-alternative : (p : Piece) → Clean p → ReadsIn (RawAlternatives.piece p)
 unfolding unread unreadPiece

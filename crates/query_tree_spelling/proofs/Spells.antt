@@ -13,12 +13,13 @@ use Rattle.text.specs.Class.{oneOf, isFree, isNameByte, isOther}
 use Rattle.text.proofs.Laws.{same-refl}
 use Rattle.values.specs.Names.{Reference, bare, qualified, reference, isReference, isName, isNamespace, isValue}
 use Rattle.language.specs.Answer.{Answer, refused, accepted, judge, found}
+use Rattle.language.specs.Comparators.{word, isEqual}
 use Rattle.language.specs.Surface.{Chain, single, chain, Categories, Identifiers, Alternatives, Query}
 use Rattle.language.specs.RawQuery.{Piece, RawQuery, RawAlternatives, readWhole}
 use Rattle.language.specs.QueryText.{isPlain, isCategory, isCategoryOf, articleOf, isPlusOf, isNamespacePiece, namespaceOf, isExistence, namesIn, depthIn, depth, longestIn, longest, breaksNames, breaksCategory, breaksReference, breaksPieces, breaksIn, breaks, breaksValueIn, breaksValue, categoriesFrom, identifierOf, identifiersFrom, piecesQuery, surfaceIn, surface, checks, readText}
 use Rattle.language.proofs.Members.{and-true, or-false, both-true, both-false}
 use Rattle.language.specs.declared.SurfaceComparator.{SurfaceComparator}
-use Rattle.query_tree_spelling.specs.Spelled.{word, isEqual, isOneCategory, isOneIdentifier, isOneAlternative, isDisjunction, isJoined, spelledCategories, spelledIdentifiers, readsAsCategory, spelledValue, spelledChain, spelledIn, isSpelled, costCategories, costReference, costIdentifiers, costChain, wrapped, under, costIn, cost, deepIn, deep, hasText}
+use Rattle.query_tree_spelling.specs.Spelled.{isOneCategory, isOneIdentifier, isOneAlternative, isDisjunction, isJoined, spelledCategories, spelledIdentifiers, readsAsCategory, spelledValue, spelledChain, spelledIn, isSpelled, costCategories, costReference, costIdentifiers, costChain, wrapped, under, costIn, cost, deepIn, deep, hasText}
 use Rattle.query_tree_spelling.specs.Spelling.{plain, compared, referenceText, categoryPiece, identifierPiece, rawCategories, rawIdentifiers, groupIf, rawIn, raw, unreadPiece, unreadPieces, unreadChain, unreadIn, unread, spell}
 use Rattle.query_tree_spelling.proofs.Texts.{not-not, name-free}
 use Rattle.query_tree_spelling.proofs.Reading.{CleanText, Clean, AllClean, CleanHead, CleanFirst, isRawDisjunction, isRawJoined, isRawEither, ProperIn, Proper, whole-reads}
@@ -102,15 +103,6 @@ record Leaf (i : Identifiers) : Type 0 where
   category : isCategory (identifierPiece i) ≡ readsAsCategory i
   size : sizePiece (identifierPiece i) ≡ costIdentifiers i
 
-plain-equal : (c : SurfaceComparator) (x : Bytes) → isPlain (compared c x) ≡ isEqual c
-unfolding compared
-plain-equal SurfaceComparator.Equal x = refl
-plain-equal SurfaceComparator.Unequal x = refl
-plain-equal SurfaceComparator.Greater x = refl
-plain-equal SurfaceComparator.Less x = refl
-plain-equal SurfaceComparator.AtLeast x = refl
-plain-equal SurfaceComparator.AtMost x = refl
-
 leaf-namespace : (n : Bytes) → isNamespace n ≡ true → Leaf (Identifiers.namespace n)
 unfolding plain compared same readsAsCategory sizePiece costIdentifiers isFree any all trimEnd
 leaf-namespace n h =
@@ -158,7 +150,7 @@ leaf-reference c r h =
       leads = k .1;
       is = rw (m, e);
       names = rw (m, e, h);
-      category = ap₂ _&&_ (plain-equal c (referenceText r)) (ap isCategoryOf e);
+      category = ap (λ (b : Bool). isEqual c && b) (ap isCategoryOf e);
       size = ap (λ (j : ℕ). length (word c) + j) (reference-length r);
     }
 
@@ -236,7 +228,7 @@ unfolding surface breaks breaksValue depth longest unread compared sizePiece spe
 value-spells c v h =
     let k = and-true (isValue v) _ h in
     let e = not-not (isEqual c && (eqb (Rattle.values.specs.Names.first v) 33 || same v (bytes "+"))) (k .1) in
-    let m : isExistence (compared c v) ≡ false = ap (λ (b : Bool). b && same v (bytes "+")) (plain-equal c v) ∙ go (isEqual c) (eqb (Rattle.values.specs.Names.first v) 33) (same v (bytes "+")) e in
+    let m : isExistence (compared c v) ≡ false = go (isEqual c) (eqb (Rattle.values.specs.Names.first v) 33) (same v (bytes "+")) e in
     record { is = rw m; names = refl; values = rw (k .0); deepness = refl; chains = omega arith; proper = value-clean c v h; size = piece-length (compared c v) }
   where
     go : (a b d : Bool) → a && (b || d) ≡ false → a && d ≡ false

@@ -14,10 +14,11 @@ use Rattle.text.specs.Class.{oneOf, isFree, isNameByte, isValueByte, isOther}
 use Rattle.text.proofs.Laws.{any-append, all-append}
 use Rattle.values.specs.Names.{isSized, first, last, isName, isPropertyName, isValue}
 use Rattle.values.specs.Values.{mapOption}
+use Rattle.language.specs.Comparators.{word, typed, firstTyped, isEqual}
 use Rattle.language.specs.RawQuery.{comparator, headLength, endsHead}
+use Rattle.language.proofs.EachComparator.{typed-back}
 use Rattle.language.proofs.Members.{and-true, or-false, both-true}
 use Rattle.language.specs.declared.SurfaceComparator.{SurfaceComparator}
-use Rattle.query_tree_spelling.specs.Spelled.{word, isEqual}
 
 -- One class of bytes lies in another.
 pub all-in : {p q : ℕ → Bool} (f : (b : ℕ) → p b ≡ true → q b ≡ true) (s : Bytes) → all p s ≡ true → all q s ≡ true
@@ -101,13 +102,10 @@ trim-none b s h e = ap trimEnd (behind-none isBlank (b ∷ s) (span-not isBlank 
 
 -- A comparator before a free byte is read as itself.
 pub comparator-reads : (c : SurfaceComparator) (b : ℕ) (s : Bytes) → isFree b ≡ true → (isEqual c ≡ true → eqb b 33 ≡ false) → comparator (word c ++ (b ∷ s)) ≡ (c, b ∷ s)
-unfolding comparator after starts
-comparator-reads SurfaceComparator.Equal b s h k = let e = free-not b h in rw (e .4, e .3, k refl, starts)
-comparator-reads SurfaceComparator.Unequal b s h k = refl
-comparator-reads SurfaceComparator.Greater b s h k = refl
-comparator-reads SurfaceComparator.Less b s h k = refl
-comparator-reads SurfaceComparator.AtLeast b s h k = let e = free-not b h in rw (e .4, starts)
-comparator-reads SurfaceComparator.AtMost b s h k = let e = free-not b h in rw (e .3, starts)
+unfolding comparator
+comparator-reads c b s h k =
+    let e = free-not b h in
+    rw (typed-back c b s (e .3) (e .4) k, drop-append-seam (word c) (b ∷ s))
 
 -- Heads: where `::` is not met before the end, and where it is.
 no-pair : (b : ℕ) (s : Bytes) → eqb b 58 ≡ false → starts (bytes "::") (b ∷ s) ≡ false

@@ -5,10 +5,11 @@ use mathlib.Core.List.{List, [], _∷_, _++_}
 use lib.ListN.{length}
 use Rattle.text.specs.Bytes.{Bytes, bytes}
 use Rattle.values.specs.Names.{Reference, bare, qualified}
+use Rattle.language.specs.Comparators.{word}
 use Rattle.language.specs.Surface.{Chain, single, chain, Categories, Identifiers, Alternatives, Query}
 use Rattle.language.specs.RawQuery.{Piece, RawAlternatives, RawQuery}
 use Rattle.language.specs.declared.SurfaceComparator.{SurfaceComparator}
-use Rattle.query_tree_spelling.specs.Spelled.{word, isDisjunction, isJoined}
+use Rattle.query_tree_spelling.specs.Spelled.{isDisjunction, isJoined}
 
 -- A piece with no comparator.
 unfoldable pub plain : Bytes → Piece

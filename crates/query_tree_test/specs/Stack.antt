@@ -8,7 +8,8 @@ use Rattle.text.specs.Bytes.{Bytes, bytes, same}
 use Rattle.text.specs.Table.{tabulate}
 use Rattle.values.specs.Names.{isName, isNamespace, isReference}
 use Rattle.language.specs.QueryText.{isCategoryOf}
-use Rattle.query_tree_spelling.specs.Spelled.{word, isEqual, spelledValue, costReference}
+use Rattle.language.specs.Comparators.{word, isEqual}
+use Rattle.query_tree_spelling.specs.Spelled.{spelledValue, costReference}
 use Rattle.query_tree.specs.Nodes.{Node}
 use Rattle.query_tree.specs.declared.Shape.{Shape}
 use Rattle.query_tree.specs.declared.Item.{Item}

@@ -5,12 +5,15 @@ ghost use Prim.Native.Nat.{_+_};
 ghost use lib.ListN.{length};
 ghost use Rattle.text.specs.Bytes.{bytes, same};
 ghost use Rattle.values.specs.Names.{isName, isNamespace, isReference, bare, qualified};
+ghost use Rattle.language.specs.Comparators.{word, isEqual};
 ghost use Rattle.language.specs.QueryText.{isCategoryOf};
-ghost use Rattle.query_tree_spelling.specs.Spelled.{word, isEqual, spelledValue, costReference};
+ghost use Rattle.query_tree_spelling.specs.Spelled.{spelledValue, costReference};
 ghost use Rattle.query_tree.specs.Pass.{upToBytes, leafItem};
 use crate::shapes::item_of;
 use crate::shapes::up_to_bytes;
 use language::SurfaceComparator;
+use language::is_equal;
+use language::word_length;
 use query_tree::Item;
 use query_tree::Shape;
 use tables::widen;
@@ -32,33 +35,6 @@ pub fn length_of(x: &[u8]) -> usize
     ensures { λ r. ⌜ r ≡ upToBytes (length (now (x .entry))) ⌝ }
 {
     widen(up_to_bytes(x.len()))
-}
-
-// The length of a comparator as it is typed.
-fn word_length(c: SurfaceComparator) -> u16
-    ensures { λ r. ⌜ r ≡ length (word c) ⌝ }
-{
-    match c {
-        SurfaceComparator::Equal => 0,
-        SurfaceComparator::Unequal => 1,
-        SurfaceComparator::Greater => 2,
-        SurfaceComparator::Less => 2,
-        SurfaceComparator::AtLeast => 1,
-        SurfaceComparator::AtMost => 1,
-    }
-}
-
-fn is_equal(c: SurfaceComparator) -> bool
-    ensures { λ r. ⌜ r ≡ isEqual c ⌝ }
-{
-    match c {
-        SurfaceComparator::Equal => true,
-        SurfaceComparator::Unequal => false,
-        SurfaceComparator::Greater => false,
-        SurfaceComparator::Less => false,
-        SurfaceComparator::AtLeast => false,
-        SurfaceComparator::AtMost => false,
-    }
 }
 
 // Whether a value is read as itself behind its comparator.
@@ -86,7 +62,7 @@ pub fn bare_item(at: usize, c: SurfaceComparator, x: &[u8]) -> Item
     ensures { λ r. ⌜ r ≡ leafItem Shape.Identifiers at (isEqual c && isCategoryOf (bare (now (x .entry)))) (isReference (bare (now (x .entry)))) (length (word c) + costReference (bare (now (x .entry)))) ⌝ }
 {
     let kept = is_name(x);
-    let n = widen(word_length(c)) + length_of(x);
+    let n = text::widen(word_length(c)) + length_of(x);
     leaf_item(Shape::Identifiers, at, false, kept, n)
 }
 
@@ -95,7 +71,7 @@ pub fn qualified_item(at: usize, c: SurfaceComparator, n: &[u8], x: &[u8]) -> It
 {
     let leads = is_equal(c) & same_bytes(n, b"Category");
     let kept = is_namespace(n) & is_name(x);
-    let cost = widen(word_length(c)) + (length_of(n) + (length_of(x) + 1));
+    let cost = text::widen(word_length(c)) + (length_of(n) + (length_of(x) + 1));
     leaf_item(Shape::Identifiers, at, leads, kept, cost)
 }
 
@@ -109,6 +85,6 @@ pub fn value_item(at: usize, c: SurfaceComparator, v: &[u8]) -> Item
     ensures { λ r. ⌜ r ≡ leafItem Shape.Alternatives at false (spelledValue c (now (v .entry))) (length (word c) + length (now (v .entry))) ⌝ }
 {
     let kept = spelled_value(c, v);
-    let n = widen(word_length(c)) + length_of(v);
+    let n = text::widen(word_length(c)) + length_of(v);
     leaf_item(Shape::Alternatives, at, false, kept, n)
 }

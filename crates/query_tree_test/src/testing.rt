@@ -1,10 +1,12 @@
 // Whether bytes are those of the nodes that they hold.
 ghost use mathlib.Core.Path.{_≡_};
 ghost use mathlib.Core.Bool.{cond};
+ghost use Rattle.language.specs.Comparators.{lastComparator};
 ghost use Rattle.query_tree.specs.Testing.{usesComparator, usesFirst, usesSecond, usesNothing, rowFits, isExact};
 ghost use Rattle.query_tree_test.specs.Loops.{RowsTested};
 use buffer::two_at;
 use buffer::zeros;
+use language::LAST_COMPARATOR;
 use query_tree::Row;
 use query_tree::layout;
 use query_tree::reading::row_at;
@@ -12,10 +14,10 @@ use text::widen;
 
 // The highest comparator of a tag.
 fn last_comparator(tag: u8) -> u8
-    ensures { λ r. ⌜ r ≡ cond (usesComparator tag) 5 0 ⌝ }
+    ensures { λ r. ⌜ r ≡ cond (usesComparator tag) lastComparator 0 ⌝ }
 {
     if (tag == layout::BARE) | (tag == layout::QUALIFIED) | (tag == layout::VALUE) {
-        layout::AT_MOST
+        LAST_COMPARATOR
     } else {
         0
     }

@@ -20,7 +20,8 @@ use Rattle.language.proofs.Members.{and-true, both-true}
 use Rattle.query_tree.specs.Nodes.{Node, joinBy, stringOf, strings}
 use Rattle.query_tree.specs.declared.TreeNode.{TreeNode}
 use Rattle.query_tree.specs.declared.Row.{Row}
-use Rattle.query_tree.specs.Form.{treeSize, comparatorCode, rowOf, rowAt, rowBytes, rowsFrom, nodeBytes}
+use Rattle.language.specs.Comparators.{comparatorCode}
+use Rattle.query_tree.specs.Form.{treeSize, rowOf, rowAt, rowBytes, rowsFrom, nodeBytes}
 use Rattle.query_tree.specs.Reading.{nodeBy}
 use Rattle.query_tree.proofs.Counts.{strings-append}
 use Rattle.query_tree.proofs.Small.{isShort, isSmall, AllSmall}

@@ -2,13 +2,14 @@
 ghost use mathlib.Core.Path.{_≡_};
 ghost use Rattle.buffer.specs.Numbers.{twoBytes};
 ghost use Rattle.buffer.specs.Writing.{written};
-ghost use Rattle.query_tree.specs.Form.{comparatorCode, rowOf, rowBytes};
+ghost use Rattle.query_tree.specs.Form.{rowOf, rowBytes};
 ghost use Rattle.query_tree.specs.Reading.{nodeBy};
 ghost use Rattle.query_tree_write.specs.Laying.{entryWith, entryOf, hasRoom, Puts};
 use buffer::put_byte;
 use buffer::put_bytes;
 use buffer::put_two;
 use language::SurfaceComparator;
+use language::comparator_code;
 use query_tree::TreeNode;
 use query_tree::layout;
 use text::Span;
@@ -27,20 +28,6 @@ pub struct Entry {
     pub number: usize,
     pub first: Span,
     pub second: Span,
-}
-
-// The code of a comparator.
-fn code_of(c: SurfaceComparator) -> u8
-    ensures { λ r. ⌜ r ≡ comparatorCode c ⌝ }
-{
-    match c {
-        SurfaceComparator::Equal => layout::EQUAL,
-        SurfaceComparator::Unequal => layout::UNEQUAL,
-        SurfaceComparator::Greater => layout::GREATER,
-        SurfaceComparator::Less => layout::LESS,
-        SurfaceComparator::AtLeast => layout::AT_LEAST,
-        SurfaceComparator::AtMost => layout::AT_MOST,
-    }
 }
 
 fn entry_with(
@@ -133,7 +120,7 @@ pub fn put_node(s: &[u8], tree: &mut [u8], at: Place, node: TreeNode) -> Place
         tree,
         layout::NODES + layout::NODE_BYTES * count,
         e.tag,
-        code_of(comparator),
+        comparator_code(comparator),
         e.number,
         n as u8,
         m as u8,

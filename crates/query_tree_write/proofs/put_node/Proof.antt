@@ -25,8 +25,8 @@ mul-put-row c = let r = in-room _ _ _ _ _ (c .before .before .has-room .ensures)
 add-put-row : tie.Need-add-put-row
 add-put-row c = let r = in-room _ _ _ _ _ (c .before .before .has-room .ensures) (c .before .if1 .left) in omega (arith, r .0, r .1, r .2, r .3)
 
-code-of-requires : tie.Need-code-of-requires
-code-of-requires c κs = search needs
+comparator-code-requires : tie.Need-comparator-code-requires
+comparator-code-requires c κs = search needs
 
 cast-put-row : tie.Need-cast-put-row
 cast-put-row c = let r = in-room _ _ _ _ _ (c .before .before .before .has-room .ensures) (c .before .before .if1 .left) in omega (arith, r .0, r .1, r .2, r .3)
@@ -78,7 +78,7 @@ put-node-spec =
     returns
     mul-put-row
     add-put-row
-    code-of-requires
+    comparator-code-requires
     cast-put-row
     cast-put-row-2
     put-row-requires

@@ -3,8 +3,8 @@ use borrow.Author.Needs.{needs}
 use Rattle.query_text_heads.proofs.plain.piece.Statement.{statement}
 use Rattle.query_text_heads.proofs.plain.piece.Tie as tie
 
-is-bare-requires : tie.Need-is-bare-requires
-is-bare-requires c κs = search needs
+is-equal-requires : tie.Need-is-equal-requires
+is-equal-requires c κs = search needs
 
 category-requires : tie.Need-category-requires
 category-requires c κs = search needs
@@ -16,7 +16,7 @@ same-length : tie.Need-same-length
 same-length c = search needs
 
 returns : tie.Need-returns
-returns c = piece-category (c .before .before .before .before .before .before .before .before .args .s .now) (c .before .before .before .before .before .before .before .before .args .c) (c .before .before .before .before .before .before .before .before .args .text) _ _ _ _ _ _ (c .before .before .before .before .before .if1 .taken) (c .before .before .before .before .is-bare .ensures) (c .before .before .category .ensures)
+returns c = piece-category (c .before .before .before .before .before .before .before .before .args .s .now) (c .before .before .before .before .before .before .before .before .args .c) (c .before .before .before .before .before .before .before .before .args .text) _ _ _ _ _ _ (c .before .before .before .before .before .if1 .taken) (c .before .before .before .before .is-equal .ensures) (c .before .before .category .ensures)
 
 same-length-2 : tie.Need-same-length-2
 same-length-2 c = search needs
@@ -28,7 +28,7 @@ pub piece-spec : {M : Type 1} → statement M
 piece-spec =
     tie.close
     (tie.spec
-    is-bare-requires
+    is-equal-requires
     category-requires
     identifier-requires
     same-length

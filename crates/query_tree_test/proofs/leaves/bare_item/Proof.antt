@@ -1,7 +1,8 @@
 use mathlib.Core.Path.{_∙_}
 use lib.ListN.{length}
 use borrow.Author.Needs.{needs}
-use Rattle.query_tree_spelling.specs.Spelled.{word, isEqual, costReference}
+use Rattle.language.specs.Comparators.{word, isEqual}
+use Rattle.query_tree_spelling.specs.Spelled.{costReference}
 use Rattle.query_tree_test.proofs.Caps.{leaf-sized, plus-cut}
 use Rattle.query_tree_test.proofs.Loops.{and-no}
 use Rattle.query_tree_test.proofs.leaves.bare_item.Statement.{statement}

@@ -1,7 +1,8 @@
 use mathlib.Core.Path.{_∙_}
 use lib.ListN.{length}
 use borrow.Author.Needs.{needs}
-use Rattle.query_tree_spelling.specs.Spelled.{word, costReference}
+use Rattle.language.specs.Comparators.{word}
+use Rattle.query_tree_spelling.specs.Spelled.{costReference}
 use Rattle.query_tree_test.proofs.Caps.{leaf-sized, cuts-plus}
 use Rattle.query_tree_test.proofs.leaves.qualified_item.Statement.{statement}
 use Rattle.query_tree_test.proofs.leaves.qualified_item.Tie as tie

@@ -1,7 +1,7 @@
 use mathlib.Core.Path.{_∙_}
 use lib.ListN.{length}
 use borrow.Author.Needs.{needs}
-use Rattle.query_tree_spelling.specs.Spelled.{word}
+use Rattle.language.specs.Comparators.{word}
 use Rattle.query_tree_test.proofs.Caps.{leaf-sized, plus-cut}
 use Rattle.query_tree_test.proofs.leaves.value_item.Statement.{statement}
 use Rattle.query_tree_test.proofs.leaves.value_item.Tie as tie

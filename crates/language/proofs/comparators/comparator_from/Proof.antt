@@ -1,7 +1,7 @@
-use Rattle.query_tree.specs.Form.{comparatorFrom}
+use Rattle.language.specs.Comparators.{comparatorFrom}
 use borrow.Author.Tests.{ne-eqb}
-use Rattle.query_tree.proofs.reading.comparator_from.Statement.{statement}
-use Rattle.query_tree.proofs.reading.comparator_from.Tie as tie
+use Rattle.language.proofs.comparators.comparator_from.Statement.{statement}
+use Rattle.language.proofs.comparators.comparator_from.Tie as tie
 
 returns : tie.Need-returns
 unfolding comparatorFrom
