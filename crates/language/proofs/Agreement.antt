@@ -3,81 +3,49 @@ use mathlib.Core.Path.{_≡_, refl, sym, ap, ap₂, _∙_, subst}
 use mathlib.Core.Bool.{Bool, true, false, cond, not, _&&_, _||_, false≢true}
 use mathlib.Core.List.{List, [], _∷_, _++_, map, List·Memᴰ}
 use mathlib.Core.Option.{Option, some, none}
-use Rattle.text.specs.Bytes.{Bytes, orderOf, same, any, all}
+use Rattle.text.specs.Bytes.{Bytes, bytes, orderOf, same, any, all}
 use Rattle.text.specs.declared.Order.{Order}
 use Rattle.text.proofs.Laws.{same-eq, all-append}
 use Rattle.values.specs.declared.Kind.{Kind}
 use Rattle.values.specs.Names.{Reference, bare, qualified, reference, isReference}
 use Rattle.values.specs.Values.{Constant, Value, plain, link, kindOf, kindOfConstant, orderConstants, mapOption, readConstant, sameKind}
-use Rattle.language.specs.Answer.{Answer, accepted, _>>=_, found}
+use Rattle.language.specs.Answer.{Answer, accepted, _>>=_, found, onlyIf}
+use Rattle.language.specs.Comparators.{word, isEqual, strictly, orEqual}
 use Rattle.language.specs.Register.{Held, Page, Register, Typing, kindsOf, holds, leads, hasKind, kindsHold}
 use Rattle.language.specs.Surface.{Chain, single, chain, Categories, Identifiers, Alternatives, Query, namesOf, propertiesIn, propertiesOf}
 use Rattle.language.specs.Core.{Selector, Core}
-use Rattle.language.specs.Elaboration.{compared, elaborateReference, elaborateIdentifiers, elaborateCategories, elaborateConstant, elaborateValue, inside, joined, along, elaborateIn, elaborate}
+use Rattle.language.specs.Elaboration.{strictOrEqual, compared, articleStands, within, elaborateReference, elaborateIdentifiers, elaborateCategories, elaborateConstant, elaborateValue, inside, joined, along, elaborateIn, elaborate}
 use Rattle.language.specs.Semantics.{stands, noMixed, Ca, Cv, follows, S, Q, selects, someOther, mismatch, run}
 use Rattle.language.specs.Direct.{standsAs, namespaceMeant, articleMeant, meansReference, meansIdentifiers, meansCategories, standsTo, meansValue, meansChain, meansIn, means}
 use Rattle.language.specs.Agreement.{agree, kindsAgree}
 use Rattle.language.specs.declared.Comparator.{Comparator}
 use Rattle.language.specs.declared.SurfaceComparator.{SurfaceComparator}
+use Rattle.language.proofs.AllComparators.{of-cond, byCore}
+use Rattle.language.proofs.EachComparator.{mark-word, stands-each}
 use Rattle.language.proofs.Options.{OnSome}
 use Rattle.language.proofs.Members.{and-true, both-false, all-at, any-none, map-same}
 use Rattle.language.proofs.Holding.{holds-same, holds-none, holds-or, leads-same}
 use Rattle.values.proofs.Sameness.{kind-eq, kind-refl}
 use Rattle.language.proofs.Typed.{constant-kind}
 
--- What the six comparators say, by the core's four.
-abbrev six : (Comparator → Bool) → SurfaceComparator → Bool
-six g SurfaceComparator.Equal = g Comparator.Equal
-six g SurfaceComparator.Unequal = g Comparator.Unequal
-six g SurfaceComparator.Greater = g Comparator.Greater
-six g SurfaceComparator.Less = g Comparator.Less
-six g SurfaceComparator.AtLeast = g Comparator.Greater || g Comparator.Equal
-six g SurfaceComparator.AtMost = g Comparator.Less || g Comparator.Equal
+by-false : (c : SurfaceComparator) → byCore (λ d. false) c ≡ false
+by-false c = of-cond (λ b. b ≡ false) (orEqual c) (false || false) false refl refl
 
-six-stands : (c : SurfaceComparator) (o : Order) → six (λ d. stands d o) c ≡ standsAs c o
-six-stands SurfaceComparator.Equal Order.Less = refl
-six-stands SurfaceComparator.Equal Order.Equal = refl
-six-stands SurfaceComparator.Equal Order.Greater = refl
-six-stands SurfaceComparator.Unequal Order.Less = refl
-six-stands SurfaceComparator.Unequal Order.Equal = refl
-six-stands SurfaceComparator.Unequal Order.Greater = refl
-six-stands SurfaceComparator.Greater Order.Less = refl
-six-stands SurfaceComparator.Greater Order.Equal = refl
-six-stands SurfaceComparator.Greater Order.Greater = refl
-six-stands SurfaceComparator.Less Order.Less = refl
-six-stands SurfaceComparator.Less Order.Equal = refl
-six-stands SurfaceComparator.Less Order.Greater = refl
-six-stands SurfaceComparator.AtLeast Order.Less = refl
-six-stands SurfaceComparator.AtLeast Order.Equal = refl
-six-stands SurfaceComparator.AtLeast Order.Greater = refl
-six-stands SurfaceComparator.AtMost Order.Less = refl
-six-stands SurfaceComparator.AtMost Order.Equal = refl
-six-stands SurfaceComparator.AtMost Order.Greater = refl
-
-six-false : (c : SurfaceComparator) → six (λ d. false) c ≡ false
-six-false SurfaceComparator.Equal = refl
-six-false SurfaceComparator.Unequal = refl
-six-false SurfaceComparator.Greater = refl
-six-false SurfaceComparator.Less = refl
-six-false SurfaceComparator.AtLeast = refl
-six-false SurfaceComparator.AtMost = refl
-
-six-value : (c : SurfaceComparator) (v : Constant) (a : Value) → six (λ d. Cv noMixed d v a) c ≡ standsTo c v a
+by-value : (c : SurfaceComparator) (v : Constant) (a : Value) → byCore (λ d. Cv noMixed d v a) c ≡ standsTo c v a
 unfolding Cv standsTo
-six-value c v (plain w) = go (orderConstants w v)
+by-value c v (plain w) = go (orderConstants w v)
   where
-    go : (o : Option Order) → six (λ d. found o (stands d) false) c ≡ found o (standsAs c) false
-    go none = six-false c
-    go (some o) = six-stands c o
-six-value c v (link i) = six-false c
+    go : (o : Option Order) → byCore (λ d. found o (stands d) false) c ≡ found o (standsAs c) false
+    go none = by-false c
+    go (some o) = stands-each c o
+by-value c v (link i) = by-false c
 
-six-holds : (x : Bytes) (f : Comparator → Value → Bool) (p : Page) (c : SurfaceComparator) → six (λ d. holds x (f d) p) c ≡ holds x (λ a. six (λ d. f d a) c) p
-six-holds x f p SurfaceComparator.Equal = refl
-six-holds x f p SurfaceComparator.Unequal = refl
-six-holds x f p SurfaceComparator.Greater = refl
-six-holds x f p SurfaceComparator.Less = refl
-six-holds x f p SurfaceComparator.AtLeast = holds-or x (f Comparator.Greater) (f Comparator.Equal) p
-six-holds x f p SurfaceComparator.AtMost = holds-or x (f Comparator.Less) (f Comparator.Equal) p
+by-holds : (x : Bytes) (f : Comparator → Value → Bool) (p : Page) (c : SurfaceComparator) → byCore (λ d. holds x (f d) p) c ≡ holds x (λ a. byCore (λ d. f d a) c) p
+by-holds x f p c = go (orEqual c)
+  where
+    go : (t : Bool) → cond t (holds x (f (strictly c)) p || holds x (f Comparator.Equal) p) (holds x (f (strictly c)) p) ≡ holds x (λ a. cond t (f (strictly c) a || f Comparator.Equal a) (f (strictly c) a)) p
+    go true = holds-or x (f (strictly c)) (f Comparator.Equal) p
+    go false = refl
 
 module _ (R : Register) where
   -- What is said of a core query beside a meaning m: its run has no mismatch, and selects what m does.
@@ -107,22 +75,21 @@ module _ (R : Register) where
   joined-means k op m n law (some a) none h i = tt
   joined-means k op m n law (some a) (some b) h i = law a b h i
 
-  -- a comparison with one of the six
-  compared-means : (f : Comparator → Core) (g : Comparator → Page → Bool) (c : SurfaceComparator) → ((d : Comparator) → Means (g d) (f d)) → Means (λ p. six (λ d. g d p) c) (compared f c)
+  -- a comparison as written
+  compared-means : (f : Comparator → Core) (g : Comparator → Page → Bool) (c : SurfaceComparator) → ((d : Comparator) → Means (g d) (f d)) → Means (λ p. byCore (λ d. g d p) c) (compared f c)
   unfolding compared
-  compared-means f g SurfaceComparator.Equal h = h Comparator.Equal
-  compared-means f g SurfaceComparator.Unequal h = h Comparator.Unequal
-  compared-means f g SurfaceComparator.Greater h = h Comparator.Greater
-  compared-means f g SurfaceComparator.Less h = h Comparator.Less
-  compared-means f g SurfaceComparator.AtLeast h = or-means _ _ _ _ (h Comparator.Greater) (h Comparator.Equal)
-  compared-means f g SurfaceComparator.AtMost h = or-means _ _ _ _ (h Comparator.Less) (h Comparator.Equal)
+  compared-means f g c h = go (orEqual c)
+    where
+      go : (t : Bool) → Means (λ p. cond t (g (strictly c) p || g Comparator.Equal p) (g (strictly c) p)) (cond t (strictOrEqual f (strictly c)) (f (strictly c)))
+      go true = or-means _ _ _ _ (h (strictly c)) (h Comparator.Equal)
+      go false = h (strictly c)
 
   -- references, 5.3.1
   article-means : (x : Bytes) (c : SurfaceComparator) → Means (λ p. standsAs c (orderOf (p .identifier .article) x)) (compared (λ d. Core.select (Selector.article d x)) c)
   unfolding mismatch Q Ca
   article-means x c =
       means-same _ _ _ (compared-means _ (λ d p. stands d (orderOf (p .identifier .article) x)) c one)
-      (λ p e. six-stands c (orderOf (p .identifier .article) x))
+      (λ p e. stands-each c (orderOf (p .identifier .article) x))
     where
       one : (d : Comparator) → Means (λ p. stands d (orderOf (p .identifier .article) x)) (Core.select (Selector.article d x))
       one d = record { unmixed = refl; alike = λ p e. refl }
@@ -137,18 +104,16 @@ module _ (R : Register) where
 
   reference-means : (c : SurfaceComparator) (r : Reference) → Means (meansReference c r) (elaborateReference c r)
   unfolding elaborateReference meansReference namespaceMeant
-  reference-means SurfaceComparator.Equal (bare x) = within-means [] x SurfaceComparator.Equal
-  reference-means SurfaceComparator.Unequal (bare x) = article-means x SurfaceComparator.Unequal
-  reference-means SurfaceComparator.Greater (bare x) = article-means x SurfaceComparator.Greater
-  reference-means SurfaceComparator.Less (bare x) = article-means x SurfaceComparator.Less
-  reference-means SurfaceComparator.AtLeast (bare x) = article-means x SurfaceComparator.AtLeast
-  reference-means SurfaceComparator.AtMost (bare x) = article-means x SurfaceComparator.AtMost
-  reference-means SurfaceComparator.Equal (qualified n x) = within-means n x SurfaceComparator.Equal
-  reference-means SurfaceComparator.Unequal (qualified n x) = article-means x SurfaceComparator.Unequal
-  reference-means SurfaceComparator.Greater (qualified n x) = within-means n x SurfaceComparator.Greater
-  reference-means SurfaceComparator.Less (qualified n x) = within-means n x SurfaceComparator.Less
-  reference-means SurfaceComparator.AtLeast (qualified n x) = within-means n x SurfaceComparator.AtLeast
-  reference-means SurfaceComparator.AtMost (qualified n x) = within-means n x SurfaceComparator.AtMost
+  reference-means c (bare x) = go (isEqual c)
+    where
+      go : (t : Bool) → Means (λ p. found (onlyIf t (some [])) (λ n. same (p .identifier .namespace) n) true && standsAs c (orderOf (p .identifier .article) x)) (cond t (within [] (articleStands x c)) (articleStands x c))
+      go true = within-means [] x c
+      go false = article-means x c
+  reference-means c (qualified n x) = rw (← mark-word c) (go (same (word c) (bytes "!")))
+    where
+      go : (t : Bool) → Means (λ p. found (onlyIf (not t) (some n)) (λ n. same (p .identifier .namespace) n) true && standsAs c (orderOf (p .identifier .article) x)) (cond t (articleStands x c) (within n (articleStands x c)))
+      go true = article-means x c
+      go false = within-means n x c
 
   identifiers-means : (i : Identifiers) → Means (meansIdentifiers i) (elaborateIdentifiers i)
   unfolding elaborateIdentifiers meansIdentifiers
@@ -184,7 +149,7 @@ module _ (R : Register) where
   unfolding elaborateConstant mismatch Q
   constant-means x c v o =
       means-same _ _ _ (compared-means _ (λ d. holds x (Cv noMixed d v)) c one)
-      (λ p e. six-holds x (λ d. Cv noMixed d v) p c ∙ holds-same x _ _ p (λ a n s. six-value c v (a .value)))
+      (λ p e. by-holds x (λ d. Cv noMixed d v) p c ∙ holds-same x _ _ p (λ a n s. by-value c v (a .value)))
     where
       one : (d : Comparator) → Means (holds x (Cv noMixed d v)) (Core.select (Selector.value x d v))
       one d = record { unmixed = o; alike = λ p e. refl }

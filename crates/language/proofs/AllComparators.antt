@@ -1,14 +1,17 @@
 -- Laws of all comparators at once.
 use Prim.Native.Nat.{ℕ, _≤_}
 use mathlib.Core.Path.{_≡_, refl}
-use mathlib.Core.Bool.{Bool, true, false, cond}
+use mathlib.Core.Bool.{Bool, true, false, cond, _||_}
 use mathlib.Core.List.{List, [], _∷_}
 use native.Mathlib.Omega.{arith}
 use lib.Dec.{eqb}
 use lib.ListN.{length}
 use Rattle.text.specs.Bytes.{Bytes, starts}
 use Rattle.text.proofs.Laws.{starts-fits}
-use Rattle.language.specs.Comparators.{word, typed, firstTyped, isEqual}
+use Rattle.language.specs.Comparators.{word, firstTyped, isEqual, strictly, orEqual}
+use Rattle.language.specs.Core.{Core}
+use Rattle.language.specs.Elaboration.{strictOrEqual, compared}
+use Rattle.language.specs.declared.Comparator.{Comparator}
 use Rattle.language.specs.declared.SurfaceComparator.{SurfaceComparator}
 
 -- The word of the one that is found stands there.
@@ -39,3 +42,16 @@ pub equal-by-length : (c : SurfaceComparator) (n : ℕ) → n ≡ length (word c
 equal-by-length c n e = rw e
 
 pub ruleset typing = (typed-here, typed-later, typed-none, equal-by-length)
+
+-- What holds of every comparison with the core's comparators, and of two of them joined by OR, holds of one as written.
+pub of-cond : {A : Type 0} (P : A → Type 0) (t : Bool) (a b : A) → P a → P b → P (cond t a b)
+of-cond P true a b h k = h
+of-cond P false a b h k = k
+
+pub of-compared : (P : Core → Type 0) (f : Comparator → Core) (c : SurfaceComparator) → ((a b : Core) → P a → P b → P (Core.disjunction a b)) → ((d : Comparator) → P (f d)) → P (compared f c)
+unfolding compared
+of-compared P f c k h = of-cond P (orEqual c) (strictOrEqual f (strictly c)) (f (strictly c)) (k _ _ (h (strictly c)) (h Comparator.Equal)) (h (strictly c))
+
+-- What a comparator says, by what the core's comparators say.
+abbrev pub byCore : (Comparator → Bool) → SurfaceComparator → Bool
+byCore g c = cond (orEqual c) (g (strictly c) || g Comparator.Equal) (g (strictly c))

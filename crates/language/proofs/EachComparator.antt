@@ -1,17 +1,18 @@
 -- What is said comparator by comparator.
 use Prim.Native.Nat.{ℕ, zero, suc, _≤_}
-use mathlib.Core.Path.{_≡_, refl, sym}
-use mathlib.Core.Bool.{Bool, true, false, cond, _||_, false≢true}
-use mathlib.Core.List.{List, [], _∷_, _++_}
+use mathlib.Core.Path.{_≡_, refl}
+use mathlib.Core.Bool.{Bool, true, false, cond, false≢true}
+use mathlib.Core.List.{[], _∷_, _++_}
 use native.Mathlib.Omega.{arith}
 use lib.Dec.{eqb, leb}
-use lib.ListN.{length}
-use Rattle.text.specs.Bytes.{Bytes, bytes, all, isBlank, span, starts}
+use Rattle.text.specs.Bytes.{Bytes, bytes, same, all, isBlank, span, starts}
 use Rattle.text.specs.Class.{isOther}
 use Rattle.text.specs.declared.Order.{Order}
-use Rattle.language.specs.Comparators.{word, typed, firstTyped, isEqual, comparatorCode, lastComparator, comparatorFrom}
-use Rattle.language.specs.declared.Comparator.{Comparator}
+use Rattle.language.specs.Comparators.{word, typed, firstTyped, isEqual, comparatorCode, lastComparator, comparatorFrom, inAnyNamespace}
+use Rattle.language.specs.Semantics.{stands}
+use Rattle.language.specs.Direct.{standsAs}
 use Rattle.language.specs.declared.SurfaceComparator.{SurfaceComparator}
+use Rattle.language.proofs.AllComparators.{byCore}
 
 -- Words: they have no colon and no blank, and are read as themselves.
 pub word-no-colon : (c : SurfaceComparator) → all (isOther 58) (word c) ≡ true
@@ -44,11 +45,11 @@ typed-back SurfaceComparator.AtMost b s l g k = rw (l, starts)
 -- Where none is written no `!` stands.
 pub equal-no-mark : (s : Bytes) → isEqual (firstTyped typed s) ≡ true → starts (bytes "!") s ≡ false
 unfolding firstTyped
-equal-no-mark s h = go (starts (bytes "!") s) h
+equal-no-mark s h = go (starts (bytes "!") s) _ h
   where
-    go : (t : Bool) → isEqual (cond t SurfaceComparator.Unequal (firstTyped (SurfaceComparator.Greater ∷ SurfaceComparator.AtLeast ∷ SurfaceComparator.Less ∷ SurfaceComparator.AtMost ∷ []) s)) ≡ true → t ≡ false
-    go true h = absurd (false≢true h)
-    go false h = refl
+    go : (t : Bool) (r : SurfaceComparator) → isEqual (cond t SurfaceComparator.Unequal r) ≡ true → t ≡ false
+    go true r h = absurd (false≢true h)
+    go false r h = refl
 
 -- A comparator does not make a subquery of what is behind it: `<` before `q` is one.
 pub word-no-subquery : (c : SurfaceComparator) (s : Bytes) → starts (bytes "<q>") s ≡ false → starts (bytes "q>") s ≡ false → starts (bytes "<q>") (word c ++ s) ≡ false
@@ -87,3 +88,33 @@ comparator-few SurfaceComparator.Greater = refl
 comparator-few SurfaceComparator.Less = refl
 comparator-few SurfaceComparator.AtLeast = refl
 comparator-few SurfaceComparator.AtMost = refl
+
+-- What each says: only the word `!` is looked for in any namespace, and the table of the direct meaning is the core's.
+pub mark-word : (c : SurfaceComparator) → same (word c) (bytes "!") ≡ inAnyNamespace c
+unfolding same
+mark-word SurfaceComparator.Equal = refl
+mark-word SurfaceComparator.Unequal = refl
+mark-word SurfaceComparator.Greater = refl
+mark-word SurfaceComparator.Less = refl
+mark-word SurfaceComparator.AtLeast = refl
+mark-word SurfaceComparator.AtMost = refl
+
+pub stands-each : (c : SurfaceComparator) (o : Order) → byCore (λ d. stands d o) c ≡ standsAs c o
+stands-each SurfaceComparator.Equal Order.Less = refl
+stands-each SurfaceComparator.Equal Order.Equal = refl
+stands-each SurfaceComparator.Equal Order.Greater = refl
+stands-each SurfaceComparator.Unequal Order.Less = refl
+stands-each SurfaceComparator.Unequal Order.Equal = refl
+stands-each SurfaceComparator.Unequal Order.Greater = refl
+stands-each SurfaceComparator.Greater Order.Less = refl
+stands-each SurfaceComparator.Greater Order.Equal = refl
+stands-each SurfaceComparator.Greater Order.Greater = refl
+stands-each SurfaceComparator.Less Order.Less = refl
+stands-each SurfaceComparator.Less Order.Equal = refl
+stands-each SurfaceComparator.Less Order.Greater = refl
+stands-each SurfaceComparator.AtLeast Order.Less = refl
+stands-each SurfaceComparator.AtLeast Order.Equal = refl
+stands-each SurfaceComparator.AtLeast Order.Greater = refl
+stands-each SurfaceComparator.AtMost Order.Less = refl
+stands-each SurfaceComparator.AtMost Order.Equal = refl
+stands-each SurfaceComparator.AtMost Order.Greater = refl

@@ -1,8 +1,8 @@
 pub mod Options
 pub mod Members
 pub mod Shorter
-pub mod EachComparator
 pub mod AllComparators
+pub mod EachComparator
 pub mod Leaving
 pub mod Readers
 pub mod Entries

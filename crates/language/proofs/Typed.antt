@@ -2,19 +2,22 @@
 use Prim.Native.Nat.{ℕ}
 use mathlib.Core.Path.{_≡_, refl, sym, ap, _∙_, subst}
 use mathlib.Core.Bool.{Bool, true, false, cond, _&&_}
+use mathlib.Core.List.{[]}
 use mathlib.Core.Option.{Option, some, none}
 use Rattle.text.specs.Bytes.{Bytes}
 use Rattle.values.specs.declared.Kind.{Kind}
 use Rattle.values.specs.Names.{Reference, bare, qualified, reference, isReference}
 use Rattle.values.specs.Values.{Constant, kindOfConstant, mapOption, scalar, string, readScalar, readConstant}
 use Rattle.language.specs.Answer.{_>>=_}
+use Rattle.language.specs.Comparators.{isEqual, inAnyNamespace}
 use Rattle.language.specs.Register.{Typing, hasKind}
 use Rattle.language.specs.Surface.{Chain, single, chain, Categories, Identifiers, Alternatives, Query}
 use Rattle.language.specs.Core.{Selector, Core}
-use Rattle.language.specs.Elaboration.{compared, elaborateReference, elaborateIdentifiers, elaborateCategories, elaborateConstant, elaborateValue, inside, joined, along, elaborateIn, elaborate}
+use Rattle.language.specs.Elaboration.{compared, articleStands, within, elaborateReference, elaborateIdentifiers, elaborateCategories, elaborateConstant, elaborateValue, inside, joined, along, elaborateIn, elaborate}
 use Rattle.language.specs.Semantics.{wellTyped, wellTypedIn}
 use Rattle.language.specs.declared.Comparator.{Comparator}
 use Rattle.language.specs.declared.SurfaceComparator.{SurfaceComparator}
+use Rattle.language.proofs.AllComparators.{of-cond, of-compared}
 use Rattle.language.proofs.Options.{OnSome}
 use Rattle.language.proofs.Members.{both-true}
 use Rattle.values.proofs.Sameness.{kind-refl}
@@ -33,30 +36,26 @@ module _ (Γ : Typing) where
   abbrev Typed : Core → Type 0
   Typed c = wellTyped c Γ ≡ true
 
+  or-typed : (a b : Core) → Typed a → Typed b → Typed (Core.disjunction a b)
+  unfolding wellTyped
+  or-typed a b h i = both-true h i
+
   -- a comparison is as well-typed as its parts
   compared-typed : (f : Comparator → Core) (c : SurfaceComparator) → ((d : Comparator) → Typed (f d)) → Typed (compared f c)
-  unfolding compared wellTyped
-  compared-typed f SurfaceComparator.Equal h = h Comparator.Equal
-  compared-typed f SurfaceComparator.Unequal h = h Comparator.Unequal
-  compared-typed f SurfaceComparator.Greater h = h Comparator.Greater
-  compared-typed f SurfaceComparator.Less h = h Comparator.Less
-  compared-typed f SurfaceComparator.AtLeast h = both-true (h Comparator.Greater) (h Comparator.Equal)
-  compared-typed f SurfaceComparator.AtMost h = both-true (h Comparator.Less) (h Comparator.Equal)
+  compared-typed f c h = of-compared Typed f c or-typed h
+
+  article-typed : (x : Bytes) (c : SurfaceComparator) → Typed (articleStands x c)
+  unfolding wellTyped
+  article-typed x c = compared-typed (λ d. Core.select (Selector.article d x)) c (λ d. refl)
+
+  within-typed : (n x : Bytes) (c : SurfaceComparator) → Typed (within n (articleStands x c))
+  unfolding wellTyped
+  within-typed n x c = both-true refl (article-typed x c)
 
   reference-typed : (c : SurfaceComparator) (r : Reference) → Typed (elaborateReference c r)
-  unfolding elaborateReference compared wellTyped
-  reference-typed SurfaceComparator.Equal (bare x) = refl
-  reference-typed SurfaceComparator.Unequal (bare x) = refl
-  reference-typed SurfaceComparator.Greater (bare x) = refl
-  reference-typed SurfaceComparator.Less (bare x) = refl
-  reference-typed SurfaceComparator.AtLeast (bare x) = refl
-  reference-typed SurfaceComparator.AtMost (bare x) = refl
-  reference-typed SurfaceComparator.Equal (qualified n x) = refl
-  reference-typed SurfaceComparator.Unequal (qualified n x) = refl
-  reference-typed SurfaceComparator.Greater (qualified n x) = refl
-  reference-typed SurfaceComparator.Less (qualified n x) = refl
-  reference-typed SurfaceComparator.AtLeast (qualified n x) = refl
-  reference-typed SurfaceComparator.AtMost (qualified n x) = refl
+  unfolding elaborateReference
+  reference-typed c (bare x) = of-cond Typed (isEqual c) (within [] (articleStands x c)) (articleStands x c) (within-typed [] x c) (article-typed x c)
+  reference-typed c (qualified n x) = of-cond Typed (inAnyNamespace c) (articleStands x c) (within n (articleStands x c)) (article-typed x c) (within-typed n x c)
 
   identifiers-typed : (i : Identifiers) → Typed (elaborateIdentifiers i)
   unfolding elaborateIdentifiers wellTyped
@@ -112,10 +111,6 @@ module _ (Γ : Typing) where
   unfolding along
   along-typed (single x) f h = h x
   along-typed (chain x p) f h = inside-typed x (along Γ p f) (along-typed p f h)
-
-  or-typed : (a b : Core) → Typed a → Typed b → Typed (Core.disjunction a b)
-  unfolding wellTyped
-  or-typed a b h i = both-true h i
 
   and-typed : (a b : Core) → Typed a → Typed b → Typed (Core.conjunction a b)
   unfolding wellTyped

@@ -51,3 +51,29 @@ comparatorFrom c =
     (cond (eqb c 2) SurfaceComparator.Greater
     (cond (eqb c 3) SurfaceComparator.Less
     (cond (eqb c 4) SurfaceComparator.AtLeast SurfaceComparator.AtMost))))
+
+-- Each by the core's four: the one that it is, equality aside, and whether equality is added.
+abbrev pub strictly : SurfaceComparator → Comparator
+strictly SurfaceComparator.Equal = Comparator.Equal
+strictly SurfaceComparator.Unequal = Comparator.Unequal
+strictly SurfaceComparator.Greater = Comparator.Greater
+strictly SurfaceComparator.Less = Comparator.Less
+strictly SurfaceComparator.AtLeast = Comparator.Greater
+strictly SurfaceComparator.AtMost = Comparator.Less
+
+abbrev pub orEqual : SurfaceComparator → Bool
+orEqual SurfaceComparator.Equal = false
+orEqual SurfaceComparator.Unequal = false
+orEqual SurfaceComparator.Greater = false
+orEqual SurfaceComparator.Less = false
+orEqual SurfaceComparator.AtLeast = true
+orEqual SurfaceComparator.AtMost = true
+
+-- A name is looked for in every namespace, whichever is written.
+abbrev pub inAnyNamespace : SurfaceComparator → Bool
+inAnyNamespace SurfaceComparator.Equal = false
+inAnyNamespace SurfaceComparator.Unequal = true
+inAnyNamespace SurfaceComparator.Greater = false
+inAnyNamespace SurfaceComparator.Less = false
+inAnyNamespace SurfaceComparator.AtLeast = false
+inAnyNamespace SurfaceComparator.AtMost = false

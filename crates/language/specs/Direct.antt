@@ -2,12 +2,13 @@
 use mathlib.Core.Bool.{Bool, true, false, cond, not, _&&_, _||_}
 use mathlib.Core.List.{List, [], _∷_, map}
 use mathlib.Core.Option.{Option, some, none}
-use Rattle.text.specs.Bytes.{Bytes, orderOf, same, any}
+use Rattle.text.specs.Bytes.{Bytes, bytes, orderOf, same, any}
 use Rattle.text.specs.declared.Order.{Order}
 use Rattle.values.specs.declared.Kind.{Kind}
 use Rattle.values.specs.Names.{Reference, bare, qualified, reference, isReference}
 use Rattle.values.specs.Values.{Constant, Value, plain, link, orderConstants, readConstant}
-use Rattle.language.specs.Answer.{Answer, refused, accepted, found}
+use Rattle.language.specs.Answer.{Answer, refused, accepted, found, onlyIf}
+use Rattle.language.specs.Comparators.{word, isEqual}
 use Rattle.language.specs.Register.{Page, Register, kindsOf, holds, leads}
 use Rattle.language.specs.Surface.{Chain, single, chain, Categories, Identifiers, Alternatives, Query}
 use Rattle.language.specs.QueryText.{readText}
@@ -36,18 +37,8 @@ standsAs SurfaceComparator.AtMost Order.Greater = false
 
 -- "any written namespace save with `!`; with neither colon nor comparator, main"
 unfoldable pub namespaceMeant : SurfaceComparator → Reference → Option Bytes
-namespaceMeant SurfaceComparator.Equal (bare x) = some []
-namespaceMeant SurfaceComparator.Unequal (bare x) = none
-namespaceMeant SurfaceComparator.Greater (bare x) = none
-namespaceMeant SurfaceComparator.Less (bare x) = none
-namespaceMeant SurfaceComparator.AtLeast (bare x) = none
-namespaceMeant SurfaceComparator.AtMost (bare x) = none
-namespaceMeant SurfaceComparator.Equal (qualified n x) = some n
-namespaceMeant SurfaceComparator.Unequal (qualified n x) = none
-namespaceMeant SurfaceComparator.Greater (qualified n x) = some n
-namespaceMeant SurfaceComparator.Less (qualified n x) = some n
-namespaceMeant SurfaceComparator.AtLeast (qualified n x) = some n
-namespaceMeant SurfaceComparator.AtMost (qualified n x) = some n
+namespaceMeant c (bare x) = onlyIf (isEqual c) (some [])
+namespaceMeant c (qualified n x) = onlyIf (not (same (word c) (bytes "!"))) (some n)
 
 abbrev pub articleMeant : Reference → Bytes
 articleMeant (bare x) = x

@@ -9,21 +9,20 @@ use Rattle.values.specs.declared.Kind.{Kind}
 use Rattle.values.specs.Names.{Reference, bare, qualified, reference, isReference}
 use Rattle.values.specs.Values.{Constant, mapOption, readConstant}
 use Rattle.language.specs.Answer.{Answer, refused, accepted, _>>=_, found}
+use Rattle.language.specs.Comparators.{isEqual, strictly, orEqual, inAnyNamespace}
 use Rattle.language.specs.Register.{Typing}
 use Rattle.language.specs.Surface.{Chain, single, chain, Categories, Identifiers, Alternatives, Query, propertiesOf}
 use Rattle.language.specs.Core.{Selector, Core, nodes}
 use Rattle.language.specs.declared.Comparator.{Comparator}
 use Rattle.language.specs.declared.SurfaceComparator.{SurfaceComparator}
 
--- A comparison written with one of the six comparators, by comparisons with the core's four:
--- "greater or equal: strict OR equal", in that order.
+-- "strict OR equal", in that order.
+abbrev pub strictOrEqual : (Comparator → Core) → Comparator → Core
+strictOrEqual f d = Core.disjunction (f d) (f Comparator.Equal)
+
+-- A comparison as written, by comparisons with the core's four: "greater or equal: strict OR equal".
 unfoldable pub compared : (Comparator → Core) → SurfaceComparator → Core
-compared f SurfaceComparator.Equal = f Comparator.Equal
-compared f SurfaceComparator.Unequal = f Comparator.Unequal
-compared f SurfaceComparator.Greater = f Comparator.Greater
-compared f SurfaceComparator.Less = f Comparator.Less
-compared f SurfaceComparator.AtLeast = Core.disjunction (f Comparator.Greater) (f Comparator.Equal)
-compared f SurfaceComparator.AtMost = Core.disjunction (f Comparator.Less) (f Comparator.Equal)
+compared f c = cond (orEqual c) (strictOrEqual f (strictly c)) (f (strictly c))
 
 abbrev pub articleStands : Bytes → SurfaceComparator → Core
 articleStands x c = compared (λ d. Core.select (Selector.article d x)) c
@@ -32,20 +31,10 @@ articleStands x c = compared (λ d. Core.select (Selector.article d x)) c
 abbrev pub within : Bytes → Core → Core
 within n q = Core.conjunction (Core.select (Selector.namespace n)) q
 
--- 5.3.1, one reference.
+-- 5.3.1, one reference. A bare name with no comparator is in main.
 unfoldable pub elaborateReference : SurfaceComparator → Reference → Core
-elaborateReference SurfaceComparator.Equal (bare x) = within [] (articleStands x SurfaceComparator.Equal)
-elaborateReference SurfaceComparator.Unequal (bare x) = articleStands x SurfaceComparator.Unequal
-elaborateReference SurfaceComparator.Greater (bare x) = articleStands x SurfaceComparator.Greater
-elaborateReference SurfaceComparator.Less (bare x) = articleStands x SurfaceComparator.Less
-elaborateReference SurfaceComparator.AtLeast (bare x) = articleStands x SurfaceComparator.AtLeast
-elaborateReference SurfaceComparator.AtMost (bare x) = articleStands x SurfaceComparator.AtMost
-elaborateReference SurfaceComparator.Equal (qualified n x) = within n (articleStands x SurfaceComparator.Equal)
-elaborateReference SurfaceComparator.Unequal (qualified n x) = articleStands x SurfaceComparator.Unequal
-elaborateReference SurfaceComparator.Greater (qualified n x) = within n (articleStands x SurfaceComparator.Greater)
-elaborateReference SurfaceComparator.Less (qualified n x) = within n (articleStands x SurfaceComparator.Less)
-elaborateReference SurfaceComparator.AtLeast (qualified n x) = within n (articleStands x SurfaceComparator.AtLeast)
-elaborateReference SurfaceComparator.AtMost (qualified n x) = within n (articleStands x SurfaceComparator.AtMost)
+elaborateReference c (bare x) = cond (isEqual c) (within [] (articleStands x c)) (articleStands x c)
+elaborateReference c (qualified n x) = cond (inAnyNamespace c) (articleStands x c) (within n (articleStands x c))
 
 -- 5.3.1.
 unfoldable pub elaborateIdentifiers : Identifiers → Core

@@ -1,7 +1,8 @@
-// What differs from comparator to comparator, as they are written: its word, its byte.
+// What differs from comparator to comparator, as they are written: its word, its byte, what it means.
 ghost use mathlib.Core.Path.{_≡_};
 ghost use lib.ListN.{length, drop};
-ghost use Rattle.language.specs.Comparators.{word, typed, firstTyped, isEqual, comparatorCode, comparatorFrom};
+ghost use Rattle.language.specs.Comparators.{word, typed, firstTyped, isEqual, comparatorCode, comparatorFrom, strictly, orEqual, inAnyNamespace};
+use crate::Comparator;
 use crate::SurfaceComparator;
 use text::word_at;
 
@@ -77,5 +78,47 @@ pub fn comparator_from(code: u8) -> SurfaceComparator
         3 => SurfaceComparator::Less,
         4 => SurfaceComparator::AtLeast,
         _ => SurfaceComparator::AtMost,
+    }
+}
+
+// The core comparator that one is, equality aside.
+pub fn strict(c: SurfaceComparator) -> Comparator
+    ensures { λ r. ⌜ r ≡ strictly c ⌝ }
+{
+    match c {
+        SurfaceComparator::Equal => Comparator::Equal,
+        SurfaceComparator::Unequal => Comparator::Unequal,
+        SurfaceComparator::Greater => Comparator::Greater,
+        SurfaceComparator::Less => Comparator::Less,
+        SurfaceComparator::AtLeast => Comparator::Greater,
+        SurfaceComparator::AtMost => Comparator::Less,
+    }
+}
+
+// Whether equality is added.
+pub fn or_equal(c: SurfaceComparator) -> bool
+    ensures { λ r. ⌜ r ≡ orEqual c ⌝ }
+{
+    match c {
+        SurfaceComparator::Equal => false,
+        SurfaceComparator::Unequal => false,
+        SurfaceComparator::Greater => false,
+        SurfaceComparator::Less => false,
+        SurfaceComparator::AtLeast => true,
+        SurfaceComparator::AtMost => true,
+    }
+}
+
+// Whether a name is looked for in every namespace, whichever is written.
+pub fn in_any_namespace(c: SurfaceComparator) -> bool
+    ensures { λ r. ⌜ r ≡ inAnyNamespace c ⌝ }
+{
+    match c {
+        SurfaceComparator::Equal => false,
+        SurfaceComparator::Unequal => true,
+        SurfaceComparator::Greater => false,
+        SurfaceComparator::Less => false,
+        SurfaceComparator::AtLeast => false,
+        SurfaceComparator::AtMost => false,
     }
 }

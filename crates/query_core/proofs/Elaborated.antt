@@ -14,14 +14,16 @@ use Rattle.values.specs.Names.{Reference, bare, qualified, reference, isName, i
 use Rattle.values.specs.Values.{Constant, scalar, mapOption, readScalar, readConstant}
 use Rattle.values.proofs.EachKind.{read-in-range}
 use Rattle.language.specs.Answer.{refused, accepted, found, _>>=_}
+use Rattle.language.specs.Comparators.{isEqual, inAnyNamespace}
 use Rattle.language.specs.Register.{Typing}
 use Rattle.language.specs.Surface.{Chain, single, chain, Categories, Identifiers, Alternatives, Query, propertiesOf}
 use Rattle.language.specs.QueryText.{breaksNames}
 use Rattle.language.specs.Core.{Core, nodes}
 use Rattle.language.specs.Core as Core
-use Rattle.language.specs.Elaboration.{compared, elaborateReference, elaborateIdentifiers, elaborateCategories, elaborateConstant, elaborateValue, inside, joined, along, elaborateIn, elaborate, isUndeclared, fit}
+use Rattle.language.specs.Elaboration.{compared, articleStands, within, elaborateReference, elaborateIdentifiers, elaborateCategories, elaborateConstant, elaborateValue, inside, joined, along, elaborateIn, elaborate, isUndeclared, fit}
 use Rattle.language.specs.declared.Comparator.{Comparator}
 use Rattle.language.specs.declared.SurfaceComparator.{SurfaceComparator}
+use Rattle.language.proofs.AllComparators.{of-cond, of-compared}
 use Rattle.language.proofs.Members.{and-true, both-true, or-false}
 use Rattle.query_core.specs.Postfix.{Node, post}
 use Rattle.query_core.specs.Form.{isConstant, isNode, isCore}
@@ -56,13 +58,7 @@ unfolding Keeps post isNode
 subquery-keeps x c h k = behind-keeps (post c) (Node.subquery x) k h
 
 compared-keeps : (f : Comparator → Core) (c : SurfaceComparator) → ((d : Comparator) → Keeps (f d)) → Keeps (compared f c)
-unfolding compared
-compared-keeps f SurfaceComparator.Equal h = h Comparator.Equal
-compared-keeps f SurfaceComparator.Unequal h = h Comparator.Unequal
-compared-keeps f SurfaceComparator.Greater h = h Comparator.Greater
-compared-keeps f SurfaceComparator.Less h = h Comparator.Less
-compared-keeps f SurfaceComparator.AtLeast h = or-keeps (f Comparator.Greater) (f Comparator.Equal) (h Comparator.Greater) (h Comparator.Equal)
-compared-keeps f SurfaceComparator.AtMost h = or-keeps (f Comparator.Less) (f Comparator.Equal) (h Comparator.Less) (h Comparator.Equal)
+compared-keeps f c h = of-compared Keeps f c or-keeps h
 
 -- One selector.
 article-keeps : (x : Bytes) (d : Comparator) → isName x ≡ true → Keeps (Core.select (Core.article d x))
@@ -98,18 +94,10 @@ main-name = refl
 
 reference-keeps : (c : SurfaceComparator) (r : Reference) → isReference r ≡ true → Keeps (elaborateReference c r)
 unfolding elaborateReference
-reference-keeps SurfaceComparator.Equal (bare x) h = within-keeps [] x SurfaceComparator.Equal main-name h
-reference-keeps SurfaceComparator.Unequal (bare x) h = stands-keeps x SurfaceComparator.Unequal h
-reference-keeps SurfaceComparator.Greater (bare x) h = stands-keeps x SurfaceComparator.Greater h
-reference-keeps SurfaceComparator.Less (bare x) h = stands-keeps x SurfaceComparator.Less h
-reference-keeps SurfaceComparator.AtLeast (bare x) h = stands-keeps x SurfaceComparator.AtLeast h
-reference-keeps SurfaceComparator.AtMost (bare x) h = stands-keeps x SurfaceComparator.AtMost h
-reference-keeps SurfaceComparator.Unequal (qualified n x) h = stands-keeps x SurfaceComparator.Unequal (and-true (isNamespace n) (isName x) h .1)
-reference-keeps SurfaceComparator.Equal (qualified n x) h = let k = and-true (isNamespace n) (isName x) h in within-keeps n x SurfaceComparator.Equal (k .0) (k .1)
-reference-keeps SurfaceComparator.Greater (qualified n x) h = let k = and-true (isNamespace n) (isName x) h in within-keeps n x SurfaceComparator.Greater (k .0) (k .1)
-reference-keeps SurfaceComparator.Less (qualified n x) h = let k = and-true (isNamespace n) (isName x) h in within-keeps n x SurfaceComparator.Less (k .0) (k .1)
-reference-keeps SurfaceComparator.AtLeast (qualified n x) h = let k = and-true (isNamespace n) (isName x) h in within-keeps n x SurfaceComparator.AtLeast (k .0) (k .1)
-reference-keeps SurfaceComparator.AtMost (qualified n x) h = let k = and-true (isNamespace n) (isName x) h in within-keeps n x SurfaceComparator.AtMost (k .0) (k .1)
+reference-keeps c (bare x) h = of-cond Keeps (isEqual c) (within [] (articleStands x c)) (articleStands x c) (within-keeps [] x c main-name h) (stands-keeps x c h)
+reference-keeps c (qualified n x) h =
+    let k = and-true (isNamespace n) (isName x) h in
+    of-cond Keeps (inAnyNamespace c) (articleStands x c) (within n (articleStands x c)) (stands-keeps x c (k .1)) (within-keeps n x c (k .0) (k .1))
 
 -- Constants that are read.
 abbrev ReadKeeps : Option Constant → Type 0

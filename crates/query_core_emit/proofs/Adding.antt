@@ -6,6 +6,7 @@ use mathlib.Core.Option.{Option, some, none}
 use Rattle.text.specs.Bytes.{Bytes}
 use Rattle.text.specs.declared.Span.{Span}
 use Rattle.language.specs.Core.{Core}
+use Rattle.language.specs.Elaboration.{strictOrEqual}
 use Rattle.language.specs.declared.Comparator.{Comparator}
 use Rattle.query_core.specs.declared.Connective.{Connective}
 use Rattle.query_core.specs.declared.Selector.{Selector}
@@ -14,7 +15,7 @@ use Rattle.query_core.specs.Postfix.{Node, post}
 use Rattle.query_core.specs.Form.{noSpan}
 use Rattle.query_core.specs.Reading.{selectorBy}
 use Rattle.query_core.specs.Writing.{Laid, Puts}
-use Rattle.query_core_emit.specs.Emission.{Adds, connectiveNode, selectorOf, comparing, strictOrEqual}
+use Rattle.query_core_emit.specs.Emission.{Adds, connectiveNode, selectorOf, comparing}
 use Rattle.query_core_emit.specs.declared.Comparison.{Comparison}
 
 pub adds-then : (k m : List Node) {h h′ h″ : Bytes} {p p′ p″ : Place} → Adds k h p h′ p′ → Adds m h′ p′ h″ p″ → Adds (k ++ m) h p h″ p″

@@ -1,6 +1,6 @@
 -- The core queries of comparisons, references and values, put.
 use mathlib.Core.Path.{_≡_, refl, sym, ap, _∙_}
-use mathlib.Core.Bool.{Bool, true, false, not}
+use mathlib.Core.Bool.{Bool, true, false, cond, not}
 use mathlib.Core.List.{List, [], _∷_, _++_}
 use mathlib.Core.Option.{Option, some, none}
 use borrow.Author.Tests.{not-true, not-false}
@@ -13,9 +13,10 @@ use Rattle.values.specs.declared.Split.{Split}
 use Rattle.values.specs.Names.{reference, isReference}
 use Rattle.values.specs.Values.{mapOption, readConstant}
 use Rattle.values.specs.Answers.{splitOf}
+use Rattle.language.specs.Comparators.{isEqual, strictly, orEqual, inAnyNamespace}
 use Rattle.language.specs.Core.{Core}
 use Rattle.language.specs.Core as Core
-use Rattle.language.specs.Elaboration.{compared, elaborateReference, elaborateConstant, elaborateValue}
+use Rattle.language.specs.Elaboration.{strictOrEqual, compared, articleStands, within, elaborateReference, elaborateConstant, elaborateValue}
 use Rattle.language.specs.declared.Comparator.{Comparator}
 use Rattle.language.specs.declared.SurfaceComparator.{SurfaceComparator}
 use Rattle.query_text_pieces.specs.Places.{SplitsAt}
@@ -24,8 +25,9 @@ use Rattle.query_core.specs.declared.Constant.{Constant}
 use Rattle.query_core.specs.declared.ConstantRead.{ConstantRead}
 use Rattle.query_core.specs.declared.Place.{Place}
 use Rattle.query_core.specs.Postfix.{Node, post}
+use Rattle.query_core.specs.Form.{noSpan}
 use Rattle.query_core.specs.Reading.{selectorBy}
-use Rattle.query_core_emit.specs.Emission.{Adds, Emits, connectiveNode, selectorOf, comparing, strictOrEqual, writtenScope, scopeOf, constantIn}
+use Rattle.query_core_emit.specs.Emission.{Adds, Emits, connectiveNode, selectorOf, comparing, scopeOf, constantIn}
 use Rattle.query_core_emit.specs.declared.Comparison.{Comparison}
 use Rattle.query_core_emit.specs.declared.Scope.{Scope}
 use Rattle.query_core_emit.specs.declared.Emitted.{Emitted}
@@ -40,44 +42,38 @@ module _ (w : Comparison) (c : Comparator) where
   pub value-selector : (p : Span) (k : Constant) → w ≡ Comparison.Value p k → Selector.Value p c k ≡ selectorOf w c
   value-selector p k e = rw e
 
-pub scope-written : (r : Split) (o : Scope) → r .qualified ≡ true → Scope.Within (r .namespace) ≡ writtenScope r o
-scope-written r o e = rw e
+module _ (c : SurfaceComparator) (r : Split) (t : Bool) where
+  module _ (q : r .qualified ≡ true) (e : t ≡ inAnyNamespace c) where
+    pub scope-any : t ≡ true → Scope.Any ≡ scopeOf c r
+    scope-any h = rw (q, ← e, h)
 
-pub scope-by : (c d : SurfaceComparator) (r : Split) (k : Scope) → c ≡ d → k ≡ scopeOf d r → k ≡ scopeOf c r
-scope-by c d r k e h = rw e h
+    pub scope-written : t ≡ false → Scope.Within (r .namespace) ≡ scopeOf c r
+    scope-written h = rw (q, ← e, h)
 
-pub ruleset selectors = (article-selector, value-selector, scope-written, scope-by)
+  module _ (q : r .qualified ≡ false) (e : t ≡ isEqual c) where
+    pub scope-main : t ≡ true → Scope.Within noSpan ≡ scopeOf c r
+    scope-main h = rw (q, ← e, h)
+
+    pub scope-bare : t ≡ false → Scope.Any ≡ scopeOf c r
+    scope-bare h = rw (q, ← e, h)
+
+pub ruleset selectors = (article-selector, value-selector, scope-any, scope-written, scope-main, scope-bare)
 
 -- A comparison as written, by its comparator.
 module _ (s : Bytes) (w : Comparison) (c : SurfaceComparator) (h h′ : Bytes) (p p′ : Place) where
   abbrev Compared : Type 0
   Compared = Adds (post (compared (comparing s w) c)) h p h′ p′
 
-  pub equal-is : c ≡ SurfaceComparator.Equal → Adds (post (comparing s w Comparator.Equal)) h p h′ p′ → Compared
-  unfolding compared
-  equal-is e d = rw e d
+  module _ (t : Bool) (d : Comparator) (e : t ≡ orEqual c) (f : d ≡ strictly c) where
+    pub either-is : t ≡ true → Adds (post (strictOrEqual (comparing s w) d)) h p h′ p′ → Compared
+    unfolding compared
+    either-is g a = rw (← e, g, ← f) a
 
-  pub unequal-is : c ≡ SurfaceComparator.Unequal → Adds (post (comparing s w Comparator.Unequal)) h p h′ p′ → Compared
-  unfolding compared
-  unequal-is e d = rw e d
+    pub one-is : t ≡ false → Adds (post (comparing s w d)) h p h′ p′ → Compared
+    unfolding compared
+    one-is g a = rw (← e, g, ← f) a
 
-  pub greater-is : c ≡ SurfaceComparator.Greater → Adds (post (comparing s w Comparator.Greater)) h p h′ p′ → Compared
-  unfolding compared
-  greater-is e d = rw e d
-
-  pub less-is : c ≡ SurfaceComparator.Less → Adds (post (comparing s w Comparator.Less)) h p h′ p′ → Compared
-  unfolding compared
-  less-is e d = rw e d
-
-  pub at-least-is : c ≡ SurfaceComparator.AtLeast → Adds (post (strictOrEqual (comparing s w) Comparator.Greater)) h p h′ p′ → Compared
-  unfolding compared
-  at-least-is e d = rw e d
-
-  pub at-most-is : c ≡ SurfaceComparator.AtMost → Adds (post (strictOrEqual (comparing s w) Comparator.Less)) h p h′ p′ → Compared
-  unfolding compared
-  at-most-is e d = rw e d
-
-pub ruleset comparisons = (equal-is, unequal-is, greater-is, less-is, at-least-is, at-most-is)
+pub ruleset comparisons = (either-is, one-is)
 
 -- Definition 5.3.1, by the scope of a reference.
 module _ (s : Bytes) where
@@ -86,19 +82,17 @@ module _ (s : Bytes) where
   scoped (Scope.Within n) q = Core.conjunction (Core.select (Core.namespace (partOf s n))) q
 
   reference-says : (c : SurfaceComparator) (q : Bool) (n a : Span) → elaborateReference c (splitOf s (record { qualified = q; namespace = n; article = a })) ≡ scoped (scopeOf c (record { qualified = q; namespace = n; article = a })) (compared (comparing s (Comparison.Article a)) c)
-  unfolding elaborateReference compared
-  reference-says SurfaceComparator.Equal true n a = refl
-  reference-says SurfaceComparator.Equal false n a = refl
-  reference-says SurfaceComparator.Unequal true n a = refl
-  reference-says SurfaceComparator.Unequal false n a = refl
-  reference-says SurfaceComparator.Greater true n a = refl
-  reference-says SurfaceComparator.Greater false n a = refl
-  reference-says SurfaceComparator.Less true n a = refl
-  reference-says SurfaceComparator.Less false n a = refl
-  reference-says SurfaceComparator.AtLeast true n a = refl
-  reference-says SurfaceComparator.AtLeast false n a = refl
-  reference-says SurfaceComparator.AtMost true n a = refl
-  reference-says SurfaceComparator.AtMost false n a = refl
+  unfolding elaborateReference
+  reference-says c true n a = go (inAnyNamespace c)
+    where
+      go : (t : Bool) → cond t (articleStands (partOf s a) c) (within (partOf s n) (articleStands (partOf s a) c)) ≡ scoped (cond t Scope.Any (Scope.Within n)) (compared (comparing s (Comparison.Article a)) c)
+      go true = refl
+      go false = refl
+  reference-says c false n a = go (isEqual c)
+    where
+      go : (t : Bool) → cond t (within [] (articleStands (partOf s a) c)) (articleStands (partOf s a) c) ≡ scoped (cond t (Scope.Within noSpan) Scope.Any) (compared (comparing s (Comparison.Article a)) c)
+      go true = refl
+      go false = refl
 
   module _ (c : SurfaceComparator) (r : Split) (k : Scope) (is : k ≡ scopeOf c r) (h : Bytes) (p : Place) where
     reference-is : elaborateReference c (splitOf s r) ≡ scoped k (compared (comparing s (Comparison.Article (r .article))) c)

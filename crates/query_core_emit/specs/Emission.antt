@@ -11,6 +11,7 @@ use Rattle.values.specs.declared.Kind.{Kind}
 use Rattle.values.specs.declared.Split.{Split}
 use Rattle.values.specs.declared.Scalar.{Scalar}
 use Rattle.values.specs.Values.{readScalar}
+use Rattle.language.specs.Comparators.{isEqual, inAnyNamespace}
 use Rattle.language.specs.Core.{Core}
 use Rattle.language.specs.Core as Core
 use Rattle.language.specs.declared.Comparator.{Comparator}
@@ -50,21 +51,11 @@ abbrev pub comparing : Bytes → Comparison → Comparator → Core
 comparing s (Comparison.Article p) c = Core.select (Core.article c (partOf s p))
 comparing s (Comparison.Value p k) c = Core.select (Core.value (partOf s p) c (constantBy s k))
 
--- "strict OR equal"
-abbrev pub strictOrEqual : (Comparator → Core) → Comparator → Core
-strictOrEqual f c = Core.disjunction (f c) (f Comparator.Equal)
-
 -- Where a reference is looked for: definition 5.3.1.
-abbrev pub writtenScope : Split → Scope → Scope
-writtenScope r o = cond (r .qualified) (Scope.Within (r .namespace)) o
-
 abbrev pub scopeOf : SurfaceComparator → Split → Scope
-scopeOf SurfaceComparator.Equal r = writtenScope r (Scope.Within noSpan)
-scopeOf SurfaceComparator.Unequal r = Scope.Any
-scopeOf SurfaceComparator.Greater r = writtenScope r Scope.Any
-scopeOf SurfaceComparator.Less r = writtenScope r Scope.Any
-scopeOf SurfaceComparator.AtLeast r = writtenScope r Scope.Any
-scopeOf SurfaceComparator.AtMost r = writtenScope r Scope.Any
+scopeOf c r =
+    cond (r .qualified) (cond (inAnyNamespace c) Scope.Any (Scope.Within (r .namespace)))
+    (cond (isEqual c) (Scope.Within noSpan) Scope.Any)
 
 -- The constant that the piece at p writes in a kind.
 abbrev pub scalarConstant : Scalar → Option ℕ → ConstantRead

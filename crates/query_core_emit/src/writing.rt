@@ -6,16 +6,20 @@ ghost use Rattle.values.specs.declared.Kind.the-variants.{Page};
 ghost use Rattle.values.specs.Answers.{splitOf};
 ghost use Rattle.values.specs.Values.{mapOption, readConstant};
 ghost use Rattle.language.specs.Core.{Core};
-ghost use Rattle.language.specs.Elaboration.{compared, elaborateReference, elaborateConstant, elaborateValue};
+ghost use Rattle.language.specs.Elaboration.{strictOrEqual, compared, elaborateReference, elaborateConstant, elaborateValue};
 ghost use Rattle.query_core.specs.Postfix.{post};
 ghost use Rattle.query_core.specs.Reading.{selectorBy, joinedBy};
-ghost use Rattle.query_core_emit.specs.Emission.{comparing, selectorOf, strictOrEqual, writtenScope, scopeOf, Adds, Emits, connectiveNode};
+ghost use Rattle.query_core_emit.specs.Emission.{comparing, selectorOf, scopeOf, Adds, Emits, connectiveNode};
 use crate::Comparison;
 use crate::Emitted;
 use crate::Scope;
 use crate::terms::constant_of;
 use language::Comparator;
 use language::SurfaceComparator;
+use language::in_any_namespace;
+use language::is_equal;
+use language::or_equal;
+use language::strict;
 use query_core::Connective;
 use query_core::ConstantRead;
 use query_core::Node;
@@ -97,26 +101,11 @@ fn put_compared(
 ) -> Place
     ensures { λ r. ⌜ Adds (post (compared (comparing (now (s .entry)) what) c)) (now (held .entry)) at (now (held .exit)) r ⌝ }
 {
-    match c {
-        SurfaceComparator::Equal => put_one(s, held, at, what, Comparator::Equal),
-        SurfaceComparator::Unequal => put_one(s, held, at, what, Comparator::Unequal),
-        SurfaceComparator::Greater => put_one(s, held, at, what, Comparator::Greater),
-        SurfaceComparator::Less => put_one(s, held, at, what, Comparator::Less),
-        SurfaceComparator::AtLeast => put_either(s, held, at, what, Comparator::Greater),
-        SurfaceComparator::AtMost => put_either(s, held, at, what, Comparator::Less),
-    }
-}
-
-// The namespace that is written, else another scope.
-fn written_scope(split: Split, other: Scope) -> Scope
-    ensures { λ r. ⌜ r ≡ writtenScope split other ⌝ }
-{
-    let qualified = split.qualified;
-    let namespace = split.namespace;
-    if qualified {
-        Scope::Within(namespace)
+    let d = strict(c);
+    if or_equal(c) {
+        put_either(s, held, at, what, d)
     } else {
-        other
+        put_one(s, held, at, what, d)
     }
 }
 
@@ -125,13 +114,17 @@ fn scope_of(c: SurfaceComparator, split: Split) -> Scope
     ensures { λ r. ⌜ r ≡ scopeOf c split ⌝ }
 {
     let main = Span { start: 0, len: 0 };
-    match c {
-        SurfaceComparator::Equal => written_scope(split, Scope::Within(main)),
-        SurfaceComparator::Unequal => Scope::Any,
-        SurfaceComparator::Greater => written_scope(split, Scope::Any),
-        SurfaceComparator::Less => written_scope(split, Scope::Any),
-        SurfaceComparator::AtLeast => written_scope(split, Scope::Any),
-        SurfaceComparator::AtMost => written_scope(split, Scope::Any),
+    let namespace = split.namespace;
+    if split.qualified {
+        if in_any_namespace(c) {
+            return Scope::Any;
+        }
+        return Scope::Within(namespace);
+    }
+    if is_equal(c) {
+        Scope::Within(main)
+    } else {
+        Scope::Any
     }
 }
 

@@ -19,7 +19,6 @@ use Rattle.buffer.proofs.Parts.{both, length-part, part-add, part-part}
 use Rattle.buffer.proofs.Regions.{region, zeros-region}
 use Rattle.values.specs.Names.{Reference, bare, qualified}
 use Rattle.language.proofs.Members.{and-true, both-true}
-use Rattle.language.specs.declared.SurfaceComparator.{SurfaceComparator}
 use Rattle.language.proofs.EachComparator.{comparator-few}
 use Rattle.query_tree.specs.Nodes.{Node, stringOf, strings}
 use Rattle.query_tree.specs.declared.Row.{Row}

@@ -14,13 +14,11 @@ use Rattle.text.proofs.Laws.{same-eq}
 use Rattle.text.proofs.Trim.{trim-le}
 use Rattle.values.specs.Names.{Reference, bare, qualified, reference, isReference, isName, isNamespace, isValue, first}
 use Rattle.language.specs.Answer.{Answer, refused, accepted, judge, found}
-use Rattle.language.specs.Comparators.{word, isEqual}
 use Rattle.language.specs.Surface.{Chain, single, chain, Categories, Identifiers, Alternatives, Query}
 use Rattle.language.specs.RawQuery.{Piece, RawQuery, RawAlternatives, readWhole}
 use Rattle.language.specs.QueryText.{isPlain, isCategory, isCategoryOf, articleOf, isPlusOf, isNamespacePiece, namespaceOf, isExistence, namesIn, depthIn, depth, longestIn, longest, breaksNames, breaksCategory, breaksReference, breaksPieces, breaksIn, breaks, breaksValueIn, breaksValue, categoriesFrom, identifierOf, identifiersFrom, piecesQuery, surfaceIn, surface, checks, readText}
 use Rattle.language.proofs.Members.{and-true, or-false, both-true, both-false}
 use Rattle.language.proofs.Options.{OnSome}
-use Rattle.language.specs.declared.SurfaceComparator.{SurfaceComparator}
 use Rattle.query_tree_spelling.specs.Spelled.{isOneCategory, isOneIdentifier, isOneAlternative, isDisjunction, isJoined, spelledCategories, spelledIdentifiers, readsAsCategory, spelledValue, spelledChain, spelledIn, isSpelled, costCategories, costReference, costIdentifiers, costChain, wrapped, under, costIn, cost, deepIn, deep, hasText}
 use Rattle.query_tree_spelling.proofs.Texts.{not-not}
 use Rattle.query_tree_spelling.proofs.Reading.{isRawDisjunction, isRawJoined, isRawEither}

@@ -3,7 +3,7 @@ use Prim.Native.Nat.{ℕ, zero, suc, _+_, _-_, _≤_, _<_}
 use mathlib.Core.Path.{_≡_, refl, sym, ap, ap₂, subst, _∙_}
 use mathlib.Core.Bool.{Bool, true, false, cond, not, _&&_, _||_, true≢false, false≢true}
 use mathlib.Core.List.{List, [], _∷_, _++_}
-use mathlib.Core.Option.{Option, some, none}
+use mathlib.Core.Option.{Option, some}
 use native.Mathlib.Omega.{arith}
 use lib.Dec.{eqb}
 use lib.ListN.{length, take, drop, length-drop, length-take}
@@ -14,7 +14,7 @@ use Rattle.text.specs.Class.{isFree}
 use Rattle.text.proofs.Laws.{span-le}
 use Rattle.text.proofs.Trim.{trim-le}
 use Rattle.values.specs.Names.{first}
-use Rattle.language.specs.Answer.{_>>=_, found, onlyIf}
+use Rattle.language.specs.Answer.{_>>=_, onlyIf}
 use Rattle.language.specs.Comparators.{word, typed, firstTyped, isEqual}
 use Rattle.language.specs.Surface.{Chain, single, chain}
 use Rattle.language.specs.RawQuery.{Piece, RawQuery, RawAlternatives, token, comparator, pieceAt, headLength, splitDots, trimNames, prefixed, piecesWithin, readPieces, bracketOf, plainBody, closedInner, closedGroup, closedBody, nextTerm, queryWithin, orWithin, conjunctionWithin, andWithin, termWithin, bodyWithin, alternativesWithin, moreWithin, alternativeWithin, enough, readQuery, readWhole}
@@ -22,9 +22,8 @@ use Rattle.language.specs.QueryText.{isPlain}
 use Rattle.language.proofs.EachComparator.{equal-no-mark}
 use Rattle.language.proofs.AllComparators.{typed-fits}
 use Rattle.language.proofs.Options.{OnSome, on-bind, on-found, on-weaker}
-use Rattle.language.proofs.Shorter.{after-leaves, behind-leaves, of-found}
+use Rattle.language.proofs.Shorter.{after-leaves, behind-leaves}
 use Rattle.language.proofs.Leaving.{head-leaves, next-leaves}
-use Rattle.language.specs.declared.SurfaceComparator.{SurfaceComparator}
 use Rattle.query_tree_spelling.specs.Spelled.{costChain}
 use Rattle.query_tree_spelling.proofs.Texts.{behind-none, span-not}
 use Rattle.query_tree_spelling.proofs.Reading.{isRawDisjunction, isRawJoined, isRawEither}

@@ -9,12 +9,12 @@ use lib.Dec.{eqb, leb, ltb}
 use lib.ListN.{length, take, drop, getD, length-append}
 use lib.Seq.{take-append-seam, drop-append-seam}
 use borrow.Author.Tests.{eqb-true, not-true, leb-true}
-use Rattle.text.specs.Bytes.{Bytes, bytes, any, all, same, isBlank, span, front, behind, trimEnd, unlessLast, trim, starts, after}
+use Rattle.text.specs.Bytes.{Bytes, bytes, any, all, same, isBlank, span, front, behind, trimEnd, unlessLast, trim, starts}
 use Rattle.text.specs.Class.{oneOf, isFree, isNameByte, isValueByte, isOther}
 use Rattle.text.proofs.Laws.{any-append, all-append}
 use Rattle.values.specs.Names.{isSized, first, last, isName, isPropertyName, isValue}
 use Rattle.values.specs.Values.{mapOption}
-use Rattle.language.specs.Comparators.{word, typed, firstTyped, isEqual}
+use Rattle.language.specs.Comparators.{word, isEqual}
 use Rattle.language.specs.RawQuery.{comparator, headLength, endsHead}
 use Rattle.language.proofs.EachComparator.{typed-back}
 use Rattle.language.proofs.Members.{and-true, or-false, both-true}
