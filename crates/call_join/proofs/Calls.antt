@@ -18,7 +18,7 @@ use Rattle.register_form.specs.Formed.{Formed}
 use Rattle.register_form.specs.Draft.{drafted, writeInto}
 use Rattle.register_form.specs.Tables.{Tables, tablesOf, draftIn}
 use Rattle.register_form.proofs.Forms.{part-bytes, form-formed}
-use Rattle.register_form_write.specs.Writer.{Capacity, DraftWritten}
+use Rattle.register_form_write.specs.Writer.{Capacity, OrderedWritten}
 use Rattle.register_join_merge.specs.Merged.{Merged}
 use Rattle.register_join_merge.specs.Merging.{Room, Merger}
 use Rattle.register_join_draft.specs.Drafting.{itemsIn, TableRoom, JoinPut, Clashed}
@@ -70,7 +70,7 @@ module _ (h g b : Bytes) where
   -- The draft of the join, written.
   pub join-written : (heap : Bytes) (starts lens items1 items2 : List ℕ) (m : ℕ) (ks ns is fs us gs cs : List ℕ) (np ng nt r : ℕ) (after : Bytes)
       → JoinPut h g items1 items2 (replicate 128 0) (replicate 128 0) (replicate 512 0) (replicate 513 0) (replicate 4096 0) (replicate 4096 0) (replicate 4096 0) ks ns is fs us gs cs np ng nt
-      → DraftWritten (tablesOf heap starts lens m ks ns np is fs ng us gs cs nt) b r after
+      → OrderedWritten (tablesOf heap starts lens m ks ns np is fs ng us gs cs nt) b r after
       → Writes h g heap starts lens m items1 items2 b r after
   join-written heap starts lens items1 items2 m ks ns is fs us gs cs np ng nt r after put w =
       record {
@@ -82,7 +82,7 @@ module _ (h g b : Bytes) where
             } in
             let draft = held-draft h g heap starts lens items1 items2 m fh fg merged clear (replicate 128 0) (replicate 128 0) (replicate 512 0) (replicate 513 0) (replicate 4096 0) (replicate 4096 0) (replicate 4096 0) ks ns is fs us gs cs np ng nt put zeros-space in
             let told = held-drafted h g heap starts lens items1 items2 m fh fg merged clear (replicate 128 0) (replicate 128 0) (replicate 512 0) (replicate 513 0) (replicate 4096 0) (replicate 4096 0) (replicate 4096 0) ks ns is fs us gs cs np ng nt put zeros-space in
-            as-told (joined-clear (registerIn h) (registerIn g) b clear ∙ ap (λ (R : Register). writeInto R b) (sym told)) (w .is draft room);
+            as-told (joined-clear (registerIn h) (registerIn g) b clear ∙ ap (λ (R : Register). writeInto R b) (sym told)) (w .is draft room (merged .up));
       }
 
   -- Two forms: their texts are merged, and the kinds clash or do not.

@@ -5,7 +5,7 @@ ghost use Rattle.call_join.specs.Stages.{Joins, Writes};
 use register_form::REGISTER_BYTES;
 use register_form::layout;
 use register_form_test::open;
-use register_form_write::write_draft;
+use register_form_write::write_ordered;
 use register_join_draft::draft_join;
 use register_join_draft::kinds_clash;
 use register_join_merge::merge;
@@ -45,7 +45,7 @@ fn write_join(
         &mut groups,
         &mut codes,
     );
-    write_draft(
+    write_ordered(
         heap,
         starts,
         lens,

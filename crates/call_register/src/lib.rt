@@ -1,25 +1,12 @@
 // The register call: judges a register text, and writes the held register.
 ghost use Rattle.language.specs.Answer.{Answered};
-ghost use Rattle.register_form_assembly.specs.Terms.{Filling};
 ghost use Rattle.call_answers.specs.Calls.{registerCall};
 ghost use Rattle.call_register.specs.Writing.{Writes};
 use register_form::layout;
+use register_form_assembly::terms::put_own;
 use register_form_write::write_draft;
 use register_text_draft::draft_text;
 use register_text_verdict::judge;
-use tables::put;
-use tables::widen;
-
-// Writes of each of the first n forms that it is a term of its own.
-fn put_own(uses: &mut [u16], n: u16)
-    ensures { λ _. ⌜ Filling (λ f. f) (now (uses .entry)) n (now (uses .exit)) ⌝ }
-{
-    let mut f: u16 = 0;
-    while f < n {
-        put(uses, widen(f), f);
-        f += 1;
-    }
-}
 
 // Writes the register of an accepted text: 0, or 8 where the buffer is too short.
 fn write_text(text: &[u8], t: &[u16], n: usize, props: &[u16], np: usize, held: &mut [u8]) -> usize
@@ -51,7 +38,7 @@ fn write_text(text: &[u8], t: &[u16], n: usize, props: &[u16], np: usize, held: 
         &mut groups,
         &mut codes,
     );
-    put_own(&mut uses, c.forms);
+    put_own(&mut uses, c.forms); // each form is a term of its own
     write_draft(
         &heap,
         &starts,

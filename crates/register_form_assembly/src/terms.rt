@@ -10,6 +10,7 @@ use buffer::put_byte;
 use buffer::put_eight;
 use tables::code_at;
 use tables::get;
+use tables::put;
 use tables::put_start;
 use tables::widen;
 use text::byte_at;
@@ -86,6 +87,17 @@ pub fn put_term_starts(t: &mut [u32], n: u16)
     let mut i: u16 = 0;
     while i < n {
         put_start(t, widen(i), 9 * (i as u32));
+        i += 1;
+    }
+}
+
+// Writes of each of the first n places that it has its own number.
+pub fn put_own(t: &mut [u16], n: u16)
+    ensures { λ _. ⌜ Filling (λ i. i) (now (t .entry)) n (now (t .exit)) ⌝ }
+{
+    let mut i: u16 = 0;
+    while i < n {
+        put(t, widen(i), i);
         i += 1;
     }
 }

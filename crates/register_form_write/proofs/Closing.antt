@@ -1,6 +1,6 @@
 -- What writing a draft answers: through the numbering of terms and of texts, to the register that the draft describes.
 use Prim.Native.Nat.{ℕ, _+_, _*_, _≤_, _<_, _^_}
-use mathlib.Core.Path.{_≡_, sym, ap, ap₂, _∙_, subst}
+use mathlib.Core.Path.{_≡_, refl, sym, ap, ap₂, _∙_, subst}
 use mathlib.Core.Bool.{Bool, true, false, cond}
 use mathlib.Core.List.{List, []}
 use native.Mathlib.Omega.{arith}
@@ -8,16 +8,21 @@ use lib.ListN.{length, getD, replicate, length-replicate, getD-replicate, length
 use lib.Seq.{take-all}
 use borrow.Author.Tests.{le-leb, lt-leb}
 use Rattle.text.specs.Bytes.{Bytes, orderOf, part}
-use Rattle.text.proofs.Tables.{length-tabulate, getD-tabulate}
+use Rattle.text.specs.Table.{tabulate}
+use Rattle.text.proofs.Tables.{length-tabulate, getD-tabulate, tabulate-ext}
 use Rattle.language.specs.Answer.{Answer, refused, Answered}
 use Rattle.language.specs.Rules.{isWithinLimits}
-use Rattle.sorting.specs.Listing.{Numbering}
+use Rattle.sorting.specs.Ascending.{ascends, sorted, rank}
+use Rattle.sorting.specs.Listing.{listed, Numbered, Numbering}
+use Rattle.sorting.proofs.Canonical.{canonical}
+use Rattle.sorting.proofs.Ranks.{rank-at}
+use Rattle.sorting.proofs.Orders.{bytes-total}
 use Rattle.dictionary.specs.Items.{textAt}
 use Rattle.buffer.specs.Numbers.{zeros, padded}
 use Rattle.register_form.specs.Dictionary.{Dictionary}
 use Rattle.register_form.specs.Form.{joined, formOf, stored}
 use Rattle.register_form.specs.Tests.{Bounded}
-use Rattle.register_form.specs.Draft.{assembled, drafted, writeInto}
+use Rattle.register_form.specs.Draft.{Draft, assembled, drafted, writeInto}
 use Rattle.buffer.proofs.Regions.{length-padded}
 use Rattle.register_form.proofs.Rows.{length-rows, row-in}
 use Rattle.register_form.proofs.Rules.{within}
@@ -29,11 +34,25 @@ use Rattle.register_form_bytes.specs.Writing.{rowsOf}
 use Rattle.register_form_bytes.proofs.Filled.{region-filled}
 use Rattle.register_form.specs.Tables.{Tables, draftIn}
 use Rattle.register_form_assembly.specs.Terms.{termBy, termsBy, Filling}
-use Rattle.register_form_write.specs.Writer.{fitsLimits, fitted, writeDictionary, Capacity, Found, pageBy, tabled, fitsCounted, writeCounted, foundOf, KeptWritten, TermsWritten, AssembledWritten, DraftWritten}
+use Rattle.register_form_write.specs.Writer.{fitsLimits, fitted, writeDictionary, Capacity, Found, pageBy, tabled, fitsCounted, writeCounted, foundOf, Writable, KeptWritten, TermsWritten, NumberedWritten, DraftWritten, OrderedWritten}
 use Rattle.register_form_write.proofs.Renumbered.{property-count, page-count}
 use Rattle.register_form_write.proofs.Tabling.{Renumbering, tabled-assembled, within as within-numbers}
 use Rattle.register_form_write.proofs.Counted.{uses-are, counted-are}
 use Rattle.register_form_write.proofs.Limited.{bounded-encoded}
+
+-- Items in ascending order have their own numbers.
+own-numbered : (f : ℕ → Bytes) (m : ℕ) (own : List ℕ) → ((i : ℕ) → i < m → getD own i 0 ≡ i) → ascends orderOf (tabulate m f) ≡ true → Numbered orderOf f m own m own
+unfolding listed
+own-numbered f m own at up =
+    let same : tabulate m f ≡ sorted orderOf (tabulate m f) = canonical orderOf bytes-total (tabulate m f) (tabulate m f) up (λ z. refl) in
+    let size = length-tabulate m f in
+    record {
+      is = tabulate-ext m (λ i. f (getD own i 0)) f (λ i b. ap f (at i b)) ∙ same;
+      within = λ j b. rw (at j b) b;
+      at = λ i b. at i b ∙ sym (ap₂ (rank orderOf) (sym (getD-tabulate m f [] i b)) (sym same) ∙ rank-at orderOf bytes-total (tabulate m f) i [] up (omega (arith, size)));
+      count = ap length (sym same) ∙ size;
+      most = omega arith;
+    }
 
 -- The table of terms: term f lies at 9 f.
 module _ (kinds numbers groups codes : List ℕ) (n : ℕ) (b : n ≤ 4096) where
@@ -124,8 +143,8 @@ terms-written t refs nx numbers table starts termRefs termNumbers scratch n nt h
           tables-answered t (foundOf refs nx numbers table starts (replicate 4096 9) termRefs nt termNumbers) r (w .capacity) p g h y o (w .bounded) k (omega (arith, q .most));
     }
 
--- Numbering the texts, where properties and pages are few; and where they are not.
-module _ (t : Tables) (h : Bytes) where
+-- Texts that are numbered, where properties and pages are few; and where they are not.
+module _ (t : Tables) (refs : List ℕ) (nx : ℕ) (numbers : List ℕ) (h : Bytes) where
   assembled-properties : length (assembled (draftIn t) .properties) ≡ t .np
   unfolding assembled
   assembled-properties = rw length-map (property-count t)
@@ -134,46 +153,55 @@ module _ (t : Tables) (h : Bytes) where
   unfolding assembled
   assembled-pages = rw length-map (page-count t)
 
-  over : fitsLimits (assembled (draftIn t)) ≡ false → AssembledWritten t h 7 h
+  over : fitsLimits (assembled (draftIn t)) ≡ false → NumberedWritten t refs nx numbers h 7 h
   unfolding writeDictionary
-  over e = record { is = λ w. record { number = rw e; bytes = rw e } }
+  over e = record { is = λ w x. record { number = rw e; bytes = rw e } }
 
-  pub many-properties : 64 < t .np → AssembledWritten t h 7 h
+  pub many-properties : 64 < t .np → NumberedWritten t refs nx numbers h 7 h
   unfolding fitsLimits
   many-properties b = over (rw (lt-leb (length (assembled (draftIn t) .properties)) 64 (omega (arith, assembled-properties))))
 
-  pub many-pages : t .np ≤ 64 → 256 < t .ng → AssembledWritten t h 7 h
+  pub many-pages : t .np ≤ 64 → 256 < t .ng → NumberedWritten t refs nx numbers h 7 h
   unfolding fitsLimits
   many-pages p b =
       over (rw (le-leb (length (assembled (draftIn t) .properties)) 64 (omega (arith, assembled-properties)), lt-leb (length (assembled (draftIn t) .pages)) 256 (omega (arith, assembled-pages))))
 
-  pub assembled-written : (refs numbers scratch : List ℕ) (n nx y : ℕ) (o : Bytes)
-      → t .np ≤ 64
-      → t .ng ≤ 256
+  pub numbered-written : (y : ℕ) (o : Bytes) → t .np ≤ 64 → t .ng ≤ 256 → TermsWritten t refs nx numbers h y o → NumberedWritten t refs nx numbers h y o
+  numbered-written y o p g k = record { is = λ w x. k .is w x p g }
+
+-- The register that a draft describes is the dictionary that is assembled of it, written.
+described : (t : Tables) (h : Bytes) (y : ℕ) (o : Bytes) → Draft (draftIn t) → Capacity t → (Writable t → Answered (writeDictionary (assembled (draftIn t)) h) h y o) → Answered (writeInto (drafted (draftIn t)) h) h y o
+unfolding writeDictionary fitted writeInto stored formOf fitsLimits
+described t h y o d c a =
+    let D = draftIn t in
+    let R = drafted D in
+    let e = assembled-is D d in
+    let f : isWithinLimits R ≡ fitsLimits (assembled D) = drafted-limits D d ∙ sym (rw (properties-many D d, pages-many D d)) in
+    let bounded : fitsLimits (assembled (draftIn t)) ≡ true → Bounded (assembled (draftIn t)) = λ i. rw e (bounded-encoded R (within R (f ∙ i))) in
+    let same : writeDictionary (assembled (draftIn t)) h ≡ writeInto R h = rw (f, ← e) in
+    subst (λ (z : Answer Bytes). Answered z h y o) same (a (record { draft = d; capacity = c; bounded = bounded }))
+
+module _ (t : Tables) (h : Bytes) (y : ℕ) (o : Bytes) where
+  -- Texts in any order.
+  pub draft-written : (refs numbers scratch : List ℕ) (n nx : ℕ)
       → Numbering orderOf (textAt (t .s) (t .starts) (t .lens)) (t .m) (replicate 4736 0) (replicate 4736 0) (replicate 4736 0) refs numbers scratch n
       → nx ≡ n
-      → TermsWritten t refs nx numbers h y o
-      → AssembledWritten t h y o
-  assembled-written refs numbers scratch n nx y o p g q d k =
+      → NumberedWritten t refs nx numbers h y o
+      → DraftWritten t h y o
+  draft-written refs numbers scratch n nx q d k =
       record {
-        is = λ w.
-            let b = w .capacity .texts in
+        is = λ z c.
+            let b = c .texts in
             let room : t .m ≤ length (replicate {A = ℕ} 4736 0) = omega (arith, length-replicate {A = ℕ} 4736 0) in
-            k .is w (rw d (q .good room room room)) p g;
+            described t h y o z c (λ w. k .is w (rw d (q .good room room room)));
       }
 
--- The register that the draft describes.
-pub draft-written : (t : Tables) (h : Bytes) (y : ℕ) (o : Bytes) → AssembledWritten t h y o → DraftWritten t h y o
-unfolding writeDictionary fitted writeInto stored formOf fitsLimits
-draft-written t h y o a =
-    record {
-      is = λ d c.
-          let D = draftIn t in
-          let R = drafted D in
-          let e = assembled-is D d in
-          let f : isWithinLimits R ≡ fitsLimits (assembled D) = drafted-limits D d ∙ sym (rw (properties-many D d, pages-many D d)) in
-          let bounded : fitsLimits (assembled (draftIn t)) ≡ true → Bounded (assembled (draftIn t)) = λ i. rw e (bounded-encoded R (within R (f ∙ i))) in
-          let answer = a .is (record { draft = d; capacity = c; bounded = bounded }) in
-          let same : writeDictionary (assembled (draftIn t)) h ≡ writeInto R h = rw (f, ← e) in
-          subst (λ (z : Answer Bytes). Answered z h y o) same answer;
-    }
+  -- Texts in ascending order.
+  pub ordered-written : (own : List ℕ) → Filling (λ i. i) (replicate 4736 0) (t .m) own → NumberedWritten t own (t .m) own h y o → OrderedWritten t h y o
+  ordered-written own l k =
+      record {
+        is = λ z c up.
+            let b = c .texts in
+            let at : (i : ℕ) → i < t .m → getD own i 0 ≡ i = λ i j. l .tabled .at i j (omega (arith, l .size, length-replicate {A = ℕ} 4736 0)) in
+            described t h y o z c (λ w. k .is w (own-numbered (textAt (t .s) (t .starts) (t .lens)) (t .m) own at up));
+      }

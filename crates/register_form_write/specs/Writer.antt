@@ -9,6 +9,7 @@ use Rattle.text.specs.Bytes.{Bytes, orderOf}
 use Rattle.text.specs.Table.{tabulate}
 use Rattle.language.specs.Answer.{Answer, refused, Answered}
 use Rattle.language.specs.Rules.{total}
+use Rattle.sorting.specs.Ascending.{ascends}
 use Rattle.sorting.specs.Listing.{listed, Numbered}
 use Rattle.dictionary.specs.Items.{textAt}
 use Rattle.buffer.specs.Numbers.{startsFrom}
@@ -118,9 +119,13 @@ pub record Writable (t : Tables) : Type 0 where
 pub record TermsWritten (t : Tables) (refs : List ℕ) (nx : ℕ) (numbers : List ℕ) (h : Bytes) (r : ℕ) (g : Bytes) : Type 0 where
   pub is : Writable t → Numbered orderOf (textAt (t .s) (t .starts) (t .lens)) (t .m) refs nx numbers → t .np ≤ 64 → t .ng ≤ 256 → Answered (writeDictionary (assembled (draftIn t)) h) h r g
 
--- What writing a draft answers: the dictionary that is assembled of it, and the register that it describes.
-pub record AssembledWritten (t : Tables) (h : Bytes) (r : ℕ) (g : Bytes) : Type 0 where
-  pub is : Writable t → Answered (writeDictionary (assembled (draftIn t)) h) h r g
+-- The same of any draft whose texts are numbered.
+pub record NumberedWritten (t : Tables) (refs : List ℕ) (nx : ℕ) (numbers : List ℕ) (h : Bytes) (r : ℕ) (g : Bytes) : Type 0 where
+  pub is : Writable t → Numbered orderOf (textAt (t .s) (t .starts) (t .lens)) (t .m) refs nx numbers → Answered (writeDictionary (assembled (draftIn t)) h) h r g
 
+-- What writing a draft answers: the register that it describes. Texts may come in any order, or in ascending order alone.
 pub record DraftWritten (t : Tables) (h : Bytes) (r : ℕ) (g : Bytes) : Type 0 where
   pub is : Draft (draftIn t) → Capacity t → Answered (writeInto (drafted (draftIn t)) h) h r g
+
+pub record OrderedWritten (t : Tables) (h : Bytes) (r : ℕ) (g : Bytes) : Type 0 where
+  pub is : Draft (draftIn t) → Capacity t → ascends orderOf (tabulate (t .m) (textAt (t .s) (t .starts) (t .lens))) ≡ true → Answered (writeInto (drafted (draftIn t)) h) h r g

@@ -1,10 +1,11 @@
 // The one writer of held registers: it assembles a draft and writes it, or refuses it and leaves every byte.
 ghost use Prim.Native.Nat.{ℕ};
 ghost use Rattle.register_form.specs.Tables.{tablesOf};
-ghost use Rattle.register_form_write.specs.Writer.{TermsWritten, AssembledWritten, DraftWritten};
+ghost use Rattle.register_form_write.specs.Writer.{TermsWritten, NumberedWritten, DraftWritten, OrderedWritten};
 use crate::kept::write_kept;
 use dictionary::number;
 use register_form::layout;
+use register_form_assembly::terms::put_own;
 use register_form_assembly::terms::put_term_starts;
 use register_form_assembly::terms::put_terms;
 
@@ -83,12 +84,11 @@ fn write_terms(
     )
 }
 
-// Writes the dictionary that is assembled of a draft.
-fn write_assembled(
+// Writes a draft whose texts are numbered.
+fn write_numbered(
     s: &[u8],
     starts: &[u32],
     lens: &[u16],
-    m: u16,
     kinds: &[u8],
     names: &[u16],
     np: u16,
@@ -99,9 +99,12 @@ fn write_assembled(
     groups: &[u8],
     codes: &[u64],
     terms: u16,
+    refs: &[u16],
+    nx: u16,
+    numbers: &[u16],
     held: &mut [u8],
 ) -> usize
-    ensures { λ r. ⌜ AssembledWritten (tablesOf (now (s .entry)) (now (starts .entry)) (now (lens .entry)) m (now (kinds .entry)) (now (names .entry)) np (now (identifiers .entry)) (now (firsts .entry)) ng (now (uses .entry)) (now (groups .entry)) (now (codes .entry)) terms) (now (held .entry)) r (now (held .exit)) ⌝ }
+    ensures { λ r. ⌜ ((m : ℕ) → NumberedWritten (tablesOf (now (s .entry)) (now (starts .entry)) (now (lens .entry)) m (now (kinds .entry)) (now (names .entry)) np (now (identifiers .entry)) (now (firsts .entry)) ng (now (uses .entry)) (now (groups .entry)) (now (codes .entry)) terms) (now (refs .entry)) nx (now (numbers .entry)) (now (held .entry)) r (now (held .exit))) ⌝ }
 {
     if layout::MOST_PROPERTIES < np {
         return OVER_LIMIT;
@@ -109,10 +112,6 @@ fn write_assembled(
     if layout::MOST_PAGES < ng {
         return OVER_LIMIT;
     }
-    let mut refs = [0u16; layout::DRAFT_TEXTS];
-    let mut numbers = [0u16; layout::DRAFT_TEXTS];
-    let mut scratch = [0u16; layout::DRAFT_TEXTS];
-    let nx = number(s, starts, lens, m, &mut refs, &mut numbers, &mut scratch) as u16;
     write_terms(
         s,
         starts,
@@ -127,9 +126,9 @@ fn write_assembled(
         groups,
         codes,
         terms,
-        &refs,
+        refs,
         nx,
-        &numbers,
+        numbers,
         held,
     )
 }
@@ -154,11 +153,14 @@ pub fn write_draft(
 ) -> usize
     ensures { λ r. ⌜ DraftWritten (tablesOf (now (s .entry)) (now (starts .entry)) (now (lens .entry)) m (now (kinds .entry)) (now (names .entry)) np (now (identifiers .entry)) (now (firsts .entry)) ng (now (uses .entry)) (now (groups .entry)) (now (codes .entry)) terms) (now (held .entry)) r (now (held .exit)) ⌝ }
 {
-    write_assembled(
+    let mut refs = [0u16; layout::DRAFT_TEXTS];
+    let mut numbers = [0u16; layout::DRAFT_TEXTS];
+    let mut scratch = [0u16; layout::DRAFT_TEXTS];
+    let nx = number(s, starts, lens, m, &mut refs, &mut numbers, &mut scratch) as u16;
+    write_numbered(
         s,
         starts,
         lens,
-        m,
         kinds,
         names,
         np,
@@ -169,6 +171,52 @@ pub fn write_draft(
         groups,
         codes,
         terms,
+        &refs,
+        nx,
+        &numbers,
+        held,
+    )
+}
+
+// The same of a draft whose texts ascend: each has its own number.
+pub fn write_ordered(
+    s: &[u8],
+    starts: &[u32],
+    lens: &[u16],
+    m: u16,
+    kinds: &[u8],
+    names: &[u16],
+    np: u16,
+    identifiers: &[u16],
+    firsts: &[u16],
+    ng: u16,
+    uses: &[u16],
+    groups: &[u8],
+    codes: &[u64],
+    terms: u16,
+    held: &mut [u8],
+) -> usize
+    ensures { λ r. ⌜ OrderedWritten (tablesOf (now (s .entry)) (now (starts .entry)) (now (lens .entry)) m (now (kinds .entry)) (now (names .entry)) np (now (identifiers .entry)) (now (firsts .entry)) ng (now (uses .entry)) (now (groups .entry)) (now (codes .entry)) terms) (now (held .entry)) r (now (held .exit)) ⌝ }
+{
+    let mut own = [0u16; layout::DRAFT_TEXTS];
+    put_own(&mut own, m);
+    write_numbered(
+        s,
+        starts,
+        lens,
+        kinds,
+        names,
+        np,
+        identifiers,
+        firsts,
+        ng,
+        uses,
+        groups,
+        codes,
+        terms,
+        &own,
+        m,
+        &own,
         held,
     )
 }

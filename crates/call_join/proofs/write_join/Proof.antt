@@ -27,35 +27,35 @@ slice-aggregate-draft-join-7 c = search needs
 draft-join-requires : tie.Need-draft-join-requires
 draft-join-requires c κs = search needs
 
-slice-aggregate-write-draft : tie.Need-slice-aggregate-write-draft
-slice-aggregate-write-draft c = search needs
+slice-aggregate-write-ordered : tie.Need-slice-aggregate-write-ordered
+slice-aggregate-write-ordered c = search needs
 
-slice-aggregate-write-draft-2 : tie.Need-slice-aggregate-write-draft-2
-slice-aggregate-write-draft-2 c = search needs
+slice-aggregate-write-ordered-2 : tie.Need-slice-aggregate-write-ordered-2
+slice-aggregate-write-ordered-2 c = search needs
 
-slice-aggregate-write-draft-3 : tie.Need-slice-aggregate-write-draft-3
-slice-aggregate-write-draft-3 c = search needs
+slice-aggregate-write-ordered-3 : tie.Need-slice-aggregate-write-ordered-3
+slice-aggregate-write-ordered-3 c = search needs
 
-slice-aggregate-write-draft-4 : tie.Need-slice-aggregate-write-draft-4
-slice-aggregate-write-draft-4 c = search needs
+slice-aggregate-write-ordered-4 : tie.Need-slice-aggregate-write-ordered-4
+slice-aggregate-write-ordered-4 c = search needs
 
-slice-aggregate-write-draft-5 : tie.Need-slice-aggregate-write-draft-5
-slice-aggregate-write-draft-5 c = search needs
+slice-aggregate-write-ordered-5 : tie.Need-slice-aggregate-write-ordered-5
+slice-aggregate-write-ordered-5 c = search needs
 
-slice-aggregate-write-draft-6 : tie.Need-slice-aggregate-write-draft-6
-slice-aggregate-write-draft-6 c = search needs
+slice-aggregate-write-ordered-6 : tie.Need-slice-aggregate-write-ordered-6
+slice-aggregate-write-ordered-6 c = search needs
 
-slice-aggregate-write-draft-7 : tie.Need-slice-aggregate-write-draft-7
-slice-aggregate-write-draft-7 c = search needs
+slice-aggregate-write-ordered-7 : tie.Need-slice-aggregate-write-ordered-7
+slice-aggregate-write-ordered-7 c = search needs
 
-write-draft-requires : tie.Need-write-draft-requires
-write-draft-requires c κs = search needs
+write-ordered-requires : tie.Need-write-ordered-requires
+write-ordered-requires c κs = search needs
 
 same-length : tie.Need-same-length
 same-length c = search needs
 
 returns : tie.Need-returns
-returns c = join-written _ _ _ _ _ _ _ _ _ _ _ _ _ _ _ _ _ _ _ _ _ (c .before .before .before .before .before .before .before .before .before .before .before .before .before .before .before .before .before .before .draft-join .ensures) (c .before .before .write-draft .ensures)
+returns c = join-written _ _ _ _ _ _ _ _ _ _ _ _ _ _ _ _ _ _ _ _ _ (c .before .before .before .before .before .before .before .before .before .before .before .before .before .before .before .before .before .before .draft-join .ensures) (c .before .before .write-ordered .ensures)
 
 pub write-join-spec : {M : Type 1} → statement M
 write-join-spec =
@@ -69,13 +69,13 @@ write-join-spec =
     slice-aggregate-draft-join-6
     slice-aggregate-draft-join-7
     draft-join-requires
-    slice-aggregate-write-draft
-    slice-aggregate-write-draft-2
-    slice-aggregate-write-draft-3
-    slice-aggregate-write-draft-4
-    slice-aggregate-write-draft-5
-    slice-aggregate-write-draft-6
-    slice-aggregate-write-draft-7
-    write-draft-requires
+    slice-aggregate-write-ordered
+    slice-aggregate-write-ordered-2
+    slice-aggregate-write-ordered-3
+    slice-aggregate-write-ordered-4
+    slice-aggregate-write-ordered-5
+    slice-aggregate-write-ordered-6
+    slice-aggregate-write-ordered-7
+    write-ordered-requires
     same-length
     returns)

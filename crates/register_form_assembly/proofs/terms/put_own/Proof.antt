@@ -1,16 +1,16 @@
 use Prim.Native.Nat.{_-_}
 use mathlib.Core.Path.{refl}
 use Rattle.register_form_assembly.specs.Terms.{Filling}
 use Rattle.register_form_assembly.proofs.Coding.{filling-none, filling-more, filling-all}
 use borrow.Author.Needs.{needs}
-use Rattle.call_register.proofs.put_own.Statement.{statement}
-use Rattle.call_register.proofs.put_own.Tie as tie
+use Rattle.register_form_assembly.proofs.terms.put_own.Statement.{statement}
+use Rattle.register_form_assembly.proofs.terms.put_own.Tie as tie
 
 abbrev Inv-loop : tie.InvT-loop
-Inv-loop uses₀ n f₀ uses f = Filling (λ g. g) uses₀ f uses
+Inv-loop t₀ n i₀ t i = Filling (λ j. j) t₀ i t
 
 abbrev μ-loop : tie.MeasureT-loop
-μ-loop uses₀ n f₀ uses f = n - f
+μ-loop t₀ n i₀ t i = n - i
 
 loop-holds : tie.Need-loop-holds Inv-loop μ-loop
 loop-holds c = filling-none _ _
@@ -21,8 +21,8 @@ widen-requires c κs = search needs
 put-requires : tie.Need-put-requires Inv-loop μ-loop
 put-requires c κs = search needs
 
-add-f : tie.Need-add-f Inv-loop μ-loop
-add-f c = search needs
+add-i : tie.Need-add-i Inv-loop μ-loop
+add-i c = search needs
 
 loop-less : tie.Need-loop-less Inv-loop μ-loop
 loop-less c = search needs
@@ -45,7 +45,7 @@ put-own-spec =
     loop-holds
     widen-requires
     put-requires
-    add-f
+    add-i
     loop-less
     loop-again
     same-length
