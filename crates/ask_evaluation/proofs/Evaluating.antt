@@ -14,6 +14,7 @@ use Rattle.text.specs.Table.{tabulate}
 use Rattle.text.specs.declared.Span.{Span}
 use Rattle.text.proofs.Tables.{getD-tabulate, tabulate-ext}
 use Rattle.pageset.specs.declared.PageSet.{PageSet}
+use Rattle.pageset.specs.Marks.{marksFrom}
 use Rattle.pageset.proofs.Laws.{tabulate-both}
 use Rattle.language.specs.Answer.{_>>=_}
 use Rattle.language.specs.Core.{Core}
@@ -51,7 +52,7 @@ module _ (R : Register) (q : Bytes) where
 
   -- a selector that takes nothing from the stack
   means-leaf : (at : ℕ) (m : Node) (k : Core.Selector) (r : Evaluated) → ((st : List Core) → stepped m st ≡ some (Core.select k ∷ st))
-      → r .set .marks ≡ tabulate 256 (λ j. ltb j (pagesOf R) && S k noMixed R (pageIn R j)) → r .next ≡ at → Means R (pagesOf R) q (suc at) (stackAt q at >>= stepped m) r
+      → marksFrom (r .set .words) ≡ tabulate 256 (λ j. ltb j (pagesOf R) && S k noMixed R (pageIn R j)) → r .next ≡ at → Means R (pagesOf R) q (suc at) (stackAt q at >>= stepped m) r
   unfolding Means marksOf Q
   means-leaf at m k r f e g = go (stackAt q at) refl
     where
@@ -61,13 +62,13 @@ module _ (R : Register) (q : Bytes) where
 
   -- a subquery, by what its query means
   means-within : (at : ℕ) (x : Bytes) (o : Option (List Core)) (inner r : Evaluated) → pagesOf R ≤ 256 → Means R (pagesOf R) q at o inner
-      → ((test : Page → Bool) → Agrees R (inner .set .marks) test → r .set .marks ≡ tabulate 256 (λ j. ltb j (pagesOf R) && holds x (follows noMixed R test) (pageIn R j)))
+      → ((test : Page → Bool) → Agrees R (marksFrom (inner .set .words)) test → marksFrom (r .set .words) ≡ tabulate 256 (λ j. ltb j (pagesOf R) && holds x (follows noMixed R test) (pageIn R j)))
       → r .next ≡ inner .next → Means R (pagesOf R) q (suc at) (o >>= stepped (Node.subquery x)) r
   unfolding Means marksOf Q stepped
   means-within at x none inner r few i f g = tt
   means-within at x (some []) inner r few i f g = tt
   means-within at x (some (c ∷ st)) inner r few i f g =
-      (f (λ p. Q c noMixed R p) (marks-agree c (inner .set .marks) few (i .0)), rw g (i .1), omega (arith, i .2))
+      (f (λ p. Q c noMixed R p) (marks-agree c (marksFrom (inner .set .words)) few (i .0)), rw g (i .1), omega (arith, i .2))
 
   -- a node that joins two queries by k, which means op
   module _ (m : Node) (k : Core → Core → Core) (op : Bool → Bool → Bool) (j : Joins R m k op) where
@@ -89,14 +90,14 @@ module _ (R : Register) (q : Bytes) where
     means-cut at last (some (b ∷ a ∷ st)) right r i l = absurd (omega (arith, i .2))
 
     means-both : (at last : ℕ) (o : Option (List Core)) (right left r : Evaluated) → last < at → Means R (pagesOf R) q last o right → Means R (pagesOf R) q (right .next) (stackAt q (right .next)) left
-        → r .set .marks ≡ tabulate 256 (λ i. op (getD (left .set .marks) i false) (getD (right .set .marks) i false)) → r .next ≡ left .next → Means R (pagesOf R) q at (o >>= stepped m) r
+        → marksFrom (r .set .words) ≡ tabulate 256 (λ i. op (getD (marksFrom (left .set .words)) i false) (getD (marksFrom (right .set .words)) i false)) → r .next ≡ left .next → Means R (pagesOf R) q at (o >>= stepped m) r
     unfolding Means
     means-both at last none right left r l i w e g = tt
     means-both at last (some []) right left r l i w e g = rw (j .empty) tt
     means-both at last (some (b ∷ [])) right left r l i w e g = rw (j .single b) tt
     means-both at last (some (b ∷ a ∷ st)) right left r l i w e g =
         let z : Means R (pagesOf R) q (right .next) (some (a ∷ st)) left = rw (i .1) at w in
-        rw (j .pair b a st) (e ∙ marks-both a b (left .set .marks) (right .set .marks) (z .0) (i .0), rw g (z .1), omega (arith, i .2, z .2))
+        rw (j .pair b a st) (e ∙ marks-both a b (marksFrom (left .set .words)) (marksFrom (right .set .words)) (z .0) (i .0), rw g (z .1), omega (arith, i .2, z .2))
 
 and-joins : (R : Register) → Joins R Node.conjunction Core.conjunction _&&_
 unfolding stepped Q
@@ -122,18 +123,18 @@ named q p = partOf (heapIn q) p
 module _ (h : Bytes) (places : List ℕ) (q : Bytes) where
   -- eval_selector
   module _ (at : ℕ) (selector : Selector) (b : Bool) (is : b ≡ isSubquery selector) where
-    pub eval-leaf : (inner set : PageSet) → b ≡ false → inner .marks ≡ replicate 256 false
-        → Selects h places (heapIn q) selector (inner .marks) (set .marks)
+    pub eval-leaf : (inner set : PageSet) → b ≡ false → marksFrom (inner .words) ≡ replicate 256 false
+        → Selects h places (heapIn q) selector (marksFrom (inner .words)) (marksFrom (set .words))
         → Evaluates h places q (suc at) (stackWith q at selector) (record { set = set; next = at })
     unfolding Evaluates Selects S stepped
     eval-leaf inner set e f g R o =
-        go selector (sym is ∙ e) (g R o (λ p. false) (no-pages R (inner .marks) f))
+        go selector (sym is ∙ e) (g R o (λ p. false) (no-pages R (marksFrom (inner .words)) f))
       where
         leaf : (m : Node) (k : Core.Selector) → ((st : List Core) → stepped m st ≡ some (Core.select k ∷ st))
-            → set .marks ≡ tabulate 256 (λ j. ltb j (pagesOf R) && S k noMixed R (pageIn R j)) → Means R (pagesOf R) q (suc at) (stackAt q at >>= stepped m) (record { set = set; next = at })
+            → marksFrom (set .words) ≡ tabulate 256 (λ j. ltb j (pagesOf R) && S k noMixed R (pageIn R j)) → Means R (pagesOf R) q (suc at) (stackAt q at >>= stepped m) (record { set = set; next = at })
         leaf m k p z = means-leaf R q at m k (record { set = set; next = at }) p z refl
 
-        go : (y : Selector) → isSubquery y ≡ false → set .marks ≡ tabulate 256 (λ j. ltb j (pagesOf R) && matches (heapIn q) (named q (nameSpan y)) R (λ p. false) y (pageIn R j))
+        go : (y : Selector) → isSubquery y ≡ false → marksFrom (set .words) ≡ tabulate 256 (λ j. ltb j (pagesOf R) && matches (heapIn q) (named q (nameSpan y)) R (λ p. false) y (pageIn R j))
             → Means R (pagesOf R) q (suc at) (stackWith q at y) (record { set = set; next = at })
         go (Selector.Category p) w z = leaf (Node.category (named q p)) (Core.Selector.category (named q p)) (λ st. refl) z
         go (Selector.Namespace p) w z = leaf (Node.namespace (named q p)) (Core.Selector.namespace (named q p)) (λ st. refl) z
@@ -144,13 +145,13 @@ module _ (h : Bytes) (places : List ℕ) (q : Bytes) where
             leaf (Node.value (named q p) o (constantBy (heapIn q) k)) (Core.Selector.value (named q p) o (constantBy (heapIn q) k)) (λ st. refl) z
 
     pub eval-within : (inner : Evaluated) (set : PageSet) → b ≡ true → Evaluates h places q at (stackAt q at) inner
-        → Selects h places (heapIn q) selector (inner .set .marks) (set .marks)
+        → Selects h places (heapIn q) selector (marksFrom (inner .set .words)) (marksFrom (set .words))
         → Evaluates h places q (suc at) (stackWith q at selector) (record { set = set; next = inner .next })
     unfolding Evaluates Selects
     eval-within inner set e i g R o = go selector (sym is ∙ e) (g R o)
       where
         go : (y : Selector) → isSubquery y ≡ true
-            → ((test : Page → Bool) → Agrees R (inner .set .marks) test → set .marks ≡ tabulate 256 (λ j. ltb j (pagesOf R) && matches (heapIn q) (partOf (heapIn q) (nameSpan y)) R test y (pageIn R j)))
+            → ((test : Page → Bool) → Agrees R (marksFrom (inner .set .words)) test → marksFrom (set .words) ≡ tabulate 256 (λ j. ltb j (pagesOf R) && matches (heapIn q) (partOf (heapIn q) (nameSpan y)) R test y (pageIn R j)))
             → Means R (pagesOf R) q (suc at) (stackWith q at y) (record { set = set; next = inner .next })
         go (Selector.Category p) w f = absurd (false≢true w)
         go (Selector.Namespace p) w f = absurd (false≢true w)
@@ -202,12 +203,12 @@ module _ (h : Bytes) (places : List ℕ) (q : Bytes) where
             go Connective.Select w = absurd (true≢false w)
 
         pub eval-join : (left : Evaluated) (set : PageSet) → Evaluates h places q (right .next) (stackAt q (right .next)) left
-            → Joined (node .connective) (left .set .marks) (right .set .marks) (set .marks)
+            → Joined (node .connective) (marksFrom (left .set .words)) (marksFrom (right .set .words)) (marksFrom (set .words))
             → Evaluates h places q at (stackAt q at) (record { set = set; next = left .next })
         unfolding Evaluates
         eval-join left set g w R o = rw stack-here (go (node .connective) (sym is ∙ e) w)
           where
-            go : (k : Connective) → isSelection k ≡ false → Joined k (left .set .marks) (right .set .marks) (set .marks)
+            go : (k : Connective) → isSelection k ≡ false → Joined k (marksFrom (left .set .words)) (marksFrom (right .set .words)) (marksFrom (set .words))
                 → Means R (pagesOf R) q at (stackAt q (at - 1) >>= stepped (joinedBy (heapIn q) k (node .selector))) (record { set = set; next = left .next })
             go Connective.And w z =
                 means-both R q _ _ _ (and-joins R) at (at - 1) (stackAt q (at - 1)) right left (record { set = set; next = left .next }) (omega arith) (i R o) (g R o) z refl

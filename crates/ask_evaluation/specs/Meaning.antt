@@ -10,6 +10,7 @@ use Rattle.text.specs.Bytes.{Bytes, same, any}
 use Rattle.text.specs.Parts.{partOf}
 use Rattle.text.specs.Table.{tabulate}
 use Rattle.text.specs.declared.Span.{Span}
+use Rattle.pageset.specs.Marks.{marksFrom}
 use Rattle.language.specs.Answer.{_>>=_}
 use Rattle.language.specs.Core.{Core}
 use Rattle.language.specs.Register.{Page, Register, holds}
@@ -84,7 +85,7 @@ marksOf R n c = tabulate 256 (λ i. ltb i n && selects c R (pageIn R i))
 unfoldable pub Means : Register → ℕ → Bytes → ℕ → Option (List Core) → Evaluated → Type 0
 Means R n q at none r = Unit {0}
 Means R n q at (some []) r = Unit {0}
-Means R n q at (some (c ∷ st)) r = (r .set .marks ≡ marksOf R n c) × (stackAt q (r .next) ≡ some st) × (r .next < at)
+Means R n q at (some (c ∷ st)) r = (marksFrom (r .set .words) ≡ marksOf R n c) × (stackAt q (r .next) ≡ some st) × (r .next < at)
 
 unfoldable pub Evaluates : Bytes → List ℕ → Bytes → ℕ → Option (List Core) → Evaluated → Type 0
 Evaluates h places q at o r = (R : Register) → Opened h places R → Means R (length (R .pages)) q at o r

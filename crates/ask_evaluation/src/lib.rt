@@ -1,6 +1,7 @@
 // The evaluation of core queries: page sets from the nodes of a held query.
 ghost use mathlib.Core.Path.{_≡_};
 ghost use Prim.Native.Nat.{suc};
+ghost use Rattle.pageset.specs.Marks.{marksFrom};
 ghost use Rattle.query_core.specs.Held.{heapIn};
 ghost use Rattle.query_core.specs.Stack.{stackAt};
 ghost use Rattle.ask_evaluation.specs.Meaning.{Capped, nameSpan, isSubquery, isSelection, Selects, Joined, Evaluates, stackWith};
@@ -89,7 +90,7 @@ fn is_selection(connective: Connective) -> bool
 // The pages that match a selector; inner are those that its subquery selects. With one caller this was compiled into the recursion,
 // its tables of terms in the frame of each of 256 levels: 1.5 MB of stack. So both ways of eval_selector call it.
 fn select(q: &[u8], selector: Selector, inner: PageSet, h: &[u8], places: &[u16]) -> PageSet
-    ensures { λ r. ⌜ Selects (now (h .entry)) (now (places .entry)) (heapIn (now (q .entry))) selector (inner .marks) (r .marks) ⌝ }
+    ensures { λ r. ⌜ Selects (now (h .entry)) (now (places .entry)) (heapIn (now (q .entry))) selector (marksFrom (inner .words)) (marksFrom (r .words)) ⌝ }
 {
     let heap = query_heap(q);
     let p = name_of(selector);
@@ -99,8 +100,8 @@ fn select(q: &[u8], selector: Selector, inner: PageSet, h: &[u8], places: &[u16]
         Selector::Namespace(_) => pages_named(h, NameTest::Namespace, x),
         Selector::Existence(_) => pages_with_property(h, x),
         Selector::Subquery(_) => {
-            let marks = inner.marks;
-            pages_with_link(h, places, x, &marks)
+            let words = inner.words;
+            pages_with_link(h, places, x, &words)
         }
         Selector::Article(o, _) => pages_named(h, NameTest::Article(o), x),
         Selector::Value(_, o, v) => pages_with_value(h, x, o, v, heap),
@@ -109,7 +110,7 @@ fn select(q: &[u8], selector: Selector, inner: PageSet, h: &[u8], places: &[u16]
 
 // Two sets joined by a connective.
 fn join(connective: Connective, a: PageSet, b: PageSet) -> PageSet
-    ensures { λ r. ⌜ Joined connective (a .marks) (b .marks) (r .marks) ⌝ }
+    ensures { λ r. ⌜ Joined connective (marksFrom (a .words)) (marksFrom (b .words)) (marksFrom (r .words)) ⌝ }
 {
     match connective {
         Connective::And => a.intersection(b),

@@ -12,6 +12,7 @@ use Rattle.text.specs.Bytes.{Bytes, part}
 use Rattle.text.specs.Table.{tabulate, countTo}
 use Rattle.text.proofs.Tables.{length-tabulate}
 use Rattle.pageset.specs.declared.PageSet.{PageSet}
+use Rattle.pageset.specs.Marks.{marksFrom}
 use Rattle.language.specs.Answer.{Answer, refused, accepted, orRefuse, andThen, onlyIf}
 use Rattle.language.specs.Core.{Core}
 use Rattle.language.specs.Register.{Register}
@@ -81,21 +82,21 @@ module _ (h : Bytes) (places : List ℕ) (q b : Bytes) (m : Bool) (mixed : Misma
     run-short n w f g l R v c k =
         answers _ (refused 24) b b _ (run-is R v c k ∙ rw (lt-ltb (length b) (length (R .pages)) (omega (arith, pages-are v)))) refl refl
 
-    pub run-done : (n w : ℕ) (set : PageSet) (count : ℕ) (after : Bytes) → n ≡ pageCount h → w ≡ n → w ≤ length b → Selected h places q (set .marks)
-        → MarksWritten (set .marks) n b after → count ≡ countTo 256 (λ i. getD (set .marks) i false)
+    pub run-done : (n w : ℕ) (set : PageSet) (count : ℕ) (after : Bytes) → n ≡ pageCount h → w ≡ n → w ≤ length b → Selected h places q (marksFrom (set .words))
+        → MarksWritten (marksFrom (set .words)) n b after → count ≡ countTo 256 (λ i. getD (marksFrom (set .words)) i false)
         → Runs h places q b after (Asked.Marked count)
     unfolding Runs Selected MarksWritten
     run-done n w set count after f g l i x z R v c k =
         let size : n ≡ length (R .pages) = f ∙ pages-are v in
         let few : n ≤ 256 = omega (arith, pages-few v) in
-        let marks : set .marks ≡ marksOf R n c = i R v c k ∙ ap (λ j. marksOf R j c) (sym size) in
+        let marks : marksFrom (set .words) ≡ marksOf R n c = i R v c k ∙ ap (λ j. marksOf R j c) (sym size) in
         answers _ (accepted (map (selects c R) (R .pages))) b after _
         (run-is R v c k ∙ rw (le-ltb (length b) (length (R .pages)) (omega arith)))
-        (ap Asked.Marked (z ∙ marks-count R c n size few (set .marks) marks))
-        (x few (omega arith) ∙ ap₂ (λ x y. x ++ drop y b) (marks-bytes R c n size few (set .marks) marks) (size ∙ sym (length-map (R .pages) (selects c R))))
+        (ap Asked.Marked (z ∙ marks-count R c n size few (marksFrom (set .words)) marks))
+        (x few (omega arith) ∙ ap₂ (λ x y. x ++ drop y b) (marks-bytes R c n size few (marksFrom (set .words)) marks) (size ∙ sym (length-map (R .pages) (selects c R))))
 
 -- select
-pub selected-by : (h : Bytes) (places : List ℕ) (q : Bytes) (n : ℕ) (r : Evaluated) → n ≡ countIn q → Evaluates h places q n (stackAt q n) r → Selected h places q (r .set .marks)
+pub selected-by : (h : Bytes) (places : List ℕ) (q : Bytes) (n : ℕ) (r : Evaluated) → n ≡ countIn q → Evaluates h places q n (stackAt q n) r → Selected h places q (marksFrom (r .set .words))
 unfolding Selected Evaluates Means
 selected-by h places q n r is found R v c k = means .0
   where

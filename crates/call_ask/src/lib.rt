@@ -2,6 +2,7 @@
 ghost use mathlib.Core.Path.{_≡_};
 ghost use mathlib.Core.Bool.{Bool};
 ghost use Prim.Native.Nat.{ℕ};
+ghost use Rattle.pageset.specs.Marks.{marksFrom};
 ghost use Rattle.text.specs.Table.{bit};
 ghost use Rattle.call_ask.specs.Call.{Asks};
 ghost use Rattle.call_ask.specs.Running.{MarksWritten, Selected, Runs};
@@ -10,6 +11,7 @@ use ask_evaluation::eval;
 use ask_evaluation::mismatch::has_mismatch;
 use buffer::two_at;
 use pageset::PageSet;
+use pageset::mark_at;
 use query_core::is_query;
 use register_form::REGISTER_BYTES;
 use register_form::page_count;
@@ -31,23 +33,23 @@ fn byte_of(b: bool) -> u8
 
 // Writes the first n marks, a byte each, where there is room.
 fn write_marks(set: PageSet, n: u16, out: &mut [u8])
-    ensures { λ _. ⌜ MarksWritten (set .marks) n (now (out .entry)) (now (out .exit)) ⌝ }
+    ensures { λ _. ⌜ MarksWritten (marksFrom (set .words)) n (now (out .entry)) (now (out .exit)) ⌝ }
 {
     let end = widen(capped(n));
     if out.len() < end {
         return;
     }
-    let marks = set.marks;
+    let words = set.words;
     let mut i: usize = 0;
     while i < end {
-        out[i] = byte_of(marks[i]);
+        out[i] = byte_of(mark_at(&words, i));
         i += 1;
     }
 }
 
 // The pages that a held query selects.
 fn select(q: &[u8], h: &[u8], places: &[u16]) -> PageSet
-    ensures { λ r. ⌜ Selected (now (h .entry)) (now (places .entry)) (now (q .entry)) (r .marks) ⌝ }
+    ensures { λ r. ⌜ Selected (now (h .entry)) (now (places .entry)) (now (q .entry)) (marksFrom (r .words)) ⌝ }
 {
     let n = widen(two_at(q, 0));
     let found = eval(q, n, h, places);

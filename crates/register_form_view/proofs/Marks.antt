@@ -12,6 +12,7 @@ use Rattle.text.specs.Bytes.{Bytes, any}
 use Rattle.text.specs.Table.{tabulate}
 use Rattle.text.proofs.Tables.{length-tabulate, getD-tabulate, tabulate-ext, is-tabulate}
 use Rattle.pageset.specs.declared.PageSet.{PageSet}
+use Rattle.pageset.specs.Marks.{marksFrom}
 use Rattle.pageset.proofs.Laws.{tabulate-none}
 use Rattle.language.proofs.Members.{and-true}
 use Rattle.register_form.specs.Form.{formStart}
@@ -74,10 +75,10 @@ goes-less i n m e = let l : i < n = goes-on i n m e .0 in omega arith
 
 -- A loop that takes into a set each of the first n pages that passes: at its start, after a turn, and at its end.
 abbrev pub Taken : ℕ → (ℕ → Bool) → ℕ → PageSet → Type 0
-Taken n f i set = set .marks ≡ tabulate 256 (λ j. ltb j i && (ltb j n && f j))
+Taken n f i set = marksFrom (set .words) ≡ tabulate 256 (λ j. ltb j i && (ltb j n && f j))
 
-pub taken-none : (n : ℕ) (f : ℕ → Bool) (s : PageSet) → s .marks ≡ replicate 256 false → Taken n f 0 s
-taken-none n f s e = marks-none 256 _ (s .marks) 0 (λ j l. absurd (omega arith)) e
+pub taken-none : (n : ℕ) (f : ℕ → Bool) (s : PageSet) → marksFrom (s .words) ≡ replicate 256 false → Taken n f 0 s
+taken-none n f s e = marks-none 256 _ (marksFrom (s .words)) 0 (λ j l. absurd (omega arith)) e
 
 module _ (n : ℕ) (f : ℕ → Bool) (s : PageSet) (i : ℕ) (so-far : Taken n f i s) where
   -- the page in place i passes, or not
@@ -85,15 +86,15 @@ module _ (n : ℕ) (f : ℕ → Bool) (s : PageSet) (i : ℕ) (so-far : Taken n 
     here : (ltb i n && f i) ≡ b
     here = rw (lt-ltb i n (goes-on i n 256 t .0)) (sym is)
 
-    pub taken-with : (r : PageSet) (at : ℕ) → b ≡ true → at ≡ i → r .marks ≡ set (s .marks) at true → u ≡ r → Taken n f (i + 1) u
+    pub taken-with : (r : PageSet) (at : ℕ) → b ≡ true → at ≡ i → marksFrom (r .words) ≡ set (marksFrom (s .words)) at true → u ≡ r → Taken n f (i + 1) u
     taken-with r at y w g q =
-        ap (λ (v : PageSet). v .marks) q ∙ g ∙ rw w (marks-more 256 _ (s .marks) i true (goes-on i n 256 t .1) (sym (here ∙ y)) so-far)
+        ap (λ (v : PageSet). marksFrom (v .words)) q ∙ g ∙ rw w (marks-more 256 _ (marksFrom (s .words)) i true (goes-on i n 256 t .1) (sym (here ∙ y)) so-far)
 
     pub taken-same : b ≡ false → u ≡ s → Taken n f (i + 1) u
-    taken-same y q = ap (λ (v : PageSet). v .marks) q ∙ marks-skip 256 _ (s .marks) i (here ∙ y) so-far
+    taken-same y q = ap (λ (v : PageSet). marksFrom (v .words)) q ∙ marks-skip 256 _ (marksFrom (s .words)) i (here ∙ y) so-far
 
-  pub taken-all : (c : ℕ) → ltb i n && ltb i 256 ≡ false → n ≡ c → s .marks ≡ tabulate 256 (λ j. ltb j c && f j)
-  taken-all c stop e = rw (← e) (marks-all 256 _ (s .marks) i n (λ j k. rw (le-ltb j n k)) stop so-far)
+  pub taken-all : (c : ℕ) → ltb i n && ltb i 256 ≡ false → n ≡ c → marksFrom (s .words) ≡ tabulate 256 (λ j. ltb j c && f j)
+  taken-all c stop e = rw (← e) (marks-all 256 _ (marksFrom (s .words)) i n (λ j k. rw (le-ltb j n k)) stop so-far)
 
 -- One of the numbers in the bytes of page i's forms passes.
 pub form-passes : (h : Bytes) (p : ℕ → Bool) (i start end : ℕ) (forms : Bytes) (b : Bool) → start ≡ formStart h i → end ≡ formStart h (suc i) → forms ≡ formBytes h start end → b ≡ any p (numbersIn forms) → b ≡ formPasses h p i

@@ -4,6 +4,7 @@ ghost use mathlib.Core.Bool.{false, _&&_};
 ghost use lib.ListN.{getD};
 ghost use Rattle.text.specs.Bytes.{any};
 ghost use Rattle.text.specs.Table.{tabulate};
+ghost use Rattle.pageset.specs.Marks.{marksFrom};
 ghost use Rattle.register_form_view.specs.Ranges.{within};
 ghost use Rattle.register_form_view.specs.View.{textNumber, standsAt, marked, leadsInto, formBytes, numbersIn};
 use crate::Rank;
@@ -59,21 +60,21 @@ fn value_stands(h: &[u8], f: u16, k: Kind, c: Comparator, w: Constant, q: &[u8],
 }
 
 // The mark of a place that is one more than a page's; 0 is that of no page.
-fn marked_at(marks: &[bool], place: usize) -> bool
-    ensures { λ r. ⌜ r ≡ marked (now (marks .entry)) place ⌝ }
+fn marked_at(words: &[u64], place: usize) -> bool
+    ensures { λ r. ⌜ r ≡ marked (marksFrom (now (words .entry))) place ⌝ }
 {
     if place == 0 {
         return false;
     }
-    mark_at(marks, place - 1)
+    mark_at(words, place - 1)
 }
 
 // Whether the value of term f, of a kind, leads to a page of a set.
-fn leads_into(h: &[u8], places: &[u16], f: u16, k: Kind, marks: &[bool]) -> bool
-    ensures { λ r. ⌜ r ≡ leadsInto (now (h .entry)) (now (places .entry)) (now (marks .entry)) k f ⌝ }
+fn leads_into(h: &[u8], places: &[u16], f: u16, k: Kind, words: &[u64]) -> bool
+    ensures { λ r. ⌜ r ≡ leadsInto (now (h .entry)) (now (places .entry)) (marksFrom (now (words .entry))) k f ⌝ }
 {
     match k {
-        Kind::Page => marked_at(marks, num_at(places, widen(text_number(h, f)))),
+        Kind::Page => marked_at(words, num_at(places, widen(text_number(h, f)))),
         Kind::Scalar(_) => false,
         Kind::String => false,
     }
@@ -117,8 +118,8 @@ pub fn terms_standing(
 }
 
 // Which terms are of a range and lead to a page of a set.
-pub fn terms_leading(h: &[u8], places: &[u16], range: TermRange, marks: &[bool]) -> TermSet
-    ensures { λ r. ⌜ r .marks ≡ tabulate 2048 (λ f. within range f && leadsInto (now (h .entry)) (now (places .entry)) (now (marks .entry)) (range .kind) f) ⌝ }
+pub fn terms_leading(h: &[u8], places: &[u16], range: TermRange, words: &[u64]) -> TermSet
+    ensures { λ r. ⌜ r .marks ≡ tabulate 2048 (λ f. within range f && leadsInto (now (h .entry)) (now (places .entry)) (marksFrom (now (words .entry))) (range .kind) f) ⌝ }
 {
     let k = range.kind;
     let high = range.high;
@@ -126,7 +127,7 @@ pub fn terms_leading(h: &[u8], places: &[u16], range: TermRange, marks: &[bool])
     let mut f = range.low;
     while (f < high) & (f < 2048) {
         let at = widen(f);
-        wanted[at] = leads_into(h, places, f, k, marks);
+        wanted[at] = leads_into(h, places, f, k, words);
         f += 1;
     }
     TermSet { marks: wanted }
@@ -146,6 +147,13 @@ pub fn some_within(forms: &[u8], range: TermRange) -> bool
     some
 }
 
+// The mark of a term; there is none past the end.
+fn wanted_at(wanted: &[bool], f: usize) -> bool
+    ensures { λ r. ⌜ r ≡ getD (now (wanted .entry)) f false ⌝ }
+{
+    if f < wanted.len() { wanted[f] } else { false }
+}
+
 // Whether one of them is marked.
 pub fn some_marked(forms: &[u8], wanted: &[bool]) -> bool
     ensures { λ r. ⌜ r ≡ any (λ f. getD (now (wanted .entry)) f false) (numbersIn (now (forms .entry))) ⌝ }
@@ -153,7 +161,7 @@ pub fn some_marked(forms: &[u8], wanted: &[bool]) -> bool
     let mut some = false;
     let mut at: usize = 0;
     while at + 2 <= forms.len() {
-        some = some | mark_at(wanted, widen(two_at(forms, at)));
+        some = some | wanted_at(wanted, widen(two_at(forms, at)));
         at += 2;
     }
     some

@@ -8,6 +8,7 @@ ghost use Rattle.text.specs.Bytes.{same, any};
 ghost use Rattle.language.specs.Register.{Page, Register, holds};
 ghost use Rattle.language.specs.Semantics.{Cv, follows, noMixed};
 ghost use Rattle.query_core.specs.Reading.{constantBy};
+ghost use Rattle.pageset.specs.Marks.{marksFrom};
 ghost use Rattle.register_form.specs.Opened.{Opened};
 ghost use Rattle.register_form_view.specs.Ranges.{within};
 ghost use Rattle.register_form_view.specs.View.{namePasses, namePassesAt, Agrees, marksBy, marksIn};
@@ -41,7 +42,7 @@ use text::same_bytes;
 
 // The pages that have a term of a range.
 fn pages_within(h: &[u8], range: TermRange) -> PageSet
-    ensures { λ r. ⌜ r .marks ≡ marksBy (now (h .entry)) (within range) ⌝ }
+    ensures { λ r. ⌜ marksFrom (r .words) ≡ marksBy (now (h .entry)) (within range) ⌝ }
 {
     let n = page_count(h);
     let mut set = PageSet::none();
@@ -50,8 +51,7 @@ fn pages_within(h: &[u8], range: TermRange) -> PageSet
     while (i < n) & (i < 256) {
         let end = form_end(h, i);
         if some_within(forms_between(h, start, end), range) {
-            let at = widen(i);
-            set.marks[at] = true;
+            set = set.with(widen(i));
         }
         start = end;
         i += 1;
@@ -61,7 +61,7 @@ fn pages_within(h: &[u8], range: TermRange) -> PageSet
 
 // The pages that have a marked term.
 fn pages_marked(h: &[u8], wanted: &[bool]) -> PageSet
-    ensures { λ r. ⌜ r .marks ≡ marksBy (now (h .entry)) (λ f. getD (now (wanted .entry)) f false) ⌝ }
+    ensures { λ r. ⌜ marksFrom (r .words) ≡ marksBy (now (h .entry)) (λ f. getD (now (wanted .entry)) f false) ⌝ }
 {
     let n = page_count(h);
     let mut set = PageSet::none();
@@ -70,8 +70,7 @@ fn pages_marked(h: &[u8], wanted: &[bool]) -> PageSet
     while (i < n) & (i < 256) {
         let end = form_end(h, i);
         if some_marked(forms_between(h, start, end), wanted) {
-            let at = widen(i);
-            set.marks[at] = true;
+            set = set.with(widen(i));
         }
         start = end;
         i += 1;
@@ -81,21 +80,21 @@ fn pages_marked(h: &[u8], wanted: &[bool]) -> PageSet
 
 // The pages in the category x.
 pub fn pages_in_category(h: &[u8], x: &[u8]) -> PageSet
-    ensures { λ r. ⌜ ((places : List ℕ) (R : Register) → Opened (now (h .entry)) places R → r .marks ≡ marksIn R (λ p. any (same (now (x .entry))) (p .categories))) ⌝ }
+    ensures { λ r. ⌜ ((places : List ℕ) (R : Register) → Opened (now (h .entry)) places R → marksFrom (r .words) ≡ marksIn R (λ p. any (same (now (x .entry))) (p .categories))) ⌝ }
 {
     pages_within(h, category_range(h, x))
 }
 
 // The pages that hold a value under the property x.
 pub fn pages_with_property(h: &[u8], x: &[u8]) -> PageSet
-    ensures { λ r. ⌜ ((places : List ℕ) (R : Register) → Opened (now (h .entry)) places R → r .marks ≡ marksIn R (holds (now (x .entry)) (λ v. true))) ⌝ }
+    ensures { λ r. ⌜ ((places : List ℕ) (R : Register) → Opened (now (h .entry)) places R → marksFrom (r .words) ≡ marksIn R (holds (now (x .entry)) (λ v. true))) ⌝ }
 {
     pages_within(h, property_range(h, x))
 }
 
 // The pages that hold, under the property x, a value that stands to a constant, whose string lies in q.
 pub fn pages_with_value(h: &[u8], x: &[u8], c: Comparator, w: Constant, q: &[u8]) -> PageSet
-    ensures { λ r. ⌜ ((places : List ℕ) (R : Register) → Opened (now (h .entry)) places R → r .marks ≡ marksIn R (holds (now (x .entry)) (Cv noMixed c (constantBy (now (q .entry)) w)))) ⌝ }
+    ensures { λ r. ⌜ ((places : List ℕ) (R : Register) → Opened (now (h .entry)) places R → marksFrom (r .words) ≡ marksIn R (holds (now (x .entry)) (Cv noMixed c (constantBy (now (q .entry)) w)))) ⌝ }
 {
     let range = property_range(h, x);
     let rank = rank_for(h, w, q, minus(range.high, range.low));
@@ -105,11 +104,11 @@ pub fn pages_with_value(h: &[u8], x: &[u8], c: Comparator, w: Constant, q: &[u8]
 }
 
 // The pages that hold, under the property x, a link to a page of a set.
-pub fn pages_with_link(h: &[u8], places: &[u16], x: &[u8], marks: &[bool]) -> PageSet
-    ensures { λ r. ⌜ ((R : Register) → Opened (now (h .entry)) (now (places .entry)) R → (inner : Page → Bool) → Agrees R (now (marks .entry)) inner → r .marks ≡ marksIn R (holds (now (x .entry)) (follows noMixed R inner))) ⌝ }
+pub fn pages_with_link(h: &[u8], places: &[u16], x: &[u8], words: &[u64]) -> PageSet
+    ensures { λ r. ⌜ ((R : Register) → Opened (now (h .entry)) (now (places .entry)) R → (inner : Page → Bool) → Agrees R (marksFrom (now (words .entry))) inner → marksFrom (r .words) ≡ marksIn R (holds (now (x .entry)) (follows noMixed R inner))) ⌝ }
 {
     let range = property_range(h, x);
-    let terms = terms_leading(h, places, range, marks);
+    let terms = terms_leading(h, places, range, words);
     let wanted = terms.marks;
     pages_marked(h, &wanted)
 }
@@ -133,7 +132,7 @@ fn name_passes(h: &[u8], i: u16, test: NameTest, x: &[u8], rank: Rank) -> bool
 
 // The pages whose namespace or article name stands to x as a test asks.
 pub fn pages_named(h: &[u8], test: NameTest, x: &[u8]) -> PageSet
-    ensures { λ r. ⌜ ((places : List ℕ) (R : Register) → Opened (now (h .entry)) places R → r .marks ≡ marksIn R (namePasses (now (x .entry)) test)) ⌝ }
+    ensures { λ r. ⌜ ((places : List ℕ) (R : Register) → Opened (now (h .entry)) places R → marksFrom (r .words) ≡ marksIn R (namePasses (now (x .entry)) test)) ⌝ }
 {
     let n = page_count(h);
     let rank = rank_of(h, x, n);
@@ -141,8 +140,7 @@ pub fn pages_named(h: &[u8], test: NameTest, x: &[u8]) -> PageSet
     let mut i: u16 = 0;
     while (i < n) & (i < 256) {
         if name_passes(h, i, test, x, rank) {
-            let at = widen(i);
-            set.marks[at] = true;
+            set = set.with(widen(i));
         }
         i += 1;
     }

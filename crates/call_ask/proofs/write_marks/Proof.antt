@@ -1,15 +1,18 @@
 use Prim.Native.Nat.{_-_}
+use mathlib.Core.Path.{ap, _∙_}
 use native.Mathlib.Omega.{arith}
-use borrow.Author.Needs.{needs}
+use Rattle.text.specs.Table.{bit}
+use Rattle.pageset.specs.Marks.{marksFrom}
 use Rattle.call_ask.proofs.Writing.{Writing, writing-none, writing-more, writing-all, no-room}
+use borrow.Author.Needs.{needs}
 use Rattle.call_ask.proofs.write_marks.Statement.{statement}
 use Rattle.call_ask.proofs.write_marks.Tie as tie
 
 abbrev Inv-loop : tie.InvT-loop
-Inv-loop n out₀ end marks i₀ out i = Writing marks end out₀ out i
+Inv-loop n out₀ end words i₀ out i = Writing (marksFrom words) end out₀ out i
 
 abbrev μ-loop : tie.MeasureT-loop
-μ-loop n out₀ end marks i₀ out i = end - i
+μ-loop n out₀ end words i₀ out i = end - i
 
 capped-requires : tie.Need-capped-requires Inv-loop μ-loop
 capped-requires c κs = search needs
@@ -23,14 +26,17 @@ returns c = no-room _ _ _ _ _ (c .before .before .capped .ensures) (c .before .w
 loop-holds : tie.Need-loop-holds Inv-loop μ-loop
 loop-holds c = writing-none _ _ _
 
-array-read-byte-of : tie.Need-array-read-byte-of Inv-loop μ-loop
-array-read-byte-of c = omega (arith, c .before .before .before .before .before .capped .ensures .places, c .before .before .before .before .widen .ensures)
+slice-aggregate-mark-at : tie.Need-slice-aggregate-mark-at Inv-loop μ-loop
+slice-aggregate-mark-at c = search needs
+
+mark-at-requires : tie.Need-mark-at-requires Inv-loop μ-loop
+mark-at-requires c κs = search needs
 
 byte-of-requires : tie.Need-byte-of-requires Inv-loop μ-loop
 byte-of-requires c κs = search needs
 
 slice-write-out : tie.Need-slice-write-out Inv-loop μ-loop
-slice-write-out c = omega (arith, c .before .before .loop .inv .size, c .before .before .before .before .if1 .left)
+slice-write-out c = omega (arith, c .before .before .before .before .loop .inv .size, c .before .before .before .before .before .before .if1 .left)
 
 add-i : tie.Need-add-i Inv-loop μ-loop
 add-i c = search needs
@@ -39,7 +45,7 @@ loop-less : tie.Need-loop-less Inv-loop μ-loop
 loop-less c = search needs
 
 loop-again : tie.Need-loop-again Inv-loop μ-loop
-loop-again c = writing-more _ _ _ _ _ (c .before .before .loop .inv) _ (c .before .before .before .before .if1 .left) (c .before .loop-test .taken) (c .byte-of .ensures)
+loop-again c = writing-more _ _ _ _ _ (c .before .before .before .before .loop .inv) _ (c .before .before .before .before .before .before .if1 .left) (c .before .before .before .loop-test .taken) (c .byte-of .ensures ∙ ap bit (c .before .mark-at .ensures))
 
 same-length : tie.Need-same-length Inv-loop μ-loop
 same-length c = c .before .loop .inv .size
@@ -57,7 +63,8 @@ write-marks-spec =
     widen-requires
     returns
     loop-holds
-    array-read-byte-of
+    slice-aggregate-mark-at
+    mark-at-requires
     byte-of-requires
     slice-write-out
     add-i

@@ -26,8 +26,8 @@ two-at-requires c κs = search needs
 widen-requires : tie.Need-widen-requires Inv-loop μ-loop
 widen-requires c κs = search needs
 
-mark-at-requires : tie.Need-mark-at-requires Inv-loop μ-loop
-mark-at-requires c κs = search needs
+wanted-at-requires : tie.Need-wanted-at-requires Inv-loop μ-loop
+wanted-at-requires c κs = search needs
 
 add-at : tie.Need-add-at Inv-loop μ-loop
 add-at c = omega (arith, c .before .before .before .before .loop .inv .most)
@@ -36,7 +36,7 @@ loop-less : tie.Need-loop-less Inv-loop μ-loop
 loop-less c = omega arith
 
 loop-again : tie.Need-loop-again Inv-loop μ-loop
-loop-again c = looked-more _ _ _ _ (c .before .before .before .before .loop .inv) _ _ (c .before .before .before .loop-test .taken) (c .before .before .two-at .ensures) (c .mark-at .ensures ∙ rw (c .before .widen .ensures))
+loop-again c = looked-more _ _ _ _ (c .before .before .before .before .loop .inv) _ _ (c .before .before .before .loop-test .taken) (c .before .before .two-at .ensures) (c .wanted-at .ensures ∙ rw (c .before .widen .ensures))
 
 returns : tie.Need-returns Inv-loop μ-loop
 returns c = looked-end _ _ _ _ (c .before .loop .inv) (c .loop-test .left)
@@ -51,7 +51,7 @@ some-marked-spec =
     add-loop
     two-at-requires
     widen-requires
-    mark-at-requires
+    wanted-at-requires
     add-at
     loop-less
     loop-again

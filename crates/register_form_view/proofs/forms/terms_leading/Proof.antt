@@ -4,6 +4,7 @@ use mathlib.Core.Bool.{_&&_}
 use native.Mathlib.Omega.{arith}
 use lib.Dec.{ltb}
 use Rattle.text.specs.Table.{tabulate}
+use Rattle.pageset.specs.Marks.{marksFrom}
 use Rattle.register_form_view.specs.Ranges.{within}
 use Rattle.register_form_view.specs.View.{leadsInto}
 use Rattle.register_form_view.proofs.Marks.{marks-none, marks-more, marks-all, goes-on, goes-place, goes-less}
@@ -13,10 +14,10 @@ use Rattle.register_form_view.proofs.forms.terms_leading.Statement.{sta
 use Rattle.register_form_view.proofs.forms.terms_leading.Tie as tie
 
 abbrev Inv-loop : tie.InvT-loop
-Inv-loop h places marks k high wanted₀ f₀ wanted f = (f₀ ≤ f) × (wanted ≡ tabulate 2048 (λ j. ltb j f && (within (record { low = f₀; high = high; kind = k }) j && leadsInto h places marks k j)))
+Inv-loop h places words k high wanted₀ f₀ wanted f = (f₀ ≤ f) × (wanted ≡ tabulate 2048 (λ j. ltb j f && (within (record { low = f₀; high = high; kind = k }) j && leadsInto h places (marksFrom words) k j)))
 
 abbrev μ-loop : tie.MeasureT-loop
-μ-loop h places marks k high wanted₀ f₀ wanted f = high - f
+μ-loop h places words k high wanted₀ f₀ wanted f = high - f
 
 loop-holds : tie.Need-loop-holds Inv-loop μ-loop
 loop-holds c = (omega arith, marks-none 2048 _ _ _ (range-below _ _ _) refl)
@@ -37,7 +38,7 @@ loop-less : tie.Need-loop-less Inv-loop μ-loop
 loop-less c = goes-less _ _ _ (c .before .before .loop-test .taken)
 
 loop-again : tie.Need-loop-again Inv-loop μ-loop
-loop-again c = (omega (arith, c .before .before .before .loop .inv .0), let t = goes-on _ _ _ (c .before .before .loop-test .taken) in rw (c .before .widen .ensures) (marks-more 2048 _ _ _ _ (t .1) (range-at _ _ (leadsInto (c .before .before .before .before .before .before .before .args .h .now) (c .before .before .before .before .before .before .before .args .places .now) (c .before .before .before .before .before .before .before .args .marks .now) (c .before .before .before .before .before .before .before .args .range .kind)) _ _ (c .before .before .before .loop .inv .0) (t .0) (c .leads-into .ensures)) (c .before .before .before .loop .inv .1)))
+loop-again c = (omega (arith, c .before .before .before .loop .inv .0), let t = goes-on _ _ _ (c .before .before .loop-test .taken) in rw (c .before .widen .ensures) (marks-more 2048 _ _ _ _ (t .1) (range-at _ _ (leadsInto (c .before .before .before .before .before .before .before .args .h .now) (c .before .before .before .before .before .before .before .args .places .now) (marksFrom (c .before .before .before .before .before .before .before .args .words .now)) (c .before .before .before .before .before .before .before .args .range .kind)) _ _ (c .before .before .before .loop .inv .0) (t .0) (c .leads-into .ensures)) (c .before .before .before .loop .inv .1)))
 
 returns : tie.Need-returns Inv-loop μ-loop
 returns c = marks-all 2048 _ _ _ _ (range-above _ _ _) (c .loop-test .left) (c .before .loop .inv .1)

@@ -33,8 +33,8 @@ name-passes-requires c κs = search needs
 widen-requires : tie.Need-widen-requires Inv-loop μ-loop
 widen-requires c κs = search needs
 
-element-write-set : tie.Need-element-write-set Inv-loop μ-loop
-element-write-set c = goes-place _ _ _ _ (c .before .before .before .loop-test .taken) (c .widen .ensures)
+with-requires : tie.Need-with-requires Inv-loop μ-loop
+with-requires c κs = search needs
 
 add-i : tie.Need-add-i Inv-loop μ-loop
 add-i c = let l : c .before .before .before .loop .i < 256 = goes-place _ _ _ _ (c .before .before .loop-test .taken) refl in omega arith
@@ -46,7 +46,7 @@ loop-again : tie.Need-loop-again Inv-loop μ-loop
 loop-again c =
     let is = c .before .name-passes .ensures in
     let so-far = c .before .before .before .loop .inv in
-    ⊎-elim (λ w. taken-with _ _ _ _ so-far (c .before .before .loop-test .taken) _ is _ _ _ (w .0 .taken) (w .1 .ensures) refl (w .2)) (λ w. taken-same _ _ _ _ so-far (c .before .before .loop-test .taken) _ is _ (w .0 .left) (w .1)) (c .if1 .came)
+    ⊎-elim (λ w. taken-with _ _ _ _ so-far (c .before .before .loop-test .taken) _ is _ _ _ (w .0 .taken) (w .1 .ensures) (w .2 .ensures) (w .3)) (λ w. taken-same _ _ _ _ so-far (c .before .before .loop-test .taken) _ is _ (w .0 .left) (w .1)) (c .if1 .came)
 
 returns : tie.Need-returns Inv-loop μ-loop
 returns c = λ places R o. taken-all _ _ _ _ (c .before .loop .inv) _ (c .loop-test .left) (c .before .before .before .before .page-count .ensures) ∙ named-pages o (c .before .before .before .before .before .before .before .args .x .now) (c .before .before .before .before .before .before .before .args .test) _ (c .before .before .before .rank-of .ensures) _ refl
@@ -63,7 +63,7 @@ pages-named-spec =
     loop-holds
     name-passes-requires
     widen-requires
-    element-write-set
+    with-requires
     add-i
     loop-less
     loop-again
