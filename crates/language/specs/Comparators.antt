@@ -32,7 +32,7 @@ firstTyped (c ∷ l) s = cond (starts (word c) s) c (firstTyped l s)
 abbrev pub isEqual : SurfaceComparator → Bool
 isEqual c = eqb (length (word c)) 0
 
--- The byte of a comparator in held trees; one above them all is read as the last comparator's.
+-- The byte of a comparator in held trees.
 abbrev pub comparatorCode : SurfaceComparator → ℕ
 comparatorCode SurfaceComparator.Equal = 0
 comparatorCode SurfaceComparator.Unequal = 1
@@ -44,6 +44,7 @@ comparatorCode SurfaceComparator.AtMost = 5
 abbrev pub lastComparator : ℕ
 lastComparator = 5
 
+-- The comparator of a byte; one above the last is read as the last.
 unfoldable pub comparatorFrom : ℕ → SurfaceComparator
 comparatorFrom c =
     cond (eqb c 0) SurfaceComparator.Equal
