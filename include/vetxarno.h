@@ -16,8 +16,8 @@
  * - The buffers of one call must not overlap. A buffer of length 0 still needs a pointer that is not null.
  * - No state is kept and no memory is allocated. Calls from several threads are fine as long as they share no buffer
  *   that one of them writes.
- * - Stack: vetxarno_ask needs up to 0.55 MB, for 256 nodes nested in one another; vetxarno_register and vetxarno_join
- *   0.4 MB, vetxarno_query, vetxarno_read and vetxarno_fit 0.3 MB (docs/BENCHMARKS.md). */
+ * - Stack: vetxarno_register and vetxarno_join need up to 0.4 MB, vetxarno_query, vetxarno_read and vetxarno_fit 0.3 MB,
+ *   vetxarno_ask 0.15 MB, for 256 nodes nested in one another (docs/BENCHMARKS.md). */
 #ifndef VETXARNO_H
 #define VETXARNO_H
 
