@@ -5,5 +5,6 @@ pub mod Reading
 pub mod Written
 pub mod Looping
 pub mod Testing
+pub mod Blocks
 pub mod Padding
 pub mod Joined

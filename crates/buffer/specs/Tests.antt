@@ -13,3 +13,7 @@ allTo (suc n) f = allTo n f && f n
 -- Of the layout. The n bytes from a place on are 0.
 unfoldable pub zerosAt : Bytes → ℕ → ℕ → Bool
 zerosAt h from n = allTo n (λ i. eqb (getD h (from + i) 0) 0)
+
+-- The first n bytes are 0.
+unfoldable pub zerosTo : Bytes → ℕ → Bool
+zerosTo s n = allTo n (λ i. eqb (getD s i 0) 0)

@@ -3,8 +3,9 @@ ghost use mathlib.Core.Path.{_≡_};
 ghost use mathlib.Core.List.{[], _∷_};
 ghost use mathlib.Core.Logic.{_⊎_};
 ghost use Prim.Native.Nat.{_≤_};
+ghost use lib.ListN.{length};
 ghost use Rattle.buffer.specs.Numbers.{twoBytes, eightBytes, twoAt, eightAt, zeros as zerosOf};
-ghost use Rattle.buffer.specs.Tests.{zerosAt};
+ghost use Rattle.buffer.specs.Tests.{zerosAt, zerosTo};
 ghost use Rattle.buffer.specs.Writing.{written};
 use tables::long;
 use tables::wide;
@@ -37,18 +38,33 @@ pub fn eight_at(h: &[u8], i: usize) -> u64
     a + 65536 * (b + 65536 * (c + 65536 * d))
 }
 
-// Whether the n bytes from a place on are 0. It never stops before the end, so that a compiler takes many bytes at a time.
+// Whether all bytes are 0: whether their bits put together are. It never stops before the end, so that a compiler takes many bytes
+// at a time.
+fn are_zeros(s: &[u8]) -> bool
+    ensures { λ r. ⌜ r ≡ zerosTo (now (s .entry)) (length (now (s .entry))) ⌝ }
+{
+    let mut bits: u8 = 0;
+    let mut i: usize = 0;
+    while i < s.len() {
+        bits = bits | s[i];
+        i += 1;
+    }
+    bits == 0
+}
+
+// Whether the n bytes from a place on are 0. In blocks of a size that the compiler knows, which it goes through without a loop.
 pub fn zeros(h: &[u8], from: usize, n: usize) -> bool
     ensures { λ r. ⌜ r ≡ zerosAt (now (h .entry)) from n ⌝ }
 {
     let s = part(h, from, n);
-    let mut ok = true;
     let mut i: usize = 0;
-    while i < s.len() {
-        ok = ok & (s[i] == 0);
-        i += 1;
+    while 256 <= s.len() - i {
+        if !are_zeros(part(s, i, 256)) {
+            return false;
+        }
+        i += 256;
     }
-    ok
+    are_zeros(part(s, i, s.len() - i))
 }
 
 // Writes a byte, where there is room.

@@ -105,11 +105,11 @@ pub fn key_of(t: &[u8]) -> u64
     key
 }
 
-// The key of what a string has from a place on.
+// The key of what a string has from a place on: one load, where the caller knows that eight bytes are there.
 pub fn key_at(s: &[u8], at: usize) -> u64
     ensures { λ r. ⌜ r ≡ keyTo 8 (drop at (now (s .entry))) ⌝ }
 {
-    key_of(part(s, at, 8))
+    key_of_eight(part(s, at, 8))
 }
 
 // How two byte strings stand to one another from a place on.
