@@ -17,9 +17,10 @@ use Rattle.register_form_test.specs.Loops.{written, isSet}
 use Rattle.register_form_test.specs.Stages.{textTest, classesTo, PropertiesTested, TermsTested, PagesTested, usedTest, identifierAt}
 use Rattle.register_form_test.specs.Opening.{Opens, Tries}
 use Rattle.register_form_test.specs.declared.Tally.{Tally}
+use Rattle.sorting.proofs.Canonical.{left-of, right-of}
 use Rattle.register_form_test.proofs.Loops.{length-written}
 use Rattle.register_form_test.proofs.Tabled.{written-fill}
-use Rattle.register_form_test.proofs.Verdict.{verdict, verdict-is, verdict-places, not-laid}
+use Rattle.register_form_test.proofs.Verdict.{verdict, unverified, verdict-is, verdict-places, not-laid}
 
 -- A table into which 0 was written everywhere.
 pub cleared : (t u : List ℕ) (i : ℕ) → u ≡ written (λ i. i) (λ i. 0) i t → length u ≤ i → u ≡ replicate (length t) 0
@@ -29,6 +30,13 @@ cleared t u i e b =
   where
     size : length u ≡ length t
     size = ap length e ∙ length-written (λ i. i) (λ i. 0) t i
+
+pub laid-known : (h : Bytes) (r : Bool) → r ≡ isLaid h → not r ≡ false → isLaid h ≡ true
+laid-known h r e f = sym e ∙ not-false r f
+
+failing : (a b c d e : Bool) → b ≡ false → (a && b && c && d && e) ≡ false
+failing true b c d e z = rw z
+failing false b c d e z = refl
 
 pub try-not : (h : Bytes) (places : List ℕ) (r : Bool) → r ≡ isLaid h → not r ≡ true → Tries h places places false
 try-not h places r e f =
@@ -52,16 +60,27 @@ unfolding verdict
 try-is h places places' classes used used' shown last r texts terms ut ux p g e f t pt tt gt u v =
     record {
       is = λ z. told z ∙ verdict-is h laid;
-      places = λ z k. rw (gt .table, z) (verdict-places h laid (sym (told z) ∙ k));
-      size = ap length (gt .table) ∙ length-written (identifierAt h) (λ i. i + 1) places (pageCount h);
+      places = λ z k. rw (gt .table (passed k), z) (verdict-places h laid (sym (told z) ∙ k));
+      size = gt .size;
     }
   where
     laid : isLaid h ≡ true
-    laid = sym e ∙ not-false r f
+    laid = laid-known h r e f
 
+    before : Bool
+    before = texts && p .ok && terms
+
+    passed : (before && g .ok && ut && ux && leb (p .bytes + g .bytes) 32768) ≡ true → g .ok ≡ true
+    passed k = right-of before (g .ok) (left-of (before && g .ok) ut (left-of (before && g .ok && ut) ux (left-of (before && g .ok && ut && ux) (leb (p .bytes + g .bytes) 32768) k)))
+
+    -- where the pages fail, no more is told of them, nor needed
     told : places ≡ replicate 2368 0 → (texts && p .ok && terms && g .ok && ut && ux && leb (p .bytes + g .bytes) 32768) ≡ verdict h
-    told z =
-        rw (u, v, t .0, pt .ok, tt .is, gt .ok, pt .bytes, gt .bytes, gt .marks, gt .table, tt .lengths, tt .marks, pt .marks, t .1, z) refl
+    told z = go (g .ok) refl
+      where
+        go : (b : Bool) → g .ok ≡ b → (texts && p .ok && terms && g .ok && ut && ux && leb (p .bytes + g .bytes) 32768) ≡ verdict h
+        go true e =
+            rw (u, v, t .0, pt .ok, tt .is, gt .bytes e, gt .marks e, gt .table e, gt .ok, pt .bytes, tt .lengths, tt .marks, pt .marks, t .1, z) refl
+        go false e = failing before (g .ok) ut ux (leb (p .bytes + g .bytes) 32768) e ∙ sym (unverified h (rw (← t .1, ← z) (sym (gt .ok) ∙ e)))
 
 pub open-other : (h : Bytes) (places after : List ℕ) (r : Bool)
     → ((i : ℕ) → getD h i 0 < 256)

@@ -1,6 +1,6 @@
 -- All tests together tell whether bytes that are laid out as those of a dictionary are the form of a register.
 use Prim.Native.Nat.{ℕ, _+_, _<_}
-use mathlib.Core.Path.{_≡_, ap, sym, _∙_}
+use mathlib.Core.Path.{_≡_, refl, ap, sym, _∙_}
 use mathlib.Core.Bool.{Bool, true, false, _&&_}
 use mathlib.Core.List.{List, [], _∷_, map}
 use native.Mathlib.Omega.{arith}
@@ -62,6 +62,14 @@ module _ (h : Bytes) where
 
   unfoldable pub verdict : Bool
   verdict = texts && properties && terms && pages && used-terms && used-texts && leb bytes 32768
+
+  pub unverified : pages ≡ false → verdict ≡ false
+  unfolding verdict
+  unverified e = go (texts && properties && terms) pages e
+    where
+      go : (a b : Bool) → b ≡ false → (a && b && used-terms && used-texts && leb bytes 32768) ≡ false
+      go true b z = rw z
+      go false b z = refl
 
   labelled : all isLabelled (dictionaryIn h .texts) ≡ true → (x : ℕ) → x < textCount h → isLabelled (textAt h x) ≡ true
   labelled e x b = rw (text-in h x b) at (all-at isLabelled (dictionaryIn h .texts) x [] e (omega (arith, text-count h)))

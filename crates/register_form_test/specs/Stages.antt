@@ -5,7 +5,7 @@ use mathlib.Core.Bool.{Bool, true, false, cond, not, _&&_, _||_}
 use mathlib.Core.List.{List}
 use lib.Dec.{ltb, leb, eqb}
 use lib.ListN.{length, getD}
-use Rattle.text.specs.Bytes.{Bytes}
+use Rattle.text.specs.Bytes.{Bytes, part}
 use Rattle.values.specs.Values.{inRange, kindCount}
 use Rattle.values.specs.declared.Kind.{Kind}
 use Rattle.values.specs.Names.{isPropertyName}
@@ -136,6 +136,10 @@ module _ (h : Bytes) where
   unfoldable pub formIn : ℕ → ℕ → ℕ
   formIn i j = formAt h (formStart h i + j)
 
+  -- The bytes of the forms of page i.
+  unfoldable pub formBytes : ℕ → Bytes
+  formBytes i = part h (1226 + 2 * formStart h i) (2 * formCount i)
+
   -- The form before is a value.
   unfoldable pub behindAt : ℕ → ℕ → Bool
   behindAt i zero = false
@@ -153,10 +157,12 @@ module _ (h : Bytes) where
   unfoldable pub formLength : List ℕ → ℕ → ℕ → ℕ
   formLength shown i j = getD shown (formIn i j) 0
 
+  -- What is counted and written is told only where the tests hold: they end with the first that does not.
   pub record FormsTested (shown last last' : List ℕ) (mark i : ℕ) (r : Tally) : Type 0 where
     pub ok : r .ok ≡ allTo (formCount i) (formTest mark last i)
-    pub bytes : r .bytes ≡ sumTo (formCount i) (formLength shown i)
-    pub marks : last' ≡ lastBy mark i (formCount i) last
+    pub bytes : r .ok ≡ true → r .bytes ≡ sumTo (formCount i) (formLength shown i)
+    pub marks : r .ok ≡ true → last' ≡ lastBy mark i (formCount i) last
+    pub size : length last' ≡ length last
     pub most : r .bytes ≤ 4294967296
 
   -- Of the pages, over that table and the table of places.
@@ -181,7 +187,8 @@ module _ (h : Bytes) where
 
   pub record PagesTested (classes shown last places last' places' : List ℕ) (r : Tally) : Type 0 where
     pub ok : r .ok ≡ allTo (pageCount h) (pageTest classes last places)
-    pub bytes : r .bytes ≡ sumTo (pageCount h) (pageLength shown)
-    pub marks : last' ≡ lastTo (pageCount h) last
-    pub table : places' ≡ placesTo (pageCount h) places
+    pub bytes : r .ok ≡ true → r .bytes ≡ sumTo (pageCount h) (pageLength shown)
+    pub marks : r .ok ≡ true → last' ≡ lastTo (pageCount h) last
+    pub table : r .ok ≡ true → places' ≡ placesTo (pageCount h) places
+    pub size : length places' ≡ length places
     pub most : r .bytes ≤ 562949953421312

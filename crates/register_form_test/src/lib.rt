@@ -4,7 +4,7 @@ ghost use lib.ListN.{length, replicate};
 ghost use Rattle.register_form_test.specs.Opening.{Opens, Tries};
 
 pub mod layout; // layout.rt: the counts, the tables of starts and the zeros behind each region
-pub mod pages; // pages.rt: pages and their forms, and that each text and term is used
+mod pages; // pages.rt: pages and their forms, and that each text and term is used
 pub mod terms; // terms.rt: terms
 pub mod texts; // texts.rt: texts and properties
 

@@ -1,16 +1,20 @@
 // The tests of pages and their forms, and that each text and term is used.
 ghost use mathlib.Core.Path.{_≡_};
-ghost use Rattle.register_form.specs.Form.{termCount, textCount};
+ghost use mathlib.Core.Bool.{true};
+ghost use Prim.Native.Nat.{_<_};
+ghost use Rattle.register_form.specs.Form.{pageCount, termCount, textCount};
+ghost use Rattle.register_form.specs.Tests.{isLaid};
 ghost use Rattle.buffer.specs.Tests.{allTo};
 ghost use Rattle.register_form_test.specs.Loops.{isSet};
-ghost use Rattle.register_form_test.specs.Stages.{FormsTested, pageOk, PagesTested, usedTest};
+ghost use Rattle.register_form_test.specs.Stages.{formBytes, FormsTested, pageOk, PagesTested, usedTest};
 use crate::Tally;
 use crate::texts::names_length;
-use register_form::form_at;
+use buffer::two_at;
 use register_form::form_end;
 use register_form::form_start;
 use register_form::group_at;
 use register_form::identifier_number;
+use register_form::layout::FORMS;
 use register_form::minus;
 use register_form::page_count;
 use register_form::term_count;
@@ -18,31 +22,46 @@ use register_form::text_count;
 use tables::get;
 use tables::put;
 use tables::widen;
+use text::part;
 
-// Whether the forms of page i are terms, none twice, categories before values; writes the page's mark for each. The table had the last
-// page that has a term, told by its mark. Reads and writes of tables stand together, so that one test of the place does for all.
-fn forms_ok(h: &[u8], shown: &[u16], last: &mut [u16], i: u16, mark: u16) -> Tally
-    ensures { λ r. ⌜ FormsTested (now (h .entry)) (now (shown .entry)) (now (last .entry)) (now (last .exit)) mark i r ⌝ }
+// The bytes of page i's forms.
+fn forms_of(h: &[u8], i: u16) -> &[u8]
+    ensures { λ r. ⌜ now r ≡ formBytes (now (h .entry)) i ⌝ }
 {
     let start = form_start(h, i);
-    let n = minus(form_end(h, i), start);
+    part(h, FORMS + 2 * widen(start), 2 * widen(minus(form_end(h, i), start)))
+}
+
+// Whether the forms of page i are terms, none twice, categories before values; writes the page's mark for each. The table had the last
+// page that has a term, told by its mark. Each test has a branch of its own, which is quicker here than putting answers together.
+fn forms_ok(h: &[u8], shown: &[u16], last: &mut [u16], i: u16, mark: u16) -> Tally
+    requires { ⌜ (isLaid (now h) ≡ true) × (i < pageCount (now h)) ⌝ }
+    ensures { λ r. ⌜ FormsTested (now (h .entry)) (now (shown .entry)) (now (last .entry)) (now (last .exit)) mark i r ⌝ }
+{
+    let forms = forms_of(h, i);
     let terms = term_count(h);
-    let mut ok = true;
     let mut behind = false;
     let mut bytes: usize = 0;
-    let mut j: u16 = 0;
-    while j < n {
-        let f = form_at(h, start + j);
-        let group = group_at(h, f);
+    let mut j: usize = 0;
+    while 2 * j + 2 <= forms.len() {
+        let f = two_at(forms, 2 * j);
+        if terms <= f {
+            return Tally { ok: false, bytes: 0 };
+        }
         let at = widen(f);
-        let page = get(last, at);
-        bytes += widen(get(shown, at));
+        if get(last, at) == mark {
+            return Tally { ok: false, bytes: 0 };
+        }
+        let category = group_at(h, f) == 0;
+        if behind & category {
+            return Tally { ok: false, bytes: 0 };
+        }
         put(last, at, mark);
-        ok = ok & ((f < terms) & (page != mark) & !(behind & (group == 0)));
-        behind = group != 0;
+        bytes += widen(get(shown, at));
+        behind = !category;
         j += 1;
     }
-    Tally { ok, bytes }
+    Tally { ok: true, bytes }
 }
 
 // Whether text x is an identifier that no page has yet.
@@ -60,22 +79,24 @@ pub fn pages_ok(
     last: &mut [u16],
     places: &mut [u16],
 ) -> Tally
+    requires { ⌜ isLaid (now h) ≡ true ⌝ }
     ensures { λ r. ⌜ PagesTested (now (h .entry)) (now (classes .entry)) (now (shown .entry)) (now (last .entry)) (now (places .entry)) (now (last .exit)) (now (places .exit)) r ⌝ }
 {
     let n = page_count(h);
-    let mut ok = true;
     let mut bytes: usize = 0;
     let mut i: u16 = 0;
     while i < n {
         let next = i + 1;
         let x = identifier_number(h, i);
         let forms = forms_ok(h, shown, last, i, next);
-        ok = ok & (page_ok(h, classes, places, x) & forms.ok);
+        if !(page_ok(h, classes, places, x) & forms.ok) {
+            return Tally { ok: false, bytes: 0 };
+        }
         bytes += widen(names_length(h, x)) + forms.bytes;
         put(places, widen(x), next);
         i = next;
     }
-    Tally { ok, bytes }
+    Tally { ok: true, bytes }
 }
 
 // Whether a table has a number other than 0 in a place.

@@ -1,5 +1,5 @@
 use borrow.Author.Needs.{needs}
-use Rattle.register_form_test.proofs.Trying.{try-not, try-is}
+use Rattle.register_form_test.proofs.Trying.{laid-known, try-not, try-is}
 use Rattle.register_form_test.proofs.try_open.Statement.{statement}
 use Rattle.register_form_test.proofs.try_open.Tie as tie
 
@@ -43,7 +43,7 @@ slice-aggregate-pages-ok-3 : tie.Need-slice-aggregate-pages-ok-3
 slice-aggregate-pages-ok-3 c = search needs
 
 pages-ok-requires : tie.Need-pages-ok-requires
-pages-ok-requires c κs = search needs
+pages-ok-requires c κs = search (laid-known, needs)
 
 add-bytes : tie.Need-add-bytes
 add-bytes c = search needs

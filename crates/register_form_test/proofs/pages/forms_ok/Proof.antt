@@ -1,54 +1,76 @@
 use mathlib.Core.List.{List}
 use Prim.Native.Nat.{ℕ, _≤_, _-_, _*_}
 use mathlib.Core.Path.{_≡_}
-use Rattle.buffer.specs.Tests.{allTo}
-use Rattle.register_form_test.specs.Loops.{sumTo}
-use Rattle.register_form_test.specs.Stages.{formTest, behindAt, formLength, lastBy}
-use Rattle.register_form_test.proofs.PageWays.{form-is, form-in, behind-more, form-more, form-sum}
-use Rattle.register_form_test.proofs.Loops.{written-more}
+use mathlib.Core.Bool.{true}
+use lib.ListN.{length}
 use native.Mathlib.Omega.{arith}
 use borrow.Author.Needs.{needs}
+use Rattle.text.specs.Bytes.{Bytes}
+use Rattle.buffer.specs.Tests.{allTo}
 use Rattle.buffer.proofs.Testing.{tests}
-use Rattle.register_form_test.proofs.Loops.{loops}
-use Rattle.register_form_test.proofs.PageWays.{pages}
+use Rattle.register_form_test.specs.Loops.{sumTo}
+use Rattle.register_form_test.specs.Stages.{formTest, behindAt, formLength, lastBy}
+use Rattle.register_form_test.proofs.Loops.{loops, written-more}
+use Rattle.register_form_test.proofs.PageWays.{pages, all-none, form-in, behind-more, form-sum, form-past, form-again, form-behind, form-passed, forms-passed, forms-few}
 use Rattle.register_form_test.proofs.pages.forms_ok.Statement.{statement}
 use Rattle.register_form_test.proofs.pages.forms_ok.Tie as tie
 
 abbrev Inv-loop : tie.InvT-loop
-Inv-loop h shown last₀ i mark start n terms ok₀ behind₀ bytes₀ j₀ last ok behind bytes j = (j ≤ n) × (ok ≡ allTo j (formTest h mark last₀ i)) × (behind ≡ behindAt h i j) × (bytes ≡ sumTo j (formLength h shown i)) × (last ≡ lastBy h mark i j last₀) × (bytes ≤ 65535 * j)
+Inv-loop h shown last₀ i mark forms terms behind₀ bytes₀ j₀ last behind bytes j = (2 * j ≤ length forms) × (allTo j (formTest h mark last₀ i) ≡ true) × (behind ≡ behindAt h i j) × (bytes ≡ sumTo j (formLength h shown i)) × (last ≡ lastBy h mark i j last₀) × (bytes ≤ 65535 * j) × (length forms ≤ 4096)
 
 abbrev μ-loop : tie.MeasureT-loop
-μ-loop h shown last₀ i mark start n terms ok₀ behind₀ bytes₀ j₀ last ok behind bytes j = n - j
+μ-loop h shown last₀ i mark forms terms behind₀ bytes₀ j₀ last behind bytes j = length forms - 2 * j
 
-form-start-requires : tie.Need-form-start-requires Inv-loop μ-loop
-form-start-requires c κs = search needs
-
-form-end-requires : tie.Need-form-end-requires Inv-loop μ-loop
-form-end-requires c κs = search needs
-
-minus-requires : tie.Need-minus-requires Inv-loop μ-loop
-minus-requires c κs = search needs
+forms-of-requires : tie.Need-forms-of-requires Inv-loop μ-loop
+forms-of-requires c κs = search needs
 
 term-count-requires : tie.Need-term-count-requires Inv-loop μ-loop
 term-count-requires c κs = search needs
 
 loop-holds : tie.Need-loop-holds Inv-loop μ-loop
-loop-holds c = search (pages, loops, tests, needs)
+loop-holds c = search (pages, loops, all-none, forms-few, needs)
 
-add-form-at : tie.Need-add-form-at Inv-loop μ-loop
-add-form-at c = omega arith
+mul-loop : tie.Need-mul-loop Inv-loop μ-loop
+mul-loop c = omega arith
 
-form-at-requires : tie.Need-form-at-requires Inv-loop μ-loop
-form-at-requires c κs = search needs
+add-loop : tie.Need-add-loop Inv-loop μ-loop
+add-loop c = omega arith
 
-group-at-requires : tie.Need-group-at-requires Inv-loop μ-loop
-group-at-requires c κs = search needs
+mul-two-at : tie.Need-mul-two-at Inv-loop μ-loop
+mul-two-at c = omega arith
+
+two-at-requires : tie.Need-two-at-requires Inv-loop μ-loop
+two-at-requires c κs = search needs
+
+same-length : tie.Need-same-length Inv-loop μ-loop
+same-length c = search (loops, needs)
+
+returns : tie.Need-returns Inv-loop μ-loop
+returns c = search (form-past, needs)
 
 widen-requires : tie.Need-widen-requires Inv-loop μ-loop
 widen-requires c κs = search needs
 
 get-requires : tie.Need-get-requires Inv-loop μ-loop
 get-requires c κs = search needs
+
+same-length-2 : tie.Need-same-length-2 Inv-loop μ-loop
+same-length-2 c = search (loops, needs)
+
+returns-2 : tie.Need-returns-2 Inv-loop μ-loop
+returns-2 c = form-again _ _ (c .before .before .before .before .before .before .before .before .before .before .before .before .before .pre .0) (c .before .before .before .before .before .before .before .before .before .before .before .before .before .pre .1) _ (c .before .before .before .before .before .before .before .before .before .forms-of .ensures) _ _ (c .before .before .before .before .before .two-at .ensures) (c .before .before .before .before .before .before .loop-test .taken) _ _ _ _ (c .before .before .before .before .before .before .before .loop .inv .4) _ _ (c .before .before .before .widen .ensures) (c .before .get .ensures) (c .if2 .taken)
+
+group-at-requires : tie.Need-group-at-requires Inv-loop μ-loop
+group-at-requires c κs = search needs
+
+same-length-3 : tie.Need-same-length-3 Inv-loop μ-loop
+same-length-3 c = search (loops, needs)
+
+returns-3 : tie.Need-returns-3 Inv-loop μ-loop
+returns-3 c = search (form-behind, needs)
+
+put-requires : tie.Need-put-requires Inv-loop μ-loop
+put-requires c κs = search needs
 
 get-requires-2 : tie.Need-get-requires-2 Inv-loop μ-loop
 get-requires-2 c κs = search needs
@@ -59,9 +81,6 @@ widen-requires-2 c κs = search needs
 add-bytes : tie.Need-add-bytes Inv-loop μ-loop
 add-bytes c = omega arith
 
-put-requires : tie.Need-put-requires Inv-loop μ-loop
-put-requires c κs = search needs
-
 add-j : tie.Need-add-j Inv-loop μ-loop
 add-j c = omega arith
 
@@ -69,24 +88,13 @@ loop-less : tie.Need-loop-less Inv-loop μ-loop
 loop-less c = omega arith
 
 loop-again : tie.Need-loop-again Inv-loop μ-loop
-loop-again c =
-    let h : List ℕ = c .before .before .before .before .before .before .before .before .before .before .before .before .before .before .before .before .before .before .before .before .args .h .now in
-    let i : ℕ = c .before .before .before .before .before .before .before .before .before .before .before .before .before .before .before .before .before .before .before .before .args .i in
-    let j : ℕ = c .before .before .before .before .before .before .before .before .before .before .before .before .loop .j in (
-      omega arith,
-      form-more h i j _ _ (c .before .before .before .before .before .before .before .before .before .before .before .before .before .before .before .before .form-start .ensures) (c .before .before .before .before .before .before .before .before .before .before .form-at .ensures) _ _ _ _ _ _ (c .before .before .before .before .before .before .before .before .before .before .before .before .loop .inv .1) (c .before .before .before .before .before .before .before .before .before .before .before .before .loop .inv .4) (c .before .before .before .before .before .before .before .before .before .before .before .before .loop .inv .2)
-          (form-is h _ _ _ _ _ _ _ (c .before .before .before .before .before .before .before .before .before .before .before .before .loop .behind) (c .before .before .before .before .before .before .before .before .before .before .before .before .before .term-count .ensures) (c .before .before .before .before .before .before .before .before .widen .ensures) (c .before .before .before .before .before .before .get .ensures) (c .before .before .before .before .before .before .before .before .before .group-at .ensures)),
-      behind-more h i j _ _ (c .before .before .before .before .before .before .before .before .before .before .before .before .before .before .before .before .form-start .ensures) (c .before .before .before .before .before .before .before .before .before .before .form-at .ensures) _ (c .before .before .before .before .before .before .before .before .before .group-at .ensures),
-      form-sum h i j _ _ (c .before .before .before .before .before .before .before .before .before .before .before .before .before .before .before .before .form-start .ensures) (c .before .before .before .before .before .before .before .before .before .before .form-at .ensures) _ _ _ _ _ (c .before .before .before .before .before .before .before .before .before .before .before .before .loop .inv .3) (c .before .before .before .before .widen2 .ensures) (c .before .before .before .before .before .get2 .ensures) (c .before .before .before .before .before .before .before .before .widen .ensures),
-      search (written-more, form-in, needs),
-      search needs,
-    )
+loop-again c = (omega arith, search (form-passed, needs), search (behind-more, needs), search (form-sum, needs), search (written-more, form-in, needs), search needs, search needs)
 
-same-length : tie.Need-same-length Inv-loop μ-loop
-same-length c = search (loops, tests, needs)
+same-length-4 : tie.Need-same-length-4 Inv-loop μ-loop
+same-length-4 c = search (loops, needs)
 
-returns : tie.Need-returns Inv-loop μ-loop
-returns c = search (pages, loops, tests, needs)
+returns-4 : tie.Need-returns-4 Inv-loop μ-loop
+returns-4 c = search (forms-passed, needs)
 
 pub forms-ok-spec : {M : Type 1} → statement M
 forms-ok-spec =
@@ -94,22 +102,28 @@ forms-ok-spec =
     (tie.spec
     Inv-loop
     μ-loop
-    form-start-requires
-    form-end-requires
-    minus-requires
+    forms-of-requires
     term-count-requires
     loop-holds
-    add-form-at
-    form-at-requires
-    group-at-requires
+    mul-loop
+    add-loop
+    mul-two-at
+    two-at-requires
+    same-length
+    returns
     widen-requires
     get-requires
+    same-length-2
+    returns-2
+    group-at-requires
+    same-length-3
+    returns-3
+    put-requires
     get-requires-2
     widen-requires-2
     add-bytes
-    put-requires
     add-j
     loop-less
     loop-again
-    same-length
-    returns)
+    same-length-4
+    returns-4)
