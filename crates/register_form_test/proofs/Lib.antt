@@ -12,5 +12,6 @@ pub mod Trying
 pub mod Ways
 pub mod TextWays
 pub mod TermWays
+pub mod TextKeys
 pub mod PageWays
 pub mod Held

@@ -24,7 +24,7 @@ use Rattle.register_form_test.specs.Stages.{textLength, noText, spelledL
 use Rattle.register_form_test.specs.declared.Judged.{Judged}
 use Rattle.buffer.proofs.Testing.{all-more}
 
-less-number : (x y : ℕ) → isLess (numbers x y) ≡ ltb x y
+pub less-number : (x y : ℕ) → isLess (numbers x y) ≡ ltb x y
 unfolding numbers
 less-number x y = go (ltb x y) (ltb y x)
   where

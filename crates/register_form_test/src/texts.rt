@@ -1,6 +1,8 @@
 // The tests of texts and of properties.
 ghost use mathlib.Core.Path.{_≡_};
-ghost use Prim.Native.Nat.{_-_};
+ghost use Prim.Native.Nat.{_-_, _<_, _≤_};
+ghost use lib.ListN.{drop};
+ghost use Rattle.text.specs.Keys.{keyTo};
 ghost use Rattle.values.specs.ByteRules.{ruleTable};
 ghost use Rattle.register_form.specs.Form.{textCount, textAt};
 ghost use Rattle.register_form.specs.Tests.{isLabelled, isPlain};
@@ -8,6 +10,7 @@ ghost use Rattle.buffer.specs.Tests.{allTo};
 ghost use Rattle.register_form_test.specs.Loops.{climbs};
 ghost use Rattle.register_form_test.specs.Stages.{classOf, textTest, classesTo, textLength, propertyOk, PropertiesTested};
 use crate::Tally;
+use register_form::layout::TEXTS;
 use register_form::minus;
 use register_form::name_at;
 use register_form::name_number;
@@ -24,6 +27,7 @@ use tables::put;
 use tables::widen;
 use text::byte_at;
 use text::compare;
+use text::key_at;
 use values::is_property_name;
 use values::rules::byte_rules;
 use values::rules::name_class;
@@ -42,7 +46,27 @@ fn is_plain(h: &[u8], x: u16) -> bool
     byte_at(text_at(h, x), 0) == 0
 }
 
-// Whether the text before text x, which is t, if there is one, is less.
+// The least of two lengths and 8.
+fn common(a: usize, b: usize) -> usize
+    ensures { λ r. ⌜ (r ≤ a) × (r ≤ b) × (r ≤ 8) ⌝ }
+{
+    if a < b {
+        if a < 8 { a } else { 8 }
+    } else {
+        if b < 8 { b } else { 8 }
+    }
+}
+
+// The key of the n bytes at a place, of which there are 1 to 8.
+fn key_to(h: &[u8], at: usize, n: usize) -> u64
+    requires { ⌜ (0 < n) × (n ≤ 8) ⌝ }
+    ensures { λ r. ⌜ r ≡ keyTo n (drop at (now (h .entry))) ⌝ }
+{
+    key_at(h, at) >> (64 - 8 * n)
+}
+
+// Whether the text before text x, which is t, if there is one, is less. The first bytes of both, as many as both have, tell most
+// texts apart; where eight bytes lie at either place the compiler loads them at once, with some of the next text behind a short one.
 fn text_climbs<'a>(h: &'a [u8], t: &'a [u8], x: u16) -> bool
     requires { ⌜ now t ≡ textAt (now h) x ⌝ }
     ensures { λ r. ⌜ r ≡ climbs (textAt (now (h .entry))) x ⌝ }
@@ -51,7 +75,18 @@ fn text_climbs<'a>(h: &'a [u8], t: &'a [u8], x: u16) -> bool
         return true;
     }
     let before = x - 1;
-    is_less(compare(text_at(h, before), t))
+    let s = text_at(h, before);
+    let n = common(s.len(), t.len());
+    let at = TEXTS + widen(text_start(h, before));
+    let to = TEXTS + widen(text_start(h, x));
+    if (0 < n) & (at + 8 <= h.len()) & (to + 8 <= h.len()) {
+        let a = key_to(h, at, n);
+        let b = key_to(h, to, n);
+        if a != b {
+            return a < b;
+        }
+    }
+    is_less(compare(s, t))
 }
 
 fn text_ok<'a>(h: &'a [u8], t: &'a [u8], x: u16) -> bool
