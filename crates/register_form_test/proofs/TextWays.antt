@@ -1,15 +1,16 @@
 -- What the functions on texts and properties answer, by what they called.
 use Prim.Native.Nat.{ℕ, zero, suc, _+_, _-_}
-use mathlib.Core.Path.{_≡_, refl, _∙_}
-use mathlib.Core.Bool.{Bool, true, false, _&&_, _||_}
+use mathlib.Core.Path.{_≡_, refl, ap, _∙_}
+use mathlib.Core.Bool.{Bool, true, false, cond, _&&_, _||_, and-assoc}
 use mathlib.Core.List.{List}
 use native.Mathlib.Omega.{arith}
 use lib.Dec.{ltb, eqb}
 use lib.ListN.{length, getD}
-use borrow.Author.Tests.{eq-eqb, ne-eqb}
-use Rattle.text.specs.Bytes.{Bytes, orderOf}
+use borrow.Author.Tests.{eq-eqb, ne-eqb, ltb-true}
+use Rattle.text.specs.Bytes.{Bytes, orderOf, all}
+use Rattle.text.specs.Class.{isOther}
 use Rattle.text.specs.declared.Order.{Order}
-use Rattle.values.specs.Names.{isNamespace, isPropertyName}
+use Rattle.values.specs.Names.{isName, isNamespace, isPropertyName}
 use Rattle.values.specs.ByteRules.{nameClass}
 use Rattle.values.proofs.Ruling.{class-two}
 use Rattle.language.specs.Rules.{isIdentifier}
@@ -19,7 +20,7 @@ use Rattle.register_form.specs.Form.{textCount, textStart, textAt}
 use Rattle.register_form.specs.Tests.{isLabelled, isPlain}
 use Rattle.buffer.specs.Tests.{allTo}
 use Rattle.register_form_test.specs.Loops.{sumTo, climbs}
-use Rattle.register_form_test.specs.Stages.{classOf, textTest, textLength, nameNumber, propertyOk, namesTo, propertyTest, propertyLength}
+use Rattle.register_form_test.specs.Stages.{classOf, textTest, Classed, textLength, nameNumber, propertyOk, namesTo, propertyTest, propertyLength}
 use Rattle.buffer.proofs.Testing.{all-more}
 use Rattle.register_form_test.proofs.Loops.{sum-more}
 
@@ -59,9 +60,6 @@ module _ (t n : Bytes) (z a : ℕ) (e : n ≡ nameOf t) (f : z ≡ getD t 0 0) (
     class-other q = rw (← f, ne-eqb z 0 k, names-told false q)
 
 module _ (h : Bytes) (x : ℕ) where
-  pub plain-is : (t : Bytes) (b : ℕ) → t ≡ textAt h x → b ≡ getD t 0 0 → eqb b 0 ≡ isPlain (textAt h x)
-  plain-is t b e f = rw (f, e)
-
   pub text-tested : (t : Bytes) (a b : Bool) → t ≡ textAt h x → a ≡ isLabelled t → b ≡ climbs (textAt h) x → (a && b) ≡ textTest h x
   unfolding textTest
   text-tested t a b e f g = rw (f, g, e)
@@ -70,9 +68,29 @@ module _ (h : Bytes) (x : ℕ) where
   unfolding textLength
   length-is a b r e f g = g ∙ rw (e, f)
 
-  pub property-is : (used : List ℕ) (n w u : ℕ) (m : Bytes) (p q : Bool) → n ≡ textCount h → p ≡ isPlain (textAt h x) → m ≡ nameOf (textAt h x) → q ≡ isPropertyName m → w ≡ x → u ≡ getD used w 0 → (ltb x n && p && q && eqb u 0) ≡ propertyOk h used x
-  unfolding propertyOk
-  property-is used n w u m p q e f g j k l = rw (e, f, j, g, l, k)
+  -- A text of class 2 is a name without a namespace.
+  class-name : eqb (classOf (textAt h x)) 2 ≡ (isPlain (textAt h x) && isName (nameOf (textAt h x)))
+  unfolding classOf
+  class-name = go (isPlain (textAt h x)) (isIdentifier (identifierOf (textAt h x)))
+    where
+      go : (p q : Bool) → eqb (cond p (nameClass (nameOf (textAt h x))) (cond q 3 0)) 2 ≡ (p && isName (nameOf (textAt h x)))
+      go true q = class-two (nameOf (textAt h x))
+      go false true = refl
+      go false false = refl
+
+  pub property-is : (classes used : List ℕ) (n w u w' u' : ℕ) (m : Bytes) (d : Bool) → Classed h classes → n ≡ textCount h → w ≡ x → u ≡ getD classes w 0 → m ≡ nameOf (textAt h x) → d ≡ all (isOther 46) m → w' ≡ x → u' ≡ getD used w' 0 → (ltb x n && eqb u 2 && d && eqb u' 0) ≡ propertyOk h used x
+  unfolding propertyOk isPropertyName
+  property-is classes used n w u w' u' m d right e f g i j k l = rw (e, l, k, j, i, g, f) (go (ltb x (textCount h)) refl)
+    where
+      t : Bytes
+      t = textAt h x
+
+      dotless : Bool
+      dotless = all (isOther 46) (nameOf t)
+
+      go : (b : Bool) → ltb x (textCount h) ≡ b → (ltb x (textCount h) && eqb (getD classes x 0) 2 && dotless && eqb (getD used x 0) 0) ≡ (ltb x (textCount h) && isPlain t && (isName (nameOf t) && dotless) && eqb (getD used x 0) 0)
+      go true b = rw (b, right x (ltb-true x (textCount h) b), class-name) (ap (λ (r : Bool). r && eqb (getD used x 0) 0) (and-assoc (isPlain t) (isName (nameOf t)) dotless))
+      go false b = rw b
 
 module _ (h : Bytes) (p x : ℕ) (e : x ≡ nameNumber h p) where
   pub property-more : (used u : List ℕ) (ok t : Bool) → ok ≡ allTo p (propertyTest h used) → u ≡ namesTo h p used → t ≡ propertyOk h u x → (ok && t) ≡ allTo (p + 1) (propertyTest h used)
@@ -84,4 +102,4 @@ module _ (h : Bytes) (p x : ℕ) (e : x ≡ nameNumber h p) where
   property-sum n w s f g k = sum-more (propertyLength h) p s w f (k ∙ g ∙ rw e)
 
 pub ruleset texts =
-    (labelled-is, climbs-first, climbs-on, plain-is, text-tested, length-is, property-is, property-more, property-sum)
+    (labelled-is, climbs-first, climbs-on, text-tested, length-is, property-is, property-more, property-sum)

@@ -13,14 +13,15 @@ use Rattle.register_form.specs.Form.{pageCount, termCount, textCount}
 use Rattle.register_form.specs.Tests.{isLaid}
 use Rattle.buffer.specs.Tests.{allTo}
 use Rattle.register_form.proofs.Forms.{tested-is}
+use Rattle.register_form.proofs.Laying.{laid-facts}
 use Rattle.register_form_test.specs.Loops.{written, isSet}
-use Rattle.register_form_test.specs.Stages.{textTest, classesTo, PropertiesTested, TermsTested, PagesTested, usedTest, identifierAt}
+use Rattle.register_form_test.specs.Stages.{textTest, classesTo, Classed, PropertiesTested, TermsTested, PagesTested, usedTest, identifierAt}
 use Rattle.register_form_test.specs.Opening.{Opens, Tries}
 use Rattle.register_form_test.specs.declared.Tally.{Tally}
 use Rattle.sorting.proofs.Canonical.{left-of, right-of}
 use Rattle.register_form_test.proofs.Loops.{length-written}
 use Rattle.register_form_test.proofs.Tabled.{written-fill}
-use Rattle.register_form_test.proofs.Verdict.{verdict, unverified, verdict-is, verdict-places, not-laid}
+use Rattle.register_form_test.proofs.Verdict.{classes-right, verdict, unverified, verdict-is, verdict-places, not-laid}
 
 -- A table into which 0 was written everywhere.
 pub cleared : (t u : List ℕ) (i : ℕ) → u ≡ written (λ i. i) (λ i. 0) i t → length u ≤ i → u ≡ replicate (length t) 0
@@ -33,6 +34,9 @@ cleared t u i e b =
 
 pub laid-known : (h : Bytes) (r : Bool) → r ≡ isLaid h → not r ≡ false → isLaid h ≡ true
 laid-known h r e f = sym e ∙ not-false r f
+
+pub classed : (h : Bytes) (r texts : Bool) (classes : List ℕ) → r ≡ isLaid h → not r ≡ false → (texts ≡ allTo (textCount h) (textTest h)) × (classes ≡ classesTo h (textCount h) (replicate 2368 0)) → Classed h classes
+classed h r texts classes e f t x b = rw (t .1) (classes-right h (laid-facts h (laid-known h r e f)) x b)
 
 failing : (a b c d e : Bool) → b ≡ false → (a && b && c && d && e) ≡ false
 failing true b c d e z = rw z

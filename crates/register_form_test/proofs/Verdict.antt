@@ -75,7 +75,7 @@ module _ (h : Bytes) where
   labelled e x b = rw (text-in h x b) at (all-at isLabelled (dictionaryIn h .texts) x [] e (omega (arith, text-count h)))
 
   module _ (laid : Laid h) where
-    classes-right : (x : ℕ) → x < textCount h → getD classes x 0 ≡ classOf (textAt h x)
+    pub classes-right : (x : ℕ) → x < textCount h → getD classes x 0 ≡ classOf (textAt h x)
     classes-right x b = written-fill (λ x. classOf (textAt h x)) (replicate 2368 0) x (rw (length-replicate {A = ℕ} 2368 0) (omega (arith, laid .counted .texts))) (textCount h) b
 
     each-passed : verdict ≡ true → (i : ℕ) → getD (texts ∷ properties ∷ terms ∷ pages ∷ used-terms ∷ used-texts ∷ leb bytes 32768 ∷ []) i true ≡ true

@@ -1,5 +1,5 @@
 -- Working definitions: what each function tests and writes, over tables of numbers.
-use Prim.Native.Nat.{ℕ, zero, suc, _+_, _*_, _-_, _≤_}
+use Prim.Native.Nat.{ℕ, zero, suc, _+_, _*_, _-_, _≤_, _<_}
 use mathlib.Core.Path.{_≡_}
 use mathlib.Core.Bool.{Bool, true, false, cond, not, _&&_, _||_}
 use mathlib.Core.List.{List}
@@ -61,6 +61,10 @@ module _ (h : Bytes) where
 
   abbrev pub classesTo : ℕ → List ℕ → List ℕ
   classesTo n classes = written (λ x. x) (λ x. classOf (textAt h x)) n classes
+
+  -- The table has the class of each text.
+  abbrev pub Classed : List ℕ → Type 0
+  Classed classes = (x : ℕ) → x < textCount h → getD classes x 0 ≡ classOf (textAt h x)
 
   unfoldable pub textLength : ℕ → ℕ
   textLength x = textStart h (suc x) - textStart h x

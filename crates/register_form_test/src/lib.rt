@@ -6,7 +6,7 @@ ghost use Rattle.register_form_test.specs.Opening.{Opens, Tries};
 pub mod layout; // layout.rt: the counts, the tables of starts and the zeros behind each region
 mod pages; // pages.rt: pages and their forms, and that each text and term is used
 pub mod terms; // terms.rt: terms
-pub mod texts; // texts.rt: texts and properties
+mod texts; // texts.rt: texts and properties
 
 use layout::is_laid;
 use pages::pages_ok;
@@ -55,7 +55,7 @@ fn try_open(h: &[u8], places: &mut [u16]) -> bool
     let mut shown = [0u16; FORM_ROOM];
     let mut last = [0u16; FORM_ROOM];
     let texts = texts_ok(h, &mut classes);
-    let properties = properties_ok(h, &mut used);
+    let properties = properties_ok(h, &classes, &mut used);
     let terms = terms_ok(h, &classes, &mut used, &mut shown);
     let pages = pages_ok(h, &classes, &shown, &mut last, places);
     let bytes = properties.bytes + pages.bytes;

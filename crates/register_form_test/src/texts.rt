@@ -5,10 +5,10 @@ ghost use lib.ListN.{drop};
 ghost use Rattle.text.specs.Keys.{keyTo};
 ghost use Rattle.values.specs.ByteRules.{ruleTable};
 ghost use Rattle.register_form.specs.Form.{textCount, textAt};
-ghost use Rattle.register_form.specs.Tests.{isLabelled, isPlain};
+ghost use Rattle.register_form.specs.Tests.{isLabelled};
 ghost use Rattle.buffer.specs.Tests.{allTo};
 ghost use Rattle.register_form_test.specs.Loops.{climbs};
-ghost use Rattle.register_form_test.specs.Stages.{classOf, textTest, classesTo, textLength, propertyOk, PropertiesTested};
+ghost use Rattle.register_form_test.specs.Stages.{classOf, textTest, classesTo, textLength, Classed, propertyOk, PropertiesTested};
 use crate::Tally;
 use register_form::layout::TEXTS;
 use register_form::minus;
@@ -25,10 +25,11 @@ use sorting::is_less;
 use tables::get;
 use tables::put;
 use tables::widen;
+use text::Class;
+use text::all_in;
 use text::byte_at;
 use text::compare;
 use text::key_at;
-use values::is_property_name;
 use values::rules::byte_rules;
 use values::rules::name_class;
 
@@ -37,13 +38,6 @@ fn is_labelled(t: &[u8]) -> bool
     ensures { λ r. ⌜ r ≡ isLabelled (now (t .entry)) ⌝ }
 {
     text::widen(byte_at(t, 0)) < t.len()
-}
-
-// Whether text x has no namespace.
-fn is_plain(h: &[u8], x: u16) -> bool
-    ensures { λ r. ⌜ r ≡ isPlain (textAt (now (h .entry)) x) ⌝ }
-{
-    byte_at(text_at(h, x), 0) == 0
 }
 
 // The least of two lengths and 8.
@@ -141,18 +135,20 @@ pub fn names_length(h: &[u8], x: u16) -> u16
     minus(text_length(h, x), 1)
 }
 
-// Whether text x is a property's name that was not used.
-fn property_ok(h: &[u8], used: &[u16], x: u16) -> bool
+// Whether text x is a property's name that was not used. Its class tells whether it is a name.
+fn property_ok(h: &[u8], classes: &[u16], used: &[u16], x: u16) -> bool
+    requires { ⌜ Classed (now h) (now classes) ⌝ }
     ensures { λ r. ⌜ r ≡ propertyOk (now (h .entry)) (now (used .entry)) x ⌝ }
 {
     (x < text_count(h))
-        & is_plain(h, x)
-        & is_property_name(name_at(h, x))
+        & (get(classes, widen(x)) == 2)
+        & all_in(name_at(h, x), Class::NoDot)
         & (get(used, widen(x)) == 0)
 }
 
 // Whether the properties keep the rules; marks their names as used.
-pub fn properties_ok(h: &[u8], used: &mut [u16]) -> Tally
+pub fn properties_ok(h: &[u8], classes: &[u16], used: &mut [u16]) -> Tally
+    requires { ⌜ Classed (now h) (now classes) ⌝ }
     ensures { λ r. ⌜ PropertiesTested (now (h .entry)) (now (used .entry)) (now (used .exit)) r ⌝ }
 {
     let n = property_count(h);
@@ -161,7 +157,7 @@ pub fn properties_ok(h: &[u8], used: &mut [u16]) -> Tally
     let mut p: u16 = 0;
     while p < n {
         let x = name_number(h, p);
-        ok = ok & property_ok(h, used, x);
+        ok = ok & property_ok(h, classes, used, x);
         bytes += widen(names_length(h, x));
         put(used, widen(x), 1);
         p += 1;

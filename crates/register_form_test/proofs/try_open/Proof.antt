@@ -1,5 +1,5 @@
+use Rattle.register_form_test.proofs.Trying.{laid-known, classed, try-not, try-is}
 use borrow.Author.Needs.{needs}
-use Rattle.register_form_test.proofs.Trying.{laid-known, try-not, try-is}
 use Rattle.register_form_test.proofs.try_open.Statement.{statement}
 use Rattle.register_form_test.proofs.try_open.Tie as tie
 
@@ -18,8 +18,11 @@ texts-ok-requires c κs = search needs
 slice-aggregate-properties-ok : tie.Need-slice-aggregate-properties-ok
 slice-aggregate-properties-ok c = search needs
 
+slice-aggregate-properties-ok-2 : tie.Need-slice-aggregate-properties-ok-2
+slice-aggregate-properties-ok-2 c = search needs
+
 properties-ok-requires : tie.Need-properties-ok-requires
-properties-ok-requires c κs = search needs
+properties-ok-requires c κs = classed _ _ _ _ (c .before .before .before .before .before .before .is-laid .ensures) (c .before .before .before .before .before .if1 .left) (c .before .before .before .texts-ok .ensures)
 
 slice-aggregate-terms-ok : tie.Need-slice-aggregate-terms-ok
 slice-aggregate-terms-ok c = search needs
@@ -64,7 +67,7 @@ same-length : tie.Need-same-length
 same-length c = search needs
 
 returns-2 : tie.Need-returns-2
-returns-2 c = try-is _ _ _ _ _ _ _ _ _ _ _ _ _ _ _ (c .before .before .before .before .before .before .before .before .before .before .before .before .before .before .before .before .before .before .before .before .before .before .before .before .before .before .before .before .before .before .is-laid .ensures) (c .before .before .before .before .before .before .before .before .before .before .before .before .before .before .before .before .before .before .before .before .before .before .before .before .before .before .before .before .before .if1 .left) (c .before .before .before .before .before .before .before .before .before .before .before .before .before .before .before .before .before .before .before .before .before .before .before .before .before .before .before .texts-ok .ensures) (c .before .before .before .before .before .before .before .before .before .before .before .before .before .before .before .before .before .before .before .before .before .before .before .before .properties-ok .ensures) (c .before .before .before .before .before .before .before .before .before .before .before .before .before .before .before .before .before .before .before .terms-ok .ensures) (c .before .before .before .before .before .before .before .before .before .before .before .before .pages-ok .ensures) (c .before .before .before .terms-used .ensures) (c .texts-used .ensures)
+returns-2 c = try-is _ _ _ _ _ _ _ _ _ _ _ _ _ _ _ (c .before .before .before .before .before .before .before .before .before .before .before .before .before .before .before .before .before .before .before .before .before .before .before .before .before .before .before .before .before .before .before .is-laid .ensures) (c .before .before .before .before .before .before .before .before .before .before .before .before .before .before .before .before .before .before .before .before .before .before .before .before .before .before .before .before .before .before .if1 .left) (c .before .before .before .before .before .before .before .before .before .before .before .before .before .before .before .before .before .before .before .before .before .before .before .before .before .before .before .before .texts-ok .ensures) (c .before .before .before .before .before .before .before .before .before .before .before .before .before .before .before .before .before .before .before .before .before .before .before .before .properties-ok .ensures) (c .before .before .before .before .before .before .before .before .before .before .before .before .before .before .before .before .before .before .before .terms-ok .ensures) (c .before .before .before .before .before .before .before .before .before .before .before .before .pages-ok .ensures) (c .before .before .before .terms-used .ensures) (c .texts-used .ensures)
 
 pub try-open-spec : {M : Type 1} → statement M
 try-open-spec =
@@ -75,6 +78,7 @@ try-open-spec =
     slice-aggregate-texts-ok
     texts-ok-requires
     slice-aggregate-properties-ok
+    slice-aggregate-properties-ok-2
     properties-ok-requires
     slice-aggregate-terms-ok
     slice-aggregate-terms-ok-2

@@ -14,10 +14,10 @@ use Rattle.register_form_test.proofs.texts.properties_ok.Statement.{sta
 use Rattle.register_form_test.proofs.texts.properties_ok.Tie as tie
 
 abbrev Inv-loop : tie.InvT-loop
-Inv-loop h used₀ n ok₀ bytes₀ p₀ used ok bytes p = (p ≤ n) × (ok ≡ allTo p (propertyTest h used₀)) × (bytes ≡ sumTo p (propertyLength h)) × (used ≡ namesTo h p used₀) × (bytes ≤ 65535 * p)
+Inv-loop h classes used₀ n ok₀ bytes₀ p₀ used ok bytes p = (p ≤ n) × (ok ≡ allTo p (propertyTest h used₀)) × (bytes ≡ sumTo p (propertyLength h)) × (used ≡ namesTo h p used₀) × (bytes ≤ 65535 * p)
 
 abbrev μ-loop : tie.MeasureT-loop
-μ-loop h used₀ n ok₀ bytes₀ p₀ used ok bytes p = n - p
+μ-loop h classes used₀ n ok₀ bytes₀ p₀ used ok bytes p = n - p
 
 property-count-requires : tie.Need-property-count-requires Inv-loop μ-loop
 property-count-requires c κs = search needs
