@@ -6,7 +6,8 @@ use mathlib.Core.List.{List}
 use native.Mathlib.Omega.{arith}
 use native.Mathlib.Numerals.{add-one}
 use lib.Dec.{ltb, leb, eqb}
-use lib.ListN.{length, getD}
+use lib.ListN.{length, getD, List·getD-eq-default}
+use native.Mathlib.Nat.{le-refl}
 use borrow.Author.Tests.{lt-ltb, le-ltb, eq-eqb, ne-eqb, not-true, not-false}
 use Rattle.text.specs.Bytes.{Bytes, part}
 use Rattle.buffer.specs.Numbers.{twoAt}
@@ -42,6 +43,18 @@ mid-false false b c e = refl
 pub set-is : (t : List ℕ) (i w u : ℕ) → w ≡ i → u ≡ getD t w 0 → not (eqb u 0) ≡ isSet t i
 unfolding isSet
 set-is t i w u e f = rw (f, e)
+
+pub set-here : (t : List ℕ) (i : ℕ) → not (eqb (getD t i 0) 0) ≡ isSet t i
+unfolding isSet
+set-here t i = refl
+
+-- nothing is set past the end
+pub set-short : (t : List ℕ) (n m k : ℕ) → length t < n → n ≡ m → m ≡ k → false ≡ allTo k (isSet t)
+unfolding isSet
+set-short t n m k l e f = all-fails (isSet t) k (length t) (omega arith) (ap (λ (v : ℕ). not (eqb v 0)) (List·getD-eq-default t 0 {n = length t} (le-refl (length t))))
+
+pub set-end : (t : List ℕ) (i n m k : ℕ) (ok : Bool) → ok ≡ allTo i (isSet t) → i ≤ n → n ≤ i → n ≡ m → m ≡ k → ok ≡ allTo k (isSet t)
+set-end t i n m k ok e a b f g = let p : i ≡ k = omega arith in e ∙ rw p
 
 pub used-tested : (used places : List ℕ) (x : ℕ) (a b : Bool) → a ≡ isSet used x → b ≡ isSet places x → (a || b) ≡ usedTest used places x
 unfolding usedTest

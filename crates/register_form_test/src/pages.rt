@@ -106,15 +106,18 @@ fn is_set(t: &[u16], i: u16) -> bool
     get(t, widen(i)) != 0
 }
 
-// Whether some page has each term.
+// Whether some page has each term. It reads the table without a test of each place, so that a compiler takes many at a time.
 pub fn terms_used(h: &[u8], last: &[u16]) -> bool
     ensures { λ r. ⌜ r ≡ allTo (termCount (now (h .entry))) (isSet (now (last .entry))) ⌝ }
 {
-    let n = term_count(h);
+    let n = widen(term_count(h));
+    if last.len() < n {
+        return false;
+    }
     let mut ok = true;
-    let mut f: u16 = 0;
+    let mut f: usize = 0;
     while f < n {
-        ok = ok & is_set(last, f);
+        ok = ok & (last[f] != 0);
         f += 1;
     }
     ok
