@@ -29,7 +29,11 @@ fn forms_of(h: &[u8], i: u16) -> &[u8]
     ensures { λ r. ⌜ now r ≡ formBytes (now (h .entry)) i ⌝ }
 {
     let start = form_start(h, i);
-    part(h, FORMS + 2 * widen(start), 2 * widen(minus(form_end(h, i), start)))
+    part(
+        h,
+        FORMS + 2 * widen(start),
+        2 * widen(minus(form_end(h, i), start)),
+    )
 }
 
 // Whether the forms of page i are terms, none twice, categories before values; writes the page's mark for each. The table had the last
@@ -46,15 +50,24 @@ fn forms_ok(h: &[u8], shown: &[u16], last: &mut [u16], i: u16, mark: u16) -> Tal
     while 2 * j + 2 <= forms.len() {
         let f = two_at(forms, 2 * j);
         if terms <= f {
-            return Tally { ok: false, bytes: 0 };
+            return Tally {
+                ok: false,
+                bytes: 0,
+            };
         }
         let at = widen(f);
         if get(last, at) == mark {
-            return Tally { ok: false, bytes: 0 };
+            return Tally {
+                ok: false,
+                bytes: 0,
+            };
         }
         let category = group_at(h, f) == 0;
         if behind & category {
-            return Tally { ok: false, bytes: 0 };
+            return Tally {
+                ok: false,
+                bytes: 0,
+            };
         }
         put(last, at, mark);
         bytes += widen(get(shown, at));
@@ -90,7 +103,10 @@ pub fn pages_ok(
         let x = identifier_number(h, i);
         let forms = forms_ok(h, shown, last, i, next);
         if !(page_ok(h, classes, places, x) & forms.ok) {
-            return Tally { ok: false, bytes: 0 };
+            return Tally {
+                ok: false,
+                bytes: 0,
+            };
         }
         bytes += widen(names_length(h, x)) + forms.bytes;
         put(places, widen(x), next);
