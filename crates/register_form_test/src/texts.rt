@@ -28,7 +28,7 @@ use tables::widen;
 use text::Class;
 use text::all_in;
 use text::byte_at;
-use text::compare;
+use text::compare_long;
 use text::key_at;
 use values::rules::byte_rules;
 use values::rules::name_class;
@@ -80,7 +80,7 @@ fn text_climbs<'a>(h: &'a [u8], t: &'a [u8], x: u16) -> bool
             return a < b;
         }
     }
-    is_less(compare(s, t))
+    is_less(compare_long(s, t))
 }
 
 fn text_ok<'a>(h: &'a [u8], t: &'a [u8], x: u16) -> bool

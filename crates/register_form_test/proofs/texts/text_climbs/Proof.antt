@@ -50,8 +50,8 @@ key-to-requires-2 c κs = (some-byte _ _ _ (c .before .if2 .taken), c .before .b
 returns-2 : tie.Need-returns-2
 returns-2 c = text-keyed (c .before .before .before .before .before .before .before .before .before .before .before .before .before .args .h .now) (λ i. omega (arith, c .before .before .before .before .before .before .before .before .before .before .before .before .shared-slice-known .given i)) (c .before .before .before .before .before .before .before .before .before .before .before .before .before .args .x) _ _ _ _ _ _ _ _ _ (c .before .before .before .before .before .before .before .before .before .before .if1 .left) (c .before .before .before .before .before .before .before .before .before .text-at .ensures) (c .before .before .before .before .before .before .before .before .before .before .before .before .before .pre) (c .before .before .before .before .before .before .before .before .common .ensures .0) (c .before .before .before .before .before .before .before .before .common .ensures .1) (c .before .before .before .before .before .before .before .text-start .ensures) (c .before .before .before .before .before .before .widen .ensures) (c .before .before .before .before .before .text-start2 .ensures) (c .before .before .before .before .widen2 .ensures) (c .before .before .key-to .ensures) (c .before .key-to2 .ensures) (c .if3 .taken)
 
-compare-requires : tie.Need-compare-requires
-compare-requires c κs = search needs
+compare-long-requires : tie.Need-compare-long-requires
+compare-long-requires c κs = search needs
 
 is-less-requires : tie.Need-is-less-requires
 is-less-requires c κs = search needs
@@ -78,6 +78,6 @@ text-climbs-spec =
     key-to-requires
     key-to-requires-2
     returns-2
-    compare-requires
+    compare-long-requires
     is-less-requires
     returns-3)

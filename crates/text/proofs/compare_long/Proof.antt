@@ -6,8 +6,8 @@ use lib.ListN.{length, drop}
 use borrow.Author.Needs.{needs}
 use Rattle.text.specs.Bytes.{orderOf}
 use Rattle.text.proofs.Keys.{Small, both-left, keys-differ, keys-same}
-use Rattle.text.proofs.compare.Statement.{statement}
-use Rattle.text.proofs.compare.Tie as tie
+use Rattle.text.proofs.compare_long.Statement.{statement}
+use Rattle.text.proofs.compare_long.Tie as tie
 
 abbrev Inv-loop : tie.InvT-loop
 Inv-loop a b i₀ i = (i ≤ length a) × (i ≤ length b) × (orderOf a b ≡ orderOf (drop i a) (drop i b))
@@ -69,8 +69,8 @@ compare-from-requires c κs = search needs
 returns-2 : tie.Need-returns-2 Inv-loop μ-loop
 returns-2 c = c .compare-from .ensures ∙ sym (c .before .before .loop .inv .2)
 
-pub compare-spec : {M : Type 1} → statement M
-compare-spec =
+pub compare-long-spec : {M : Type 1} → statement M
+compare-long-spec =
     tie.close
     (tie.spec
     Inv-loop
