@@ -1,9 +1,14 @@
 // The bytes of names and values, up to 32,769.
 ghost use mathlib.Core.Path.{_≡_};
+ghost use mathlib.Core.Bool.{_&&_};
+ghost use lib.Dec.{ltb};
+ghost use lib.ListN.{length};
 ghost use Prim.Native.Nat.{_+_, _%_, min};
+ghost use Rattle.text.specs.Table.{Tabled};
 ghost use Rattle.language.specs.Rules.{total};
 ghost use Rattle.register_form_bytes.specs.Writing.{firstOf};
-ghost use Rattle.register_form_assembly.specs.Counting.{textBytes, linkBytes, valueBytes, formBytes, termBytesBy};
+ghost use Rattle.register_form_assembly.specs.Counting.{textBytes, linkBytes, valueBytes, formBytes, termBytesBy, capped, SizesAdded};
+ghost use Rattle.register_form_assembly.specs.Terms.{Filling};
 use dictionary::text_at;
 use register_form::layout;
 use register_form::minus;
@@ -11,6 +16,7 @@ use register_form_bytes::regions::text_length;
 use tables::code_at;
 use tables::get;
 use tables::num_at;
+use tables::put;
 use tables::widen;
 use text::byte_at;
 use values::Kind;
@@ -21,6 +27,12 @@ use values::scalar_length;
 pub const MOST_COUNTED: u16 = 32768;
 
 const UNCOUNTED: u16 = 32769;
+
+// Bytes added, and whether none is missing.
+struct Sum {
+    bytes: usize,
+    all: bool,
+}
 
 // A sum, up to 32,769.
 fn add_capped(a: u16, x: usize) -> u16
@@ -131,8 +143,75 @@ fn term_bytes(
     )
 }
 
+// The same, up to 32,769.
+fn size_of(
+    s: &[u8],
+    starts: &[u32],
+    lens: &[u16],
+    kinds: &[u8],
+    groups: &[u8],
+    codes: &[u64],
+    refs: &[u16],
+    t: u16,
+) -> u16
+    ensures { λ r. ⌜ r ≡ capped (termBytesBy (now (s .entry)) (now (starts .entry)) (now (lens .entry)) (now (kinds .entry)) (now (groups .entry)) (now (codes .entry)) (now (refs .entry))) t ⌝ }
+{
+    add_capped(
+        0,
+        term_bytes(s, starts, lens, kinds, groups, codes, refs, t),
+    )
+}
+
+// Writes those of the first n terms.
+pub fn put_sizes(
+    s: &[u8],
+    starts: &[u32],
+    lens: &[u16],
+    kinds: &[u8],
+    groups: &[u8],
+    codes: &[u64],
+    refs: &[u16],
+    n: u16,
+    sizes: &mut [u16],
+)
+    ensures { λ _. ⌜ Filling (capped (termBytesBy (now (s .entry)) (now (starts .entry)) (now (lens .entry)) (now (kinds .entry)) (now (groups .entry)) (now (codes .entry)) (now (refs .entry)))) (now (sizes .entry)) n (now (sizes .exit)) ⌝ }
+{
+    let mut t: u16 = 0;
+    while t < n {
+        put(
+            sizes,
+            widen(t),
+            size_of(s, starts, lens, kinds, groups, codes, refs, t),
+        );
+        t += 1;
+    }
+}
+
+// Whether the table of the sizes of the first so many terms has that of term t.
+fn has_size(sizes: &[u16], most: u16, t: u16) -> bool
+    ensures { λ r. ⌜ r ≡ (ltb t most && ltb t (length (now (sizes .entry)))) ⌝ }
+{
+    (t < most) & (widen(t) < sizes.len())
+}
+
+// Adds the sizes of the first n terms of a table, behind others.
+fn add_sizes(sizes: &[u16], most: u16, table: &[u16], n: u16, before: u16) -> Sum
+    ensures { λ r. ⌜ SizesAdded (now (sizes .entry)) most (now (table .entry)) n before (r .bytes) (r .all) ⌝ }
+{
+    let mut sum = widen(before);
+    let mut all = true;
+    let mut i: u16 = 0;
+    while i < n {
+        let t = get(table, widen(i));
+        all = all & has_size(sizes, most, t);
+        sum += widen(get(sizes, widen(t)));
+        i += 1;
+    }
+    Sum { bytes: sum, all }
+}
+
 // The bytes of the first n terms of a table, behind others.
-pub fn count_terms(
+fn count_each(
     s: &[u8],
     starts: &[u32],
     lens: &[u16],
@@ -165,4 +244,39 @@ pub fn count_terms(
         i += 1;
     }
     sum
+}
+
+// The same by a table of the sizes of the first so many terms, where that has all.
+pub fn count_terms(
+    s: &[u8],
+    starts: &[u32],
+    lens: &[u16],
+    kinds: &[u8],
+    groups: &[u8],
+    codes: &[u64],
+    refs: &[u16],
+    sizes: &[u16],
+    most: u16,
+    table: &[u16],
+    n: u16,
+    before: u16,
+) -> u16
+    ensures { λ r. ⌜ (Tabled (capped (termBytesBy (now (s .entry)) (now (starts .entry)) (now (lens .entry)) (now (kinds .entry)) (now (groups .entry)) (now (codes .entry)) (now (refs .entry)))) most (now (sizes .entry)) → r ≡ min (before + total (termBytesBy (now (s .entry)) (now (starts .entry)) (now (lens .entry)) (now (kinds .entry)) (now (groups .entry)) (now (codes .entry)) (now (refs .entry))) (firstOf (now (table .entry)) n)) 32769) ⌝ }
+{
+    let sum = add_sizes(sizes, most, table, n, before);
+    if sum.all {
+        return add_capped(0, sum.bytes);
+    }
+    count_each(
+        s,
+        starts,
+        lens,
+        kinds,
+        groups,
+        codes,
+        refs,
+        table,
+        n,
+        before,
+    )
 }

@@ -1,11 +1,11 @@
 -- Laws of the loops that write the rows of a held register: what is still to be written where they stand gives the whole.
-use Prim.Native.Nat.{ℕ, _+_, _*_, _≤_, _<_}
+use Prim.Native.Nat.{ℕ, _+_, _*_, _/_, _%_, _≤_, _<_}
 use mathlib.Core.Path.{_≡_, refl, sym, ap, _∙_}
 use mathlib.Core.List.{List, [], _∷_, flatMap}
 use native.Mathlib.Omega.{arith}
 use native.Mathlib.Numerals.{add-one}
 use native.Mathlib.Nat.{add-zero}
-use lib.ListN.{length, getD, drop, drop-of-length-le}
+use lib.ListN.{length, getD, set, drop, drop-of-length-le}
 use lib.Seq.{drop-cons}
 use Rattle.text.specs.Bytes.{Bytes}
 use Rattle.text.proofs.Tables.{length-tabulate, getD-tabulate}
@@ -13,6 +13,7 @@ use Rattle.sorting.specs.Listing.{listed}
 use Rattle.sorting.proofs.Listings.{length-listed, getD-listed}
 use Rattle.buffer.specs.Numbers.{twoBytes, startsFrom}
 use Rattle.buffer.specs.Writing.{written}
+use Rattle.buffer.proofs.Written.{two-is}
 use Rattle.buffer.proofs.Looping.{Writing, writing-none, writing-more, writing-done, writing-past, Rowing, rows-none, rows-more, rows-all}
 use Rattle.register_form.specs.Form.{propertyBytes, numberBytes, joined}
 use Rattle.register_form_bytes.specs.Writing.{rowOf, picked, firstOf, rowsOf}
@@ -31,6 +32,11 @@ module _ (h₀ : Bytes) (base : ℕ) (table : List ℕ) (n : ℕ) where
     numbers-more k v g b d e f =
         rows-more twoBytes 2 0 h₀ base (firstOf table n) h i r v g (rw length-tabulate b)
         (e ∙ rw d (sym (getD-tabulate n (λ j. getD table j 0) 0 i b))) refl (rw d at f)
+
+    -- The same by its two bytes.
+    pub numbers-set : (v : ℕ) (k g : Bytes) → i < n → v ≡ getD table i 0 → k ≡ set h (base + 2 * i) (v % 256) → g ≡ set k (base + 2 * i + 1) (v / 256 % 256) → Numbering g (i + 1)
+    unfolding written
+    numbers-set v k g b e f q = numbers-more i v g b refl e (two-is h (base + 2 * i) v k g f q)
 
     pub numbers-all : (at : ℕ) → base ≡ at → n ≤ i → h ≡ written h₀ at (numberBytes (firstOf table n))
     unfolding firstOf numberBytes

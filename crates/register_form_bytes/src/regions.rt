@@ -35,8 +35,8 @@ pub fn put_properties(h: &mut [u8], at: u16, kinds: &[u8], numbers: &[u16], name
     }
 }
 
-// The first n numbers of a table.
-pub fn put_numbers(h: &mut [u8], at: u16, table: &[u16], n: u16)
+// The first n numbers of a table, each where there is room.
+fn put_each(h: &mut [u8], at: u16, table: &[u16], n: u16)
     ensures { λ _. ⌜ now (h .exit) ≡ written (now (h .entry)) at (numberBytes (firstOf (now (table .entry)) n)) ⌝ }
 {
     let base = widen(at);
@@ -44,6 +44,29 @@ pub fn put_numbers(h: &mut [u8], at: u16, table: &[u16], n: u16)
     while i < n {
         let k = widen(i);
         put_two(h, base + 2 * k, num_at(table, k));
+        i += 1;
+    }
+}
+
+// The same. Where there is room for all, that is asked once, and a compiler takes many at a time.
+pub fn put_numbers(h: &mut [u8], at: u16, table: &[u16], n: u16)
+    ensures { λ _. ⌜ now (h .exit) ≡ written (now (h .entry)) at (numberBytes (firstOf (now (table .entry)) n)) ⌝ }
+{
+    let base = widen(at);
+    let most = widen(n);
+    if table.len() < most {
+        put_each(h, at, table, n);
+        return;
+    }
+    if h.len() < base + 2 * most {
+        put_each(h, at, table, n);
+        return;
+    }
+    let mut i: usize = 0;
+    while i < most {
+        let x = table[i];
+        h[base + 2 * i] = (x % 256) as u8;
+        h[base + 2 * i + 1] = (x / 256 % 256) as u8;
         i += 1;
     }
 }

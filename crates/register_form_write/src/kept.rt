@@ -12,6 +12,7 @@ use register_form::layout;
 use register_form_assembly::counting::MOST_COUNTED;
 use register_form_assembly::counting::count_terms;
 use register_form_assembly::counting::count_texts;
+use register_form_assembly::counting::put_sizes;
 use register_form_assembly::keeping::keep_forms;
 use tables::next;
 
@@ -28,6 +29,7 @@ fn count_all(
     groups: &[u8],
     codes: &[u64],
     trefs: &[u16],
+    nt: u16,
     kept: &[u16],
     n: u16,
 ) -> u16
@@ -35,6 +37,8 @@ fn count_all(
 {
     let named = count_texts(s, starts, lens, names, np, 0);
     let identified = count_texts(s, starts, lens, identifiers, ng, named);
+    let mut sizes = [0u16; layout::FORM_ROOM];
+    put_sizes(s, starts, lens, kinds, groups, codes, trefs, nt, &mut sizes);
     count_terms(
         s,
         starts,
@@ -43,6 +47,8 @@ fn count_all(
         groups,
         codes,
         trefs,
+        &sizes,
+        nt,
         kept,
         n,
         identified,
@@ -94,6 +100,7 @@ pub fn write_kept(
         groups,
         codes,
         trefs,
+        nt,
         &kept,
         n,
     );

@@ -4,6 +4,7 @@ ghost use Rattle.register_form.specs.Tables.{tablesOf};
 ghost use Rattle.register_form_write.specs.Writer.{TermsWritten, NumberedWritten, DraftWritten, OrderedWritten};
 use crate::kept::write_kept;
 use dictionary::number;
+use dictionary::number_of;
 use register_form::layout;
 use register_form_assembly::terms::put_own;
 use register_form_assembly::terms::put_term_starts;
@@ -19,7 +20,7 @@ pub const OVER_LIMIT: usize = 7;
 
 pub const TOO_SHORT: usize = 8;
 
-// Numbers the terms, and writes.
+// Numbers the terms, of which many may be alike or few, and writes.
 fn write_terms(
     s: &[u8],
     starts: &[u32],
@@ -38,6 +39,7 @@ fn write_terms(
     nx: u16,
     numbers: &[u16],
     held: &mut [u8],
+    alike: bool,
 ) -> usize
     ensures { λ r. ⌜ ((m : ℕ) → TermsWritten (tablesOf (now (s .entry)) (now (starts .entry)) (now (lens .entry)) m (now (kinds .entry)) (now (names .entry)) np (now (identifiers .entry)) (now (firsts .entry)) ng (now (uses .entry)) (now (groups .entry)) (now (codes .entry)) terms) (now (refs .entry)) nx (now (numbers .entry)) (now (held .entry)) r (now (held .exit))) ⌝ }
 {
@@ -49,7 +51,7 @@ fn write_terms(
     let mut scratch = [0u16; layout::DRAFT_FORMS];
     put_terms(kinds, numbers, groups, codes, terms, &mut table);
     put_term_starts(&mut tstarts, terms);
-    let nt = number(
+    let nt = number_of(
         &table,
         &tstarts,
         &tlens,
@@ -57,6 +59,7 @@ fn write_terms(
         &mut trefs,
         &mut tnumbers,
         &mut scratch,
+        alike,
     ) as u16;
     write_kept(
         s,
@@ -103,6 +106,7 @@ fn write_numbered(
     nx: u16,
     numbers: &[u16],
     held: &mut [u8],
+    alike: bool,
 ) -> usize
     ensures { λ r. ⌜ ((m : ℕ) → NumberedWritten (tablesOf (now (s .entry)) (now (starts .entry)) (now (lens .entry)) m (now (kinds .entry)) (now (names .entry)) np (now (identifiers .entry)) (now (firsts .entry)) ng (now (uses .entry)) (now (groups .entry)) (now (codes .entry)) terms) (now (refs .entry)) nx (now (numbers .entry)) (now (held .entry)) r (now (held .exit))) ⌝ }
 {
@@ -130,6 +134,7 @@ fn write_numbered(
         nx,
         numbers,
         held,
+        alike,
     )
 }
 
@@ -175,10 +180,11 @@ pub fn write_draft(
         nx,
         &numbers,
         held,
+        true,
     )
 }
 
-// The same of a draft whose texts ascend: each has its own number.
+// The same of a draft whose texts ascend, so that each has its own number, and of whose terms few are alike.
 pub fn write_ordered(
     s: &[u8],
     starts: &[u32],
@@ -218,5 +224,6 @@ pub fn write_ordered(
         m,
         &own,
         held,
+        false,
     )
 }

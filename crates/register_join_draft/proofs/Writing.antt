@@ -1,6 +1,7 @@
 -- Terms and forms in tables: what one more gives, and what lists of them give.
-use Prim.Native.Nat.{ℕ, zero, suc, _+_, _-_, _%_, _≤_, _<_}
+use Prim.Native.Nat.{ℕ, zero, suc, _+_, _-_, _*_, _%_, _≤_, _<_}
 use mathlib.Core.Path.{_≡_, refl, sym, ap, ap₂, _∙_, subst}
+use mathlib.Core.Bool.{Bool, true, false, not, true≢false}
 use mathlib.Core.List.{List, [], _∷_, _++_, map, flatMap, map-append, append-nil, append-assoc}
 use mathlib.Core.Logic.{_⊎_, inl, inr, ⊎-elim}
 use native.Mathlib.Nat.{add-zero, mod-eq-of-lt}
@@ -14,6 +15,7 @@ use Rattle.text.specs.Table.{tabulate}
 use Rattle.text.proofs.Tables.{length-tabulate, getD-tabulate}
 use Rattle.register_form.specs.Dictionary.{PageRow, termOf, groupOf, termCode}
 use Rattle.register_form.specs.Form.{pageCount, termCount, pageAt, formStart, formAt, formsOf, termAt, dictionaryIn}
+use Rattle.buffer.specs.Numbers.{twoAt}
 use Rattle.buffer.proofs.Parts.{flat-more}
 use Rattle.register_join_draft.specs.Joined.{noPage, formsIn}
 use Rattle.register_join_draft.specs.Drafting.{newGroup, newCode, newTerm, TermsListed, TermsPut, Holds, NumbersPut, behind, newRow, formsTo, Paged, PagesPut}
@@ -118,6 +120,11 @@ module _ (table : List ℕ) (n : ℕ) where
             rw (← append-assoc l a b) (q .written (l ++ a) first (omega (arith, p .size)) (omega arith));
       }
 
+-- What was not refused.
+pub not-refused : (b : Bool) → not b ≡ false → b ≡ true
+not-refused true e = refl
+not-refused false e = absurd (true≢false e)
+
 -- Forms of a register whose terms stand behind others.
 module _ (h : Bytes) (base : ℕ) where
   abbrev formsFrom : ℕ → ℕ → List ℕ
@@ -154,6 +161,22 @@ module _ (h : Bytes) (base : ℕ) where
         let most = o .most in
         let z : j - first ≡ end - first = omega arith in
         subst (λ (k : ℕ). NumbersPut uses n (formsFrom first k) us r) z (o .forms)
+
+    -- A block: none, one more, all. Its bytes lie behind a place of the first.
+    pub forms-start : FormsPut first end (first + 0) uses n uses (n + 0)
+    forms-start = rw (add-zero first, add-zero n) forms-none
+
+    pub forms-block : (i at to w k x : ℕ) (us vs : List ℕ) → FormsPut first end (first + i) uses n us (n + i) → i < end - first → n + (end - first) < 65536 → w ≡ first → at ≡ 1226 + 2 * w → to ≡ n → k ≡ getD h (at + 2 * i) 0 + 256 * getD h (at + 2 * i + 1) 0 → x ≡ (base + k) % 65536 → vs ≡ set us (to + i) x → FormsPut first end (first + (i + 1)) uses n vs (n + (i + 1))
+    unfolding formAt twoAt
+    forms-block i at to w k x us vs o b z we ae te e f p =
+        let place : at + 2 * i ≡ 1226 + 2 * (first + i) = omega arith in
+        let next : first + (i + 1) ≡ first + i + 1 = omega arith in
+        rw next (forms-next (first + i) k x (to + i) us vs (n + i) (n + (i + 1)) o (omega arith) (omega arith) (e ∙ rw place) f p (omega arith))
+
+    pub forms-ended : (i k m to r : ℕ) (us : List ℕ) → FormsPut first end (first + i) uses n us (n + i) → k ≡ m → m ≡ end - first → k ≤ i → to ≡ n → n + i < 65536 → r ≡ (to + i) % 65536 → NumbersPut uses n (formsFrom first (end - first)) us r
+    forms-ended i k m to r us o ke me b te z e =
+        let whole : r ≡ n + i = omega arith in
+        rw whole (forms-all (first + i) us (n + i) o (omega arith))
 
   -- A page.
   module _ (uses : List ℕ) (n place : ℕ) where

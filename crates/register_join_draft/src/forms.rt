@@ -1,7 +1,8 @@
 // The terms of a register in the draft of a join, with the items of their texts, and the forms of a page.
 ghost use mathlib.Core.Path.{_≡_};
 ghost use mathlib.Core.List.{[], _∷_};
-ghost use Prim.Native.Nat.{_+_, _-_, _%_};
+ghost use mathlib.Core.Bool.{true};
+ghost use Prim.Native.Nat.{_+_, _-_, _*_, _%_, _≤_, _<_};
 ghost use lib.ListN.{getD, set};
 ghost use Rattle.text.specs.Table.{tabulate};
 ghost use Rattle.register_form.specs.Form.{termCount, formAt, dictionaryIn};
@@ -13,6 +14,8 @@ use register_form::form_end;
 use register_form::form_start;
 use register_form::group_at;
 use register_form::kind_at;
+use register_form::layout;
+use register_form::minus;
 use register_form::name_number;
 use register_form::page_count;
 use register_form::term_count;
@@ -23,6 +26,7 @@ use tables::num_at;
 use tables::put;
 use tables::put_byte;
 use tables::put_code;
+use tables::wide;
 use tables::widen;
 use values::Kind;
 
@@ -118,8 +122,8 @@ fn place_behind(base: u16, f: u16) -> u16
     narrow(widen(base) + widen(f))
 }
 
-// Puts the forms from first up to end, by the places of their terms; answers how many there are.
-fn put_forms(h: &[u8], base: u16, first: u16, end: u16, uses: &mut [u16], from: u16) -> u16
+// Puts the forms from first up to end, by the places of their terms, each where there is room; answers how many there are.
+fn put_each(h: &[u8], base: u16, first: u16, end: u16, uses: &mut [u16], from: u16) -> u16
     ensures { λ r. ⌜ NumbersPut (now (uses .entry)) from (behind base (tabulate (end - first) (λ j. formAt (now (h .entry)) (first + j)))) (now (uses .exit)) r ⌝ }
 {
     let mut n = from;
@@ -130,6 +134,44 @@ fn put_forms(h: &[u8], base: u16, first: u16, end: u16, uses: &mut [u16], from: 
         j += 1;
     }
     n
+}
+
+// The number that two bytes are, the low byte first.
+fn pair(low: u8, high: u8) -> u16
+    ensures { λ r. ⌜ r ≡ low + 256 * high ⌝ }
+{
+    wide(low) + 256 * wide(high)
+}
+
+// Whether what ends at one place lies within so many, and what ends at the other within so many and below 65,536.
+fn lies_within(end: usize, most: usize, last: usize, room: usize) -> bool
+    ensures { λ r. ⌜ (r ≡ true → (end ≤ most) × (last ≤ room) × (last < 65536)) ⌝ }
+{
+    if most < end {
+        return false;
+    }
+    if room < last {
+        return false;
+    }
+    last < 65536
+}
+
+// The same. Where all are there, with room for all, that is asked once, and a compiler takes many at a time.
+fn put_forms(h: &[u8], base: u16, first: u16, end: u16, uses: &mut [u16], from: u16) -> u16
+    ensures { λ r. ⌜ NumbersPut (now (uses .entry)) from (behind base (tabulate (end - first) (λ j. formAt (now (h .entry)) (first + j)))) (now (uses .exit)) r ⌝ }
+{
+    let k = widen(minus(end, first));
+    let at = layout::FORMS + 2 * widen(first);
+    let to = widen(from);
+    if !lies_within(at + 2 * k, h.len(), to + k, uses.len()) {
+        return put_each(h, base, first, end, uses, from);
+    }
+    let mut i: usize = 0;
+    while i < k {
+        uses[to + i] = place_behind(base, pair(h[at + 2 * i], h[at + 2 * i + 1]));
+        i += 1;
+    }
+    narrow(to + i)
 }
 
 // Puts the forms of the page in a place, which is given 1 more; none for 0.

@@ -82,11 +82,11 @@ pub fn digit(t: &[u8], i: usize) -> u64
 fn key_of_eight(t: &[u8]) -> u64
     ensures { λ r. ⌜ r ≡ keyTo 8 (now (t .entry)) ⌝ }
 {
-    let a = 256 * digit(t, 0) + digit(t, 1);
-    let b = 256 * digit(t, 2) + digit(t, 3);
-    let c = 256 * digit(t, 4) + digit(t, 5);
+    let a = 72057594037927936 * digit(t, 0) + 281474976710656 * digit(t, 1);
+    let b = 1099511627776 * digit(t, 2) + 4294967296 * digit(t, 3);
+    let c = 16777216 * digit(t, 4) + 65536 * digit(t, 5);
     let d = 256 * digit(t, 6) + digit(t, 7);
-    65536 * (65536 * (65536 * a + b) + c) + d
+    a + b + c + d
 }
 
 // The key of a string: its first eight bytes as one number, the first counting most, and 0 for what lies behind the end.

@@ -17,29 +17,29 @@ slice-aggregate-put-term-starts c = search needs
 put-term-starts-requires : tie.Need-put-term-starts-requires
 put-term-starts-requires c κs = search needs
 
-slice-aggregate-number : tie.Need-slice-aggregate-number
-slice-aggregate-number c = search needs
+slice-aggregate-number-of : tie.Need-slice-aggregate-number-of
+slice-aggregate-number-of c = search needs
 
-slice-aggregate-number-2 : tie.Need-slice-aggregate-number-2
-slice-aggregate-number-2 c = search needs
+slice-aggregate-number-of-2 : tie.Need-slice-aggregate-number-of-2
+slice-aggregate-number-of-2 c = search needs
 
-slice-aggregate-number-3 : tie.Need-slice-aggregate-number-3
-slice-aggregate-number-3 c = search needs
+slice-aggregate-number-of-3 : tie.Need-slice-aggregate-number-of-3
+slice-aggregate-number-of-3 c = search needs
 
-slice-aggregate-number-4 : tie.Need-slice-aggregate-number-4
-slice-aggregate-number-4 c = search needs
+slice-aggregate-number-of-4 : tie.Need-slice-aggregate-number-of-4
+slice-aggregate-number-of-4 c = search needs
 
-slice-aggregate-number-5 : tie.Need-slice-aggregate-number-5
-slice-aggregate-number-5 c = search needs
+slice-aggregate-number-of-5 : tie.Need-slice-aggregate-number-of-5
+slice-aggregate-number-of-5 c = search needs
 
-slice-aggregate-number-6 : tie.Need-slice-aggregate-number-6
-slice-aggregate-number-6 c = search needs
+slice-aggregate-number-of-6 : tie.Need-slice-aggregate-number-of-6
+slice-aggregate-number-of-6 c = search needs
 
-number-requires : tie.Need-number-requires
-number-requires c κs = search needs
+number-of-requires : tie.Need-number-of-requires
+number-of-requires c κs = search needs
 
 cast-nt : tie.Need-cast-nt
-cast-nt c = omega (arith, c .before .before .before .number .ensures .most, c .before .before .before .before .before .before .before .before .before .before .before .before .before .before .before .before .before .before .before .before .before .before .before .before .before .before .before .before .before .fits)
+cast-nt c = omega (arith, c .before .before .before .number-of .ensures .most, c .before .before .before .before .before .before .before .before .before .before .before .before .before .before .before .before .before .before .before .before .before .before .before .before .before .before .before .before .before .fits)
 
 slice-aggregate-write-kept : tie.Need-slice-aggregate-write-kept
 slice-aggregate-write-kept c = search needs
@@ -63,7 +63,7 @@ same-length : tie.Need-same-length
 same-length c = search needs
 
 returns : tie.Need-returns
-returns c = λ m. terms-written _ _ _ _ _ _ _ _ _ _ _ _ _ _ (λ i. c .before .before .before .before .before .before .before .before .before .before .before .before .before .before .before .before .before .before .before .before .before .before .before .before .before .before .before .before .shared-slice-known10 .given i .fits) (c .before .before .before .before .before .before .before .before .before .before .before .before .before .before .before .before .before .before .before .before .before .before .before .put-terms .ensures) (c .before .before .before .before .before .before .before .before .before .before .before .before .before .before .before .before .before .before .before .before .put-term-starts .ensures) (c .before .before .before .before .before .before .before .before .before .before .before .before .number .ensures) refl (c .before .before .write-kept .ensures m (c .before .before .before .before .before .before .before .before .before .before .before .before .before .before .before .before .before .before .before .before .before .before .before .before .before .before .before .before .before .before .before .before .before .before .before .before .before .before .args .terms))
+returns c = λ m. terms-written _ _ _ _ _ _ _ _ _ _ _ _ _ _ (λ i. c .before .before .before .before .before .before .before .before .before .before .before .before .before .before .before .before .before .before .before .before .before .before .before .before .before .before .before .before .shared-slice-known10 .given i .fits) (c .before .before .before .before .before .before .before .before .before .before .before .before .before .before .before .before .before .before .before .before .before .before .before .put-terms .ensures) (c .before .before .before .before .before .before .before .before .before .before .before .before .before .before .before .before .before .before .before .before .put-term-starts .ensures) (c .before .before .before .before .before .before .before .before .before .before .before .before .number-of .ensures) refl (c .before .before .write-kept .ensures m (c .before .before .before .before .before .before .before .before .before .before .before .before .before .before .before .before .before .before .before .before .before .before .before .before .before .before .before .before .before .before .before .before .before .before .before .before .before .before .args .terms))
 
 pub write-terms-spec : {M : Type 1} → statement M
 write-terms-spec =
@@ -73,13 +73,13 @@ write-terms-spec =
     put-terms-requires
     slice-aggregate-put-term-starts
     put-term-starts-requires
-    slice-aggregate-number
-    slice-aggregate-number-2
-    slice-aggregate-number-3
-    slice-aggregate-number-4
-    slice-aggregate-number-5
-    slice-aggregate-number-6
-    number-requires
+    slice-aggregate-number-of
+    slice-aggregate-number-of-2
+    slice-aggregate-number-of-3
+    slice-aggregate-number-of-4
+    slice-aggregate-number-of-5
+    slice-aggregate-number-of-6
+    number-of-requires
     cast-nt
     slice-aggregate-write-kept
     slice-aggregate-write-kept-2

@@ -13,6 +13,9 @@ mul-a c = search needs
 digit-requires-2 : tie.Need-digit-requires-2
 digit-requires-2 c κs = search needs
 
+mul-a-2 : tie.Need-mul-a-2
+mul-a-2 c = search needs
+
 add-a : tie.Need-add-a
 add-a c = search needs
 
@@ -25,6 +28,9 @@ mul-b c = search needs
 digit-requires-4 : tie.Need-digit-requires-4
 digit-requires-4 c κs = search needs
 
+mul-b-2 : tie.Need-mul-b-2
+mul-b-2 c = search needs
+
 add-b : tie.Need-add-b
 add-b c = search needs
 
@@ -36,6 +42,9 @@ mul-c c = search needs
 
 digit-requires-6 : tie.Need-digit-requires-6
 digit-requires-6 c κs = search needs
+
+mul-c-2 : tie.Need-mul-c-2
+mul-c-2 c = search needs
 
 add-c : tie.Need-add-c
 add-c c = search needs
@@ -52,20 +61,11 @@ digit-requires-8 c κs = search needs
 add-d : tie.Need-add-d
 add-d c = search needs
 
-mul-result : tie.Need-mul-result
-mul-result c = search needs
-
 add-result : tie.Need-add-result
 add-result c = search needs
 
-mul-result-2 : tie.Need-mul-result-2
-mul-result-2 c = search needs
-
 add-result-2 : tie.Need-add-result-2
 add-result-2 c = search needs
-
-mul-result-3 : tie.Need-mul-result-3
-mul-result-3 c = search needs
 
 add-result-3 : tie.Need-add-result-3
 add-result-3 c = search needs
@@ -82,23 +82,23 @@ key-of-eight-spec =
     digit-requires
     mul-a
     digit-requires-2
+    mul-a-2
     add-a
     digit-requires-3
     mul-b
     digit-requires-4
+    mul-b-2
     add-b
     digit-requires-5
     mul-c
     digit-requires-6
+    mul-c-2
     add-c
     digit-requires-7
     mul-d
     digit-requires-8
     add-d
-    mul-result
     add-result
-    mul-result-2
     add-result-2
-    mul-result-3
     add-result-3
     returns)

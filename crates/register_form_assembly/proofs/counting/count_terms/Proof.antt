@@ -1,59 +1,24 @@
-use Prim.Native.Nat.{_-_}
+use Rattle.register_form_assembly.proofs.Counts.{sized-is}
 use borrow.Author.Needs.{needs}
-use Rattle.register_form_assembly.specs.Counting.{termBytesBy}
-use Rattle.register_form_assembly.proofs.Counts.{Summing, summing, summing-more}
 use Rattle.register_form_assembly.proofs.counting.count_terms.Statement.{statement}
 use Rattle.register_form_assembly.proofs.counting.count_terms.Tie as tie
 
-abbrev Inv-loop : tie.InvT-loop
-Inv-loop s starts lens kinds groups codes refs table n before sum₀ i₀ sum i = Summing (termBytesBy s starts lens kinds groups codes refs) table n before sum i
+add-sizes-requires : tie.Need-add-sizes-requires
+add-sizes-requires c κs = search needs
 
-abbrev μ-loop : tie.MeasureT-loop
-μ-loop s starts lens kinds groups codes refs table n before sum₀ i₀ sum i = n - i
+add-capped-requires : tie.Need-add-capped-requires
+add-capped-requires c κs = search needs
 
-add-capped-requires : tie.Need-add-capped-requires Inv-loop μ-loop
-add-capped-requires c κs = search (summing, needs)
+returns : tie.Need-returns
+returns c = sized-is _ _ _ _ _ _ _ _ _ (c .before .before .add-sizes .ensures) (c .before .if1 .taken) (c .add-capped .ensures)
 
-loop-holds : tie.Need-loop-holds Inv-loop μ-loop
-loop-holds c = search (summing, needs)
+count-each-requires : tie.Need-count-each-requires
+count-each-requires c κs = search needs
 
-widen-requires : tie.Need-widen-requires Inv-loop μ-loop
-widen-requires c κs = search (summing, needs)
-
-get-requires : tie.Need-get-requires Inv-loop μ-loop
-get-requires c κs = search (summing, needs)
-
-term-bytes-requires : tie.Need-term-bytes-requires Inv-loop μ-loop
-term-bytes-requires c κs = search (summing, needs)
-
-add-capped-requires-2 : tie.Need-add-capped-requires-2 Inv-loop μ-loop
-add-capped-requires-2 c κs = search (summing, needs)
-
-add-i : tie.Need-add-i Inv-loop μ-loop
-add-i c = search (summing, needs)
-
-loop-less : tie.Need-loop-less Inv-loop μ-loop
-loop-less c = search (summing, needs)
-
-loop-again : tie.Need-loop-again Inv-loop μ-loop
-loop-again c = summing-more _ _ _ _ _ _ _ _ _ _ (c .before .before .before .before .before .loop .inv) (c .before .before .before .before .loop-test .taken) (c .before .before .before .widen .ensures) (c .before .before .get .ensures) (c .before .term-bytes .ensures) (c .add-capped2 .ensures)
-
-returns : tie.Need-returns Inv-loop μ-loop
-returns c = search (summing, needs)
+returns-2 : tie.Need-returns-2
+returns-2 c = search needs
 
 pub count-terms-spec : {M : Type 1} → statement M
 count-terms-spec =
     tie.close
-    (tie.spec
-    Inv-loop
-    μ-loop
-    add-capped-requires
-    loop-holds
-    widen-requires
-    get-requires
-    term-bytes-requires
-    add-capped-requires-2
-    add-i
-    loop-less
-    loop-again
-    returns)
+    (tie.spec add-sizes-requires add-capped-requires returns count-each-requires returns-2)
