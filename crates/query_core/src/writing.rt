@@ -7,9 +7,7 @@ use crate::Selector;
 use crate::Slot;
 use crate::Strings;
 use crate::layout;
-use buffer::put_byte;
 use buffer::put_bytes;
-use buffer::put_eight;
 use buffer::put_two;
 use language::Comparator;
 use text::Span;
@@ -17,9 +15,13 @@ use text::part;
 use values::Kind;
 use values::kind_code;
 ghost use mathlib.Core.Path.{_≡_};
+ghost use mathlib.Core.List.{[]};
+ghost use Prim.Native.Nat.{_+_, _≤_};
+ghost use lib.ListN.{length};
+ghost use Rattle.buffer.specs.Numbers.{twoBytes, eightBytes};
 ghost use Rattle.buffer.specs.Writing.{written};
-ghost use Rattle.query_core.specs.Form.{comparatorCode, tagged, headBytes, spanBytes, slotBytes};
-ghost use Rattle.query_core.specs.Writing.{constantStrings, selectorStrings, nodeStrings, constantSlot, selectorSlot, slotOf, hasRoom, countOf, Puts, Finishes};
+ghost use Rattle.query_core.specs.Form.{comparatorCode, noSpan, tagged, headBytes, spanBytes, slotBytes};
+ghost use Rattle.query_core.specs.Writing.{constantStrings, selectorStrings, nodeStrings, constantSlot, selectorSlot, slotOf, joint, hasRoom, countOf, Puts, Finishes};
 
 // The code of a comparator.
 fn code_of(c: Comparator) -> u8
@@ -165,43 +167,61 @@ fn slot_of(node: Node, p: Span, q: Span) -> Slot
     }
 }
 
-// Writes a slot's first three numbers, a byte each, and a byte 0, as far as there is room.
+// Writes a slot's first three numbers, a byte each, and a byte 0.
 fn put_head(h: &mut [u8], at: usize, x: Slot)
+    requires { ⌜ at + 4 ≤ length (now h) ⌝ }
     ensures { λ _. ⌜ now (h .exit) ≡ written (now (h .entry)) at (headBytes x) ⌝ }
 {
-    if h.len() <= at {
-        return;
-    }
-    put_byte(h, at, x.tag);
-    put_byte(h, at + 1, x.comparator);
-    put_byte(h, at + 2, x.kind);
-    put_byte(h, at + 3, 0);
+    h[at] = x.tag;
+    h[at + 1] = x.comparator;
+    h[at + 2] = x.kind;
+    h[at + 3] = 0;
 }
 
-// Writes a place, two bytes a number, as far as there is room.
+// Writes a number in two bytes.
+fn put_pair(h: &mut [u8], at: usize, n: usize)
+    requires { ⌜ at + 2 ≤ length (now h) ⌝ }
+    ensures { λ _. ⌜ now (h .exit) ≡ written (now (h .entry)) at (twoBytes n) ⌝ }
+{
+    h[at] = (n % 256) as u8;
+    h[at + 1] = (n / 256 % 256) as u8;
+}
+
+// Writes a place, two bytes a number.
 fn put_span(h: &mut [u8], at: usize, p: Span)
+    requires { ⌜ at + 4 ≤ length (now h) ⌝ }
     ensures { λ _. ⌜ now (h .exit) ≡ written (now (h .entry)) at (spanBytes p) ⌝ }
 {
-    if h.len() <= at {
-        return;
-    }
-    put_two(h, at, p.start);
-    put_two(h, at + 2, p.len);
+    put_pair(h, at, p.start);
+    put_pair(h, at + 2, p.len);
 }
 
-// Writes a slot's 20 bytes, as far as there is room.
+// Writes a number in eight bytes.
+fn put_number(h: &mut [u8], at: usize, n: u64)
+    requires { ⌜ at + 8 ≤ length (now h) ⌝ }
+    ensures { λ _. ⌜ now (h .exit) ≡ written (now (h .entry)) at (eightBytes n) ⌝ }
+{
+    let a = n as usize;
+    let b = a / 65536;
+    let c = b / 65536;
+    let d = c / 65536;
+    put_pair(h, at, a);
+    put_pair(h, at + 2, b);
+    put_pair(h, at + 4, c);
+    put_pair(h, at + 6, d);
+}
+
+// Writes a slot's 20 bytes. That there is room is tested once a node, so that a compiler writes many bytes at a time.
 fn put_slot(h: &mut [u8], at: usize, x: Slot)
+    requires { ⌜ at + 20 ≤ length (now h) ⌝ }
     ensures { λ _. ⌜ now (h .exit) ≡ written (now (h .entry)) at (slotBytes x) ⌝ }
 {
-    if h.len() <= at {
-        return;
-    }
     let first = x.first;
     let second = x.second;
     put_head(h, at, x);
     put_span(h, at + 4, first);
     put_span(h, at + 8, second);
-    put_eight(h, at + 12, x.number);
+    put_number(h, at + 12, x.number);
 }
 
 // Whether strings of so many bytes have room in the heap behind others.
@@ -224,10 +244,42 @@ pub fn count_of(at: Place) -> usize
     at.code % 512
 }
 
+// The slot of AND, and of OR.
+fn connective_slot(or: bool) -> Slot
+    ensures { λ r. ⌜ r ≡ slotOf (joint or) noSpan noSpan ⌝ }
+{
+    let none = Span { start: 0, len: 0 };
+    if or {
+        return tagged_slot(layout::OR, 0, none, none);
+    }
+    tagged_slot(layout::AND, 0, none, none)
+}
+
+// Lays AND or OR behind others, where there is room for it.
+pub fn put_connective(held: &mut [u8], at: Place, or: bool) -> Place
+    ensures { λ r. ⌜ Puts [] (joint or) (now (held .entry)) at (now (held .exit)) r ⌝ }
+{
+    if held.len() < layout::QUERY_BYTES {
+        return at;
+    }
+    let count = at.code % 512;
+    if layout::MOST_NODES <= count {
+        return Place {
+            code: at.code - count + 257,
+        };
+    }
+    let slot = connective_slot(or);
+    put_slot(held, layout::NODES + layout::NODE_BYTES * count, slot);
+    Place { code: at.code + 1 }
+}
+
 // Lays a node behind others, where there is room for it; its strings lie in s.
 pub fn put_node(s: &[u8], held: &mut [u8], at: Place, node: Node) -> Place
     ensures { λ r. ⌜ Puts (now (s .entry)) node (now (held .entry)) at (now (held .exit)) r ⌝ }
 {
+    if held.len() < layout::QUERY_BYTES {
+        return at;
+    }
     let count = at.code % 512;
     let end = at.code / 512;
     if layout::MOST_NODES <= count {

@@ -25,6 +25,7 @@ use query_core::ConstantRead;
 use query_core::Node;
 use query_core::Place;
 use query_core::Selector;
+use query_core::put_connective;
 use query_core::put_node;
 use query_text_pieces::split_at;
 use text::Span;
@@ -49,20 +50,7 @@ pub fn put_select(s: &[u8], held: &mut [u8], at: Place, selector: Selector) -> P
 pub fn put_join(held: &mut [u8], at: Place, or: bool) -> Place
     ensures { λ r. ⌜ Adds (connectiveNode or ∷ []) (now (held .entry)) at (now (held .exit)) r ⌝ }
 {
-    let p = Span { start: 0, len: 0 };
-    let selector = Selector::Category(p);
-    if or {
-        let node = Node {
-            connective: Connective::Or,
-            selector,
-        };
-        return put_node(b"", held, at, node);
-    }
-    let node = Node {
-        connective: Connective::And,
-        selector,
-    };
-    put_node(b"", held, at, node)
+    put_connective(held, at, or)
 }
 
 // The selector of a comparison.
