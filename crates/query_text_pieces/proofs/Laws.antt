@@ -1,7 +1,7 @@
 -- Laws of words, heads and pieces by their places, and the ways through the functions.
 use Prim.Native.Nat.{ℕ, zero, suc, _+_, _-_, _≤_, _<_}
 use mathlib.Core.Path.{_≡_, refl, ap, sym, _∙_}
-use mathlib.Core.Bool.{Bool, true, false, cond, not, _&&_, _||_, false≢true}
+use mathlib.Core.Bool.{Bool, true, false, cond, _&&_, _||_, false≢true}
 use mathlib.Core.List.{List, [], _∷_, _++_}
 use mathlib.Core.Option.{Option, some, none}
 use native.Mathlib.Omega.{arith}
@@ -14,7 +14,7 @@ use Rattle.text.specs.Class.{isFree, isOther}
 use Rattle.text.specs.Parts.{partOf, Trimmed}
 use Rattle.text.specs.declared.Span.{Span}
 use Rattle.text.proofs.Laws.{starts-fits, span-le}
-use Rattle.values.specs.Names.{reference, qualified, bare, isNamespace, isReference}
+use Rattle.values.specs.Names.{reference, qualified, bare}
 use Rattle.values.specs.Values.{mapOption}
 use Rattle.values.specs.Answers.{splitOf, Splits}
 use Rattle.values.specs.declared.Split.{Split}
@@ -22,13 +22,12 @@ use Rattle.language.specs.Answer.{found, onlyIf}
 use Rattle.language.specs.Comparators.{word, typed, firstTyped, isEqual}
 use Rattle.language.specs.Surface.{Chain, single, chain}
 use Rattle.language.specs.RawQuery.{Piece, token, nextTerm, comparator, pieceAt, endsHead, headLength, prefixed, splitDots, trimNames}
-use Rattle.language.specs.QueryText.{isCategory, isCategoryOf, articleOf, isExistence, isNamespacePiece, isPlusOf, namespaceOf, breaksReference, identifierOf}
+use Rattle.language.specs.QueryText.{isCategory, isCategoryOf, articleOf}
 use Rattle.language.specs.declared.SurfaceComparator.{SurfaceComparator}
 use Rattle.language.proofs.AllComparators.{typed-fits}
-use Rattle.query_text_pieces.specs.Places.{from, textAt, restOf, innerEnd, placeOf, headAt, headOf, lastOf, pieceOf, tellsPiece, SplitsAt, categoryTold, readTold}
+use Rattle.query_text_pieces.specs.Places.{from, textAt, restOf, innerEnd, placeOf, headAt, headOf, lastOf, pieceOf, tellsPiece, SplitsAt, categoryTold}
 use Rattle.query_text_pieces.specs.declared.Found.{Found}
 use Rattle.query_text_pieces.specs.declared.First.{First}
-use Rattle.query_text_pieces.specs.declared.Read.{Read}
 
 -- A part of a part.
 pub drop-take : {A : Type 0} (m n : ℕ) (l : List A) → drop m (take n l) ≡ take (n - m) (drop m l)
@@ -228,37 +227,3 @@ module _ (s : Bytes) (c : SurfaceComparator) (text : Span) (r : Split) (b m : Bo
     pub category-no : (b && r .qualified && m) ≡ false → categoryTold s First.Other ≡ onlyIf (isCategory (pieceOf s c text)) (some (articleOf (reference (partOf s text))))
     unfolding categoryTold
     category-no h = rw (test, h)
-
-  module _ (y : Bytes) (k : y ≡ partOf s (r .article)) (g : m ≡ same y (bytes "+")) (x : Bytes) (t : Bool) where
-    plus : isNamespacePiece (pieceOf s c text) ≡ (b && r .qualified && m)
-    plus = rw (← e, ← f) (go b (r .qualified))
-      where
-        go : (b q : Bool) → (b && isPlusOf (cond q (qualified (partOf s (r .namespace)) (partOf s (r .article))) (bare (partOf s (r .article))))) ≡ (b && q && m)
-        go true true = rw (← k) (sym g)
-        go true false = refl
-        go false true = refl
-        go false false = refl
-
-    named : (b && r .qualified && m) ≡ true → namespaceOf (reference (partOf s text)) ≡ partOf s (r .namespace)
-    named h = rw (← e) (go b (r .qualified) h)
-      where
-        go : (b q : Bool) → (b && q && m) ≡ true → namespaceOf (cond q (qualified (partOf s (r .namespace)) (partOf s (r .article))) (bare (partOf s (r .article)))) ≡ partOf s (r .namespace)
-        go b true h = refl
-        go true false h = absurd (false≢true h)
-        go false false h = absurd (false≢true h)
-
-    pub read-namespace : (b && r .qualified && m) ≡ true → x ≡ partOf s (r .namespace) → t ≡ isNamespace x → t ≡ true → readTold s (Read.Namespace (r .namespace)) ≡ onlyIf (not (breaksReference (pieceOf s c text))) (some (identifierOf (pieceOf s c text)))
-    unfolding readTold
-    read-namespace h i l j = rw (plus, h, named h, ← i, ← l, j)
-
-    pub read-no-namespace : (b && r .qualified && m) ≡ true → x ≡ partOf s (r .namespace) → t ≡ isNamespace x → t ≡ false → readTold s Read.Broken ≡ onlyIf (not (breaksReference (pieceOf s c text))) (some (identifierOf (pieceOf s c text)))
-    unfolding readTold
-    read-no-namespace h i l j = rw (plus, h, named h, ← i, ← l, j)
-
-    pub read-reference : (b && r .qualified && m) ≡ false → x ≡ partOf s text → t ≡ isReference (reference x) → t ≡ true → readTold s (Read.Reference c text) ≡ onlyIf (not (breaksReference (pieceOf s c text))) (some (identifierOf (pieceOf s c text)))
-    unfolding readTold
-    read-reference h i l j = rw (plus, h, ← i, ← l, j)
-
-    pub read-no-reference : (b && r .qualified && m) ≡ false → x ≡ partOf s text → t ≡ isReference (reference x) → t ≡ false → readTold s Read.Broken ≡ onlyIf (not (breaksReference (pieceOf s c text))) (some (identifierOf (pieceOf s c text)))
-    unfolding readTold
-    read-no-reference h i l j = rw (plus, h, ← i, ← l, j)

@@ -1,14 +1,13 @@
 // The words and pieces of the query text: where they stand, and how a piece reads.
 ghost use mathlib.Core.Path.{_≡_};
-ghost use mathlib.Core.Bool.{not};
 ghost use mathlib.Core.Option.{some};
 ghost use Rattle.text.specs.Bytes.{after as afterWord};
 ghost use Rattle.text.specs.Parts.{partOf};
 ghost use Rattle.values.specs.Names.{reference};
 ghost use Rattle.language.specs.Answer.{onlyIf};
 ghost use Rattle.language.specs.RawQuery.{token as tokenIn, pieceAt, endsHead, nextTerm};
-ghost use Rattle.language.specs.QueryText.{isCategory, articleOf, isExistence, breaksReference, identifierOf};
-ghost use Rattle.query_text_pieces.specs.Places.{from, textAt, restOf, innerEnd, placeOf, headAt, headOf, lastOf, pieceOf, tellsPiece, SplitsAt, categoryTold, readTold};
+ghost use Rattle.language.specs.QueryText.{isCategory, articleOf, isExistence};
+ghost use Rattle.query_text_pieces.specs.Places.{from, textAt, restOf, innerEnd, placeOf, headAt, headOf, lastOf, pieceOf, tellsPiece, SplitsAt, categoryTold};
 use language::SurfaceComparator;
 use language::comparator_at;
 use language::is_equal;
@@ -22,8 +21,6 @@ use text::trimmed;
 use text::widen;
 use text::word_at;
 use values::Split;
-use values::is_namespace;
-use values::is_reference;
 use values::split_reference;
 
 // A place that was looked for, or none.
@@ -43,13 +40,6 @@ pub struct Placed {
 pub enum First {
     Category(Span),
     Other,
-}
-
-// How a piece outside property bodies reads: `namespace:+`, a reference, or neither.
-pub enum Read {
-    Namespace(Span),
-    Reference(SurfaceComparator, Span),
-    Broken,
 }
 
 // Past the word, where it stands at a place.
@@ -179,12 +169,11 @@ pub fn split_at(s: &[u8], text: Span) -> Split
     }
 }
 
-// The category name of a bracket's first piece.
-pub fn category_of(s: &[u8], c: SurfaceComparator, text: Span) -> First
-    ensures { λ r. ⌜ categoryTold (now (s .entry)) r
-        ≡ onlyIf (isCategory (pieceOf (now (s .entry)) c text)) (some (articleOf (reference (partOf (now (s .entry)) text)))) ⌝ }
+// The category name of a bracket's first piece, by how its reference is split.
+pub fn category_of(s: &[u8], c: SurfaceComparator, text: Span, split: Split) -> First
+    ensures { λ r. ⌜ (SplitsAt (now (s .entry)) text split → categoryTold (now (s .entry)) r
+        ≡ onlyIf (isCategory (pieceOf (now (s .entry)) c text)) (some (articleOf (reference (partOf (now (s .entry)) text))))) ⌝ }
 {
-    let split = split_at(s, text);
     let n = split.namespace;
     let article = split.article;
     let yes = is_equal(c) & split.qualified & same_bytes(part(s, n.start, n.len), b"Category");
@@ -192,27 +181,5 @@ pub fn category_of(s: &[u8], c: SurfaceComparator, text: Span) -> First
         First::Category(article)
     } else {
         First::Other
-    }
-}
-
-// How a piece outside property bodies reads.
-pub fn read_piece(s: &[u8], c: SurfaceComparator, text: Span) -> Read
-    ensures { λ r. ⌜ readTold (now (s .entry)) r
-        ≡ onlyIf (not (breaksReference (pieceOf (now (s .entry)) c text))) (some (identifierOf (pieceOf (now (s .entry)) c text))) ⌝ }
-{
-    let split = split_at(s, text);
-    let n = split.namespace;
-    let a = split.article;
-    let plus = is_equal(c) & split.qualified & same_bytes(part(s, a.start, a.len), b"+");
-    if plus {
-        if is_namespace(part(s, n.start, n.len)) {
-            return Read::Namespace(n);
-        }
-        return Read::Broken;
-    }
-    if is_reference(part(s, text.start, text.len)) {
-        Read::Reference(c, text)
-    } else {
-        Read::Broken
     }
 }

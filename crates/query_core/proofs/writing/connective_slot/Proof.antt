@@ -5,19 +5,15 @@ use Rattle.query_core.proofs.writing.connective_slot.Reads as reads
 use Rattle.query_core.proofs.writing.connective_slot.Lts as lts
 use Rattle.query_core.proofs.writing.tagged_slot.Reads as tagged-slot-reads
 
--- src/writing.rt:253:9
 tagged-slot-requires : tie.Need-tagged-slot-requires
 tagged-slot-requires c κs = search needs
 
--- src/writing.rt:253:9
 returns : tie.Need-returns
 returns c = rw (c .before .if1 .taken) (c .tagged-slot .ensures)
 
--- src/writing.rt:255:5
 tagged-slot-requires-2 : tie.Need-tagged-slot-requires-2
 tagged-slot-requires-2 c κs = search needs
 
--- src/writing.rt:248:1
 returns-2 : tie.Need-returns-2
 returns-2 c = rw (c .before .if1 .left) (c .tagged-slot2 .ensures)
 

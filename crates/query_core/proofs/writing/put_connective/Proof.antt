@@ -7,47 +7,36 @@ use Rattle.query_core.proofs.writing.put_connective.Lts as lts
 use Rattle.query_core.proofs.writing.connective_slot.Reads as connective-slot-reads
 use Rattle.query_core.proofs.writing.put_slot.Reads as put-slot-reads
 
--- src/writing.rt:263:9
 returns : tie.Need-returns
 returns c = put-short _ _ _ _ (c .if1 .taken)
 
--- src/writing.rt:268:19
 sub-t8 : tie.Need-sub-t8
 sub-t8 c = search needs
 
--- src/writing.rt:268:19
 add-t9 : tie.Need-add-t9
 add-t9 c = search needs
 
--- src/writing.rt:267:9
 returns-2 : tie.Need-returns-2
 returns-2 c = put-full _ _ _ _ (c .before .if2 .taken)
 
--- src/writing.rt:271:9
 connective-slot-requires : tie.Need-connective-slot-requires
 connective-slot-requires c κs = search needs
 
--- src/writing.rt:272:36
 mul-put-slot : tie.Need-mul-put-slot
 mul-put-slot c = search needs
 
--- src/writing.rt:272:20
 add-put-slot : tie.Need-add-put-slot
 add-put-slot c = search needs
 
--- src/writing.rt:272:5
 put-slot-requires : tie.Need-put-slot-requires
 put-slot-requires c κs = search needs
 
--- src/writing.rt:273:19
 add-t6 : tie.Need-add-t6
 add-t6 c = search needs
 
--- src/writing.rt:259:1
 same-length : tie.Need-same-length
 same-length c = search needs
 
--- src/writing.rt:259:1
 returns-3 : tie.Need-returns-3
 returns-3 c = put-joint _ _ (c .before .before .before .before .before .before .if2 .left) _ _ (c .before .before .before .put-slot .ensures) (c .before .before .before .before .before .before .before .before .before .before .args .or) (c .before .before .before .before .before .connective-slot .ensures)
 

@@ -7,39 +7,30 @@ use Rattle.query_core.proofs.writing.put_head.Tie as tie
 use Rattle.query_core.proofs.writing.put_head.Reads as reads
 use Rattle.query_core.proofs.writing.put_head.Lts as lts
 
--- src/writing.rt:175:5
 slice-write-h : tie.Need-slice-write-h
 slice-write-h c = search needs
 
--- src/writing.rt:176:7
 add-h : tie.Need-add-h
 add-h c = search needs
 
--- src/writing.rt:176:5
 slice-write-h-2 : tie.Need-slice-write-h-2
 slice-write-h-2 c = simp length-set (omega arith)
 
--- src/writing.rt:177:7
 add-h-2 : tie.Need-add-h-2
 add-h-2 c = search needs
 
--- src/writing.rt:177:5
 slice-write-h-3 : tie.Need-slice-write-h-3
 slice-write-h-3 c = simp length-set (omega arith)
 
--- src/writing.rt:178:7
 add-h-3 : tie.Need-add-h-3
 add-h-3 c = search needs
 
--- src/writing.rt:178:5
 slice-write-h-4 : tie.Need-slice-write-h-4
 slice-write-h-4 c = simp length-set (omega arith)
 
--- src/writing.rt:171:1
 same-length : tie.Need-same-length
 same-length c = search needs
 
--- src/writing.rt:171:1
 returns : tie.Need-returns
 returns c = search (puts, needs)
 

@@ -12,111 +12,84 @@ use Rattle.query_core.proofs.writing.slot_of.Reads as slot-of-reads
 use Rattle.query_core.proofs.writing.strings_of.Reads as strings-of-reads
 use Rattle.text.proofs.part.Reads as part-reads
 
--- src/writing.rt:281:9
 returns : tie.Need-returns
 returns c = put-short _ _ _ _ (c .if1 .taken)
 
--- src/writing.rt:287:19
 sub-t17 : tie.Need-sub-t17
 sub-t17 c = search needs
 
--- src/writing.rt:287:19
 add-t18 : tie.Need-add-t18
 add-t18 c = search needs
 
--- src/writing.rt:286:9
 returns-2 : tie.Need-returns-2
 returns-2 c = put-full _ _ _ _ (c .before .if2 .taken)
 
--- src/writing.rt:290:9
 strings-of-requires : tie.Need-strings-of-requires
 strings-of-requires c κs = search needs
 
--- src/writing.rt:293:9
 part-requires : tie.Need-part-requires
 part-requires c κs = search needs
 
--- src/writing.rt:294:9
 part-requires-2 : tie.Need-part-requires-2
 part-requires-2 c κs = search needs
 
--- src/writing.rt:297:9
 has-room-requires : tie.Need-has-room-requires
 has-room-requires c κs = search needs
 
--- src/writing.rt:298:30
 add-t20 : tie.Need-add-t20
 add-t20 c = search needs
 
--- src/writing.rt:298:9
 returns-3 : tie.Need-returns-3
 returns-3 c = put-nothing _ _ _ _ (c .before .before .before .before .before .before .before .before .if2 .left) _ (c .before .before .before .before .before .before .before .strings-of .ensures) _ _ (c .before .before .before .before .part .ensures) (c .before .before .before .part2 .ensures) (room-taken _ _ _ _ (c .before .before .has-room .ensures) (c .before .if3 .taken))
 
--- src/writing.rt:304:20
 add-put-slot : tie.Need-add-put-slot
 add-put-slot c = search needs
 
--- src/writing.rt:300:9
 slot-of-requires : tie.Need-slot-of-requires
 slot-of-requires c κs = search needs
 
--- src/writing.rt:308:36
 mul-put-slot : tie.Need-mul-put-slot
 mul-put-slot c = search needs
 
--- src/writing.rt:308:20
 add-put-slot-2 : tie.Need-add-put-slot-2
 add-put-slot-2 c = search needs
 
--- src/writing.rt:308:5
 put-slot-requires : tie.Need-put-slot-requires
 put-slot-requires c κs = search needs
 
--- src/writing.rt:309:21
 add-put-bytes : tie.Need-add-put-bytes
 add-put-bytes c = search needs
 
--- src/writing.rt:309:5
 put-bytes-requires : tie.Need-put-bytes-requires
 put-bytes-requires c κs = search needs
 
--- src/writing.rt:310:21
 add-put-bytes-2 : tie.Need-add-put-bytes-2
 add-put-bytes-2 c = let z = room-left _ _ _ _ (c .before .before .before .before .before .before .before .before .before .before .before .has-room .ensures) (c .before .before .before .before .before .before .before .before .before .before .if3 .left) in omega (arith, z)
 
--- src/writing.rt:310:21
 add-put-bytes-3 : tie.Need-add-put-bytes-3
 add-put-bytes-3 c = let z = room-left _ _ _ _ (c .before .before .before .before .before .before .before .before .before .before .before .has-room .ensures) (c .before .before .before .before .before .before .before .before .before .before .if3 .left) in omega (arith, z)
 
--- src/writing.rt:310:5
 put-bytes-requires-2 : tie.Need-put-bytes-requires-2
 put-bytes-requires-2 c κs = search needs
 
--- src/writing.rt:312:15
 add-t15 : tie.Need-add-t15
 add-t15 c = search needs
 
--- src/writing.rt:312:34
 add-t26 : tie.Need-add-t26
 add-t26 c = let z = room-left _ _ _ _ (c .before .before .before .before .before .before .before .before .before .before .before .before .before .before .has-room .ensures) (c .before .before .before .before .before .before .before .before .before .before .before .before .before .if3 .left) in omega (arith, z)
 
--- src/writing.rt:312:34
 add-t31 : tie.Need-add-t31
 add-t31 c = let z = room-left _ _ _ _ (c .before .before .before .before .before .before .before .before .before .before .before .before .before .before .has-room .ensures) (c .before .before .before .before .before .before .before .before .before .before .before .before .before .if3 .left) in omega (arith, z)
 
--- src/writing.rt:312:27
 mul-t32 : tie.Need-mul-t32
 mul-t32 c = let z = room-left _ _ _ _ (c .before .before .before .before .before .before .before .before .before .before .before .before .before .before .has-room .ensures) (c .before .before .before .before .before .before .before .before .before .before .before .before .before .if3 .left) in omega (arith, z)
 
--- src/writing.rt:312:15
 add-t33 : tie.Need-add-t33
 add-t33 c = let z = room-left _ _ _ _ (c .before .before .before .before .before .before .before .before .before .before .before .before .before .before .has-room .ensures) (c .before .before .before .before .before .before .before .before .before .before .before .before .before .if3 .left) in omega (arith, z)
 
--- src/writing.rt:277:1
 same-length : tie.Need-same-length
 same-length c = search needs
 
--- src/writing.rt:277:1
 returns-4 : tie.Need-returns-4
 returns-4 c = put-there _ _ _ _ (c .before .before .before .before .before .before .before .before .before .before .before .before .before .before .before .before .before .before .before .before .if2 .left) _ (c .before .before .before .before .before .before .before .before .before .before .before .before .before .before .before .before .before .before .before .strings-of .ensures) _ _ (c .before .before .before .before .before .before .before .before .before .before .before .before .before .before .before .before .part .ensures) (c .before .before .before .before .before .before .before .before .before .before .before .before .before .before .before .part2 .ensures) _ _ _ _ (c .before .before .before .before .before .before .before .before .before .before .before .before .slot-of .ensures) (c .before .before .before .before .before .before .before .before .before .before .put-slot .ensures) (c .before .before .before .before .before .before .put-bytes .ensures) (c .before .before .put-bytes2 .ensures)
 

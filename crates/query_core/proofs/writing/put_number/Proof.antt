@@ -6,39 +6,30 @@ use Rattle.query_core.proofs.writing.put_number.Reads as reads
 use Rattle.query_core.proofs.writing.put_number.Lts as lts
 use Rattle.query_core.proofs.writing.put_pair.Reads as put-pair-reads
 
--- src/writing.rt:208:5
 put-pair-requires : tie.Need-put-pair-requires
 put-pair-requires c κs = search needs
 
--- src/writing.rt:209:17
 add-put-pair : tie.Need-add-put-pair
 add-put-pair c = search needs
 
--- src/writing.rt:209:5
 put-pair-requires-2 : tie.Need-put-pair-requires-2
 put-pair-requires-2 c κs = search needs
 
--- src/writing.rt:210:17
 add-put-pair-2 : tie.Need-add-put-pair-2
 add-put-pair-2 c = search needs
 
--- src/writing.rt:210:5
 put-pair-requires-3 : tie.Need-put-pair-requires-3
 put-pair-requires-3 c κs = search needs
 
--- src/writing.rt:211:17
 add-put-pair-3 : tie.Need-add-put-pair-3
 add-put-pair-3 c = search needs
 
--- src/writing.rt:211:5
 put-pair-requires-4 : tie.Need-put-pair-requires-4
 put-pair-requires-4 c κs = search needs
 
--- src/writing.rt:200:1
 same-length : tie.Need-same-length
 same-length c = search needs
 
--- src/writing.rt:200:1
 returns : tie.Need-returns
 returns c = search (puts, needs)
 

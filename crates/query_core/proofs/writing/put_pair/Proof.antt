@@ -7,31 +7,24 @@ use Rattle.query_core.proofs.writing.put_pair.Tie as tie
 use Rattle.query_core.proofs.writing.put_pair.Reads as reads
 use Rattle.query_core.proofs.writing.put_pair.Lts as lts
 
--- src/writing.rt:186:13
 cast-h : tie.Need-cast-h
 cast-h c = search needs
 
--- src/writing.rt:186:5
 slice-write-h : tie.Need-slice-write-h
 slice-write-h c = search needs
 
--- src/writing.rt:187:17
 cast-h-2 : tie.Need-cast-h-2
 cast-h-2 c = search needs
 
--- src/writing.rt:187:7
 add-h : tie.Need-add-h
 add-h c = search needs
 
--- src/writing.rt:187:5
 slice-write-h-2 : tie.Need-slice-write-h-2
 slice-write-h-2 c = simp length-set (omega arith)
 
--- src/writing.rt:182:1
 same-length : tie.Need-same-length
 same-length c = search needs
 
--- src/writing.rt:182:1
 returns : tie.Need-returns
 returns c = search (puts, needs)
 

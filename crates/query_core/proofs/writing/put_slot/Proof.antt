@@ -8,39 +8,30 @@ use Rattle.query_core.proofs.writing.put_head.Reads as put-head-reads
 use Rattle.query_core.proofs.writing.put_number.Reads as put-number-reads
 use Rattle.query_core.proofs.writing.put_span.Reads as put-span-reads
 
--- src/writing.rt:221:5
 put-head-requires : tie.Need-put-head-requires
 put-head-requires c κs = search needs
 
--- src/writing.rt:222:17
 add-put-span : tie.Need-add-put-span
 add-put-span c = search needs
 
--- src/writing.rt:222:5
 put-span-requires : tie.Need-put-span-requires
 put-span-requires c κs = search needs
 
--- src/writing.rt:223:17
 add-put-span-2 : tie.Need-add-put-span-2
 add-put-span-2 c = search needs
 
--- src/writing.rt:223:5
 put-span-requires-2 : tie.Need-put-span-requires-2
 put-span-requires-2 c κs = search needs
 
--- src/writing.rt:224:19
 add-put-number : tie.Need-add-put-number
 add-put-number c = search needs
 
--- src/writing.rt:224:5
 put-number-requires : tie.Need-put-number-requires
 put-number-requires c κs = search needs
 
--- src/writing.rt:215:1
 same-length : tie.Need-same-length
 same-length c = search needs
 
--- src/writing.rt:215:1
 returns : tie.Need-returns
 returns c = search (puts, needs)
 

@@ -6,23 +6,18 @@ use Rattle.query_core.proofs.writing.put_span.Reads as reads
 use Rattle.query_core.proofs.writing.put_span.Lts as lts
 use Rattle.query_core.proofs.writing.put_pair.Reads as put-pair-reads
 
--- src/writing.rt:195:5
 put-pair-requires : tie.Need-put-pair-requires
 put-pair-requires c κs = search needs
 
--- src/writing.rt:196:17
 add-put-pair : tie.Need-add-put-pair
 add-put-pair c = search needs
 
--- src/writing.rt:196:5
 put-pair-requires-2 : tie.Need-put-pair-requires-2
 put-pair-requires-2 c κs = search needs
 
--- src/writing.rt:191:1
 same-length : tie.Need-same-length
 same-length c = search needs
 
--- src/writing.rt:191:1
 returns : tie.Need-returns
 returns c = search (puts, needs)
 

@@ -6,15 +6,12 @@ use Rattle.query_core_emit.proofs.writing.put_join.Reads as reads
 use Rattle.query_core_emit.proofs.writing.put_join.Lts as lts
 use Rattle.query_core.proofs.put_connective.Reads as put-connective-reads
 
--- src/writing.rt:53:5
 put-connective-requires : tie.Need-put-connective-requires
 put-connective-requires c κs = search needs
 
--- src/writing.rt:50:1
 same-length : tie.Need-same-length
 same-length c = search needs
 
--- src/writing.rt:50:1
 returns : tie.Need-returns
 returns c = search (adding, needs)
 
