@@ -2,6 +2,7 @@
 pub mod layout; // layout.rt: the regions and tags of a held query
 pub mod query; // query.rt: number 21's test
 pub mod reading; // reading.rt: a node from its bytes
+mod placing; // placing.rt: where the strings of nodes lie, and their slots
 pub mod writing; // writing.rt: nodes into a held query
 
 use language::Comparator;

@@ -13,6 +13,7 @@ use crate::leaves::put_subquery;
 use crate::leaves::step_of;
 use query_core::Place;
 use query_core_emit::Emitted;
+use query_core_emit::again;
 use query_core_emit::writing::put_join;
 use query_tree::layout;
 use query_tree::reading::node_at;
@@ -43,14 +44,14 @@ pub fn fit_query(tree: &[u8], i: usize, register: &[u8], held: &mut [u8], at: Pl
             }
         }
         Step::Subquery => Emitted::Unfit,
-        Step::Property(_) => fit_chain(tree, i, register, held, at),
-        Step::Link(_) => fit_chain(tree, i, register, held, at),
-        Step::Leaf => put_leaf(
+        Step::Property(_) => again(fit_chain(tree, i, register, held, at)),
+        Step::Link(_) => again(fit_chain(tree, i, register, held, at)),
+        Step::Leaf => again(put_leaf(
             part(tree, layout::STRINGS, layout::STRING_BYTES),
             held,
             at,
             node,
-        ),
+        )),
     }
 }
 

@@ -4,7 +4,7 @@ use Rattle.query_core.proofs.writing.put_connective.Statement.{statemen
 use Rattle.query_core.proofs.writing.put_connective.Tie as tie
 use Rattle.query_core.proofs.writing.put_connective.Reads as reads
 use Rattle.query_core.proofs.writing.put_connective.Lts as lts
-use Rattle.query_core.proofs.writing.connective_slot.Reads as connective-slot-reads
+use Rattle.query_core.proofs.placing.connective_slot.Reads as connective-slot-reads
 use Rattle.query_core.proofs.writing.put_slot.Reads as put-slot-reads
 
 returns : tie.Need-returns

@@ -8,8 +8,8 @@ use Rattle.query_core.proofs.writing.put_node.Lts as lts
 use Rattle.buffer.proofs.put_bytes.Reads as put-bytes-reads
 use Rattle.query_core.proofs.writing.has_room.Reads as has-room-reads
 use Rattle.query_core.proofs.writing.put_slot.Reads as put-slot-reads
-use Rattle.query_core.proofs.writing.slot_of.Reads as slot-of-reads
-use Rattle.query_core.proofs.writing.strings_of.Reads as strings-of-reads
+use Rattle.query_core.proofs.placing.slot_of.Reads as slot-of-reads
+use Rattle.query_core.proofs.placing.strings_of.Reads as strings-of-reads
 use Rattle.text.proofs.part.Reads as part-reads
 
 returns : tie.Need-returns

@@ -2,6 +2,7 @@ use borrow.Author.Needs.{needs}
 use native.Mathlib.Omega.{arith}
 use Rattle.query_core_fit.proofs.Ways.{descends, in-both}
 use Prim.Native.Nat.{ℕ, _+_, _*_, _<_}
+use Prim.Native.Nat.{ℕ, _<_}
 use borrow.Fn.Kinds.{In}
 use borrow.Fn.PlainCycle.{Measures, is, falls, and}
 use Rattle.query_core_fit.proofs.descent.fit_chain.Reads as fit-chain
@@ -13,6 +14,7 @@ use Rattle.query_core_fit.proofs.descent.+fit_chain+fit_in+fit_query.Lt
 use Rattle.query_core_fit.proofs.descent.fit_query.Reads as fit-query
 use Rattle.query_core_fit.proofs.descent.fit_query.Kinds as fit-query-kinds
 use Rattle.query_core_fit.proofs.descent.+fit_chain+fit_in+fit_query.Lts-fit_query as fit-query-lts
+use Rattle.query_core_emit.proofs.again.Reads as again-reads
 use Rattle.query_core_emit.proofs.writing.put_join.Reads as put-join-reads
 use Rattle.query_core_fit.proofs.leaves.kind_at.Reads as kind-at-reads
 use Rattle.query_core_fit.proofs.leaves.put_leaf.Reads as put-leaf-reads
@@ -60,7 +62,7 @@ abbrev fit-in-calls : ℕ → fit-in-lts.Claims
 fit-in-calls t = (part-reads.Asked, part-reads.Learnt, node-at-reads.Asked, node-at-reads.Learnt, step-of-reads.Asked, step-of-reads.Learnt, fit-in-below t, fit-in.Post, put-join-reads.Asked, put-join-reads.Learnt, fit-query-below t, fit-query.Post, put-subquery-reads.Asked, put-subquery-reads.Learnt, put-leaf-in-reads.Asked, put-leaf-in-reads.Learnt)
 
 abbrev fit-query-calls : ℕ → fit-query-lts.Claims
-fit-query-calls t = (node-at-reads.Asked, node-at-reads.Learnt, step-of-reads.Asked, step-of-reads.Learnt, fit-query-below t, fit-query.Post, put-join-reads.Asked, put-join-reads.Learnt, fit-chain-below t, fit-chain.Post, part-reads.Asked, part-reads.Learnt, put-leaf-reads.Asked, put-leaf-reads.Learnt)
+fit-query-calls t = (node-at-reads.Asked, node-at-reads.Learnt, step-of-reads.Asked, step-of-reads.Learnt, fit-query-below t, fit-query.Post, put-join-reads.Asked, put-join-reads.Learnt, fit-chain-below t, fit-chain.Post, again-reads.Asked, again-reads.Learnt, part-reads.Asked, part-reads.Learnt, put-leaf-reads.Asked, put-leaf-reads.Learnt)
 
 fit-chain-returns : (t : ℕ) → fit-chain-lts.Need-returns (fit-chain-calls t) (fit-chain-at t) fit-chain.Post
 fit-chain-returns t c = search (descends, needs)
@@ -299,11 +301,17 @@ fit-query-enum-told-4 t c = search needs
 fit-query-fit-chain-requires : (t : ℕ) → fit-query-lts.Need-fit-chain-requires (fit-query-calls t) (fit-query-at t) fit-query.Post
 fit-query-fit-chain-requires t c κs = (omega arith, tt)
 
+fit-query-again-requires : (t : ℕ) → fit-query-lts.Need-again-requires (fit-query-calls t) (fit-query-at t) fit-query.Post
+fit-query-again-requires t c κs = search needs
+
 fit-query-enum-told-5 : (t : ℕ) → fit-query-lts.Need-enum-told-5 (fit-query-calls t) (fit-query-at t) fit-query.Post
 fit-query-enum-told-5 t c = search needs
 
 fit-query-fit-chain-requires-2 : (t : ℕ) → fit-query-lts.Need-fit-chain-requires-2 (fit-query-calls t) (fit-query-at t) fit-query.Post
 fit-query-fit-chain-requires-2 t c κs = (omega arith, tt)
+
+fit-query-again-requires-2 : (t : ℕ) → fit-query-lts.Need-again-requires-2 (fit-query-calls t) (fit-query-at t) fit-query.Post
+fit-query-again-requires-2 t c κs = search needs
 
 fit-query-enum-told-6 : (t : ℕ) → fit-query-lts.Need-enum-told-6 (fit-query-calls t) (fit-query-at t) fit-query.Post
 fit-query-enum-told-6 t c = search needs
@@ -313,6 +321,9 @@ fit-query-part-requires t c κs = search needs
 
 fit-query-put-leaf-requires : (t : ℕ) → fit-query-lts.Need-put-leaf-requires (fit-query-calls t) (fit-query-at t) fit-query.Post
 fit-query-put-leaf-requires t c κs = search needs
+
+fit-query-again-requires-3 : (t : ℕ) → fit-query-lts.Need-again-requires-3 (fit-query-calls t) (fit-query-at t) fit-query.Post
+fit-query-again-requires-3 t c κs = search needs
 
 fit-query-same-length : (t : ℕ) → fit-query-lts.Need-same-length (fit-query-calls t) (fit-query-at t) fit-query.Post
 fit-query-same-length t c = search needs
@@ -339,19 +350,19 @@ fit-query-same-length-4 : (t : ℕ) → fit-query-lts.Need-same-length-4 (fit-qu
 fit-query-same-length-4 t c = search needs
 
 fit-query-returns-7 : (t : ℕ) → fit-query-lts.Need-returns-7 (fit-query-calls t) (fit-query-at t) fit-query.Post
-fit-query-returns-7 t c = search (descends, needs)
+fit-query-returns-7 t c = rw (c .again .ensures) (search (descends, needs))
 
 fit-query-same-length-5 : (t : ℕ) → fit-query-lts.Need-same-length-5 (fit-query-calls t) (fit-query-at t) fit-query.Post
 fit-query-same-length-5 t c = search needs
 
 fit-query-returns-8 : (t : ℕ) → fit-query-lts.Need-returns-8 (fit-query-calls t) (fit-query-at t) fit-query.Post
-fit-query-returns-8 t c = search (descends, needs)
+fit-query-returns-8 t c = rw (c .again2 .ensures) (search (descends, needs))
 
 fit-query-same-length-6 : (t : ℕ) → fit-query-lts.Need-same-length-6 (fit-query-calls t) (fit-query-at t) fit-query.Post
 fit-query-same-length-6 t c = search needs
 
 fit-query-returns-9 : (t : ℕ) → fit-query-lts.Need-returns-9 (fit-query-calls t) (fit-query-at t) fit-query.Post
-fit-query-returns-9 t c = search (descends, needs)
+fit-query-returns-9 t c = rw (c .again3 .ensures) (search (descends, needs))
 
 pub +fit-chain+fit-in+fit-query-spec : {M : Type 1} → statement M
 +fit-chain+fit-in+fit-query-spec = close μ-fit-chain μ-fit-in μ-fit-query (λ t. fit-chain-lts.spec (fit-chain-calls t) (fit-chain-at t) fit-chain.Post
@@ -436,11 +447,14 @@ pub +fit-chain+fit-in+fit-query-spec : {M : Type 1} → statement M
     (fit-query-enum-told-3 t)
     (fit-query-enum-told-4 t)
     (fit-query-fit-chain-requires t)
+    (fit-query-again-requires t)
     (fit-query-enum-told-5 t)
     (fit-query-fit-chain-requires-2 t)
+    (fit-query-again-requires-2 t)
     (fit-query-enum-told-6 t)
     (fit-query-part-requires t)
     (fit-query-put-leaf-requires t)
+    (fit-query-again-requires-3 t)
     (fit-query-same-length t)
     (fit-query-returns-3 t)
     (fit-query-same-length-2 t)
