@@ -6,6 +6,8 @@ use mathlib.Core.List.{List, [], _∷_, _++_, append-assoc, append-nil}
 use mathlib.Core.Option.{Option, some, none}
 use mathlib.Core.Logic.{⊎-elim}
 use native.Mathlib.Omega.{arith}
+use denote.Enum.Declared.{tagOf}
+use types.Run.{OneOf}
 use lib.Dec.{ltb, leb, eqb}
 use lib.ListN.{length}
 use borrow.Author.Tests.{lt-ltb, le-ltb, leb-true, leb-false}
@@ -13,7 +15,7 @@ use Rattle.text.specs.Bytes.{Bytes, bytes, any, same, after, span, part}
 use Rattle.text.specs.Class.{isOther}
 use Rattle.text.specs.Parts.{partOf, Trimmed}
 use Rattle.text.specs.declared.Span.{Span}
-use Rattle.values.specs.Names.{Reference, bare, qualified, isName, isPropertyName, isNamespace, isReference, isValue, reference}
+use Rattle.values.specs.Names.{Reference, bare, qualified, isName, isPropertyName, isValue, reference}
 use Rattle.values.specs.Answers.{splitOf}
 use Rattle.values.specs.declared.Split.{Split}
 use Rattle.language.specs.Answer.{_>>=_, found, onlyIf}
@@ -26,16 +28,18 @@ use Rattle.language.proofs.Options.{OnSome}
 use Rattle.language.proofs.Shorter.{after-leaves}
 use Rattle.language.proofs.Leaving.{piece-leaves}
 use Rattle.language.proofs.Readers.{pieces-eq}
-use Rattle.query_text_pieces.specs.Places.{from, restOf, headOf, pieceOf, tellsPiece, categoryTold}
+use Rattle.query_text_pieces.specs.Places.{from, restOf, headOf, pieceOf, tellsPiece, categoryTold, readTold}
 use Rattle.query_text_pieces.specs.declared.Found.{Found}
 use Rattle.query_text_pieces.specs.declared.First.{First}
 use Rattle.query_text_pieces.specs.declared.Placed.{Placed}
+use Rattle.query_text_pieces.specs.declared.Read.{Read}
 use Rattle.query_text_pieces.proofs.Laws.{head-last, head-dot}
+use Rattle.query_text_pieces.proofs.Read.{the-type}
 use Rattle.query_tree.specs.Nodes.{Node, tree, treeIn, treeCategories, treeIdentifiers}
 use Rattle.query_tree.specs.Reading.{nodeBy}
 use Rattle.query_tree.specs.declared.TreeNode.{TreeNode}
 use Rattle.query_text_heads.specs.Effects.{Effect, noded, one, met, _then_, flagged, After, ReadsPart}
-use Rattle.query_text_heads.specs.Trees.{deeper, effect, effectIn, chainNodes, chainEffect, valueNode, nodeOfPiece, pieceEffect, restEffect, tailPieces}
+use Rattle.query_text_heads.specs.Trees.{deeper, effect, effectIn, chainNodes, chainEffect, valueNode, nodeOfPiece, pieceEffect, restEffect, tailPieces, numberOfRead}
 use Rattle.query_text_heads.specs.declared.Seen.{Seen}
 use Rattle.query_text_heads.specs.declared.Outcome.{Outcome}
 use Rattle.query_text_heads.proofs.Following.{after-then, after-met, nothing-met, after-noded}
@@ -109,27 +113,51 @@ module _ (s : Bytes) (c : SurfaceComparator) (text : Span) (p : Split) (e : spli
   pub node-bare : (b && p .qualified && m) ≡ false → p .qualified ≡ false → nodeBy s (TreeNode.Bare c (p .article)) ≡ nodeOfPiece (pieceOf s c text)
   node-bare h q = rw (h, q) at node-split
 
-  -- Whether it breaks a rule.
-  broken-split : cond (b && p .qualified && m) (not (isNamespace (partOf s (p .namespace)))) (not (isReference (splitOf s p))) ≡ breaksReference (pieceOf s c text)
-  broken-split = rw (← e, ← f) (go b (p .qualified))
+-- Whether it breaks a rule.
+module _ (s : Bytes) (i : Identifiers) (b : Bool) (p : Read) (h : readTold s p ≡ onlyIf (not b) (some i)) where
+  pub unbroken-namespace : (x : Span) → p ≡ Read.Namespace x → false ≡ b
+  unfolding readTold
+  unbroken-namespace x e = go b (rw e at h)
     where
-      side : Bool → Reference
-      side q = cond q (qualified (partOf s (p .namespace)) (partOf s (p .article))) (bare (partOf s (p .article)))
+      go : (b : Bool) → some (Identifiers.namespace (partOf s x)) ≡ onlyIf (not b) (some i) → false ≡ b
+      go true h = cc
+      go false h = refl
 
-      go : (b q : Bool) → cond (b && q && m) (not (isNamespace (partOf s (p .namespace)))) (not (isReference (side q))) ≡ cond (b && isPlusOf (side q)) (not (isNamespace (namespaceOf (side q)))) (not (isReference (side q)))
-      go true true = rw (← k, ← g)
-      go true false = refl
-      go false true = refl
-      go false false = refl
+  pub unbroken-reference : (c : SurfaceComparator) (x : Span) → p ≡ Read.Reference c x → false ≡ b
+  unfolding readTold
+  unbroken-reference c x e = go b (rw e at h)
+    where
+      go : (b : Bool) → some (Identifiers.reference c (reference (partOf s x))) ≡ onlyIf (not b) (some i) → false ≡ b
+      go true h = cc
+      go false h = refl
 
-  pub broken-namespace : (x : Bytes) (t : Bool) → (b && p .qualified && m) ≡ true → x ≡ partOf s (p .namespace) → t ≡ isNamespace x → not t ≡ breaksReference (pieceOf s c text)
-  broken-namespace x t h i l = rw (l, i) (rw h at broken-split)
+  pub broken-piece : p ≡ Read.Broken → true ≡ b
+  unfolding readTold
+  broken-piece e = go b (rw e at h)
+    where
+      go : (b : Bool) → none ≡ onlyIf (not b) (some i) → true ≡ b
+      go true h = refl
+      go false h = cc
 
-  pub broken-qualified : (x : Bytes) (t u : Bool) → (b && p .qualified && m) ≡ false → p .qualified ≡ true → x ≡ partOf s (p .namespace) → t ≡ isNamespace x → u ≡ isName y → not (t && u) ≡ breaksReference (pieceOf s c text)
-  broken-qualified x t u h q i l j = rw (l, i, j, k) (rw (h, q) at broken-split)
+-- by its number
+pub broken-number : (s : Bytes) (i : Identifiers) (b : Bool) (p : Read) (n : ℕ) → readTold s p ≡ onlyIf (not b) (some i) → n ≡ numberOfRead p → not (eqb n 0) ≡ b
+broken-number s i b (Read.Namespace x) n h e = rw e (unbroken-namespace s i b (Read.Namespace x) h x refl)
+broken-number s i b (Read.Reference c x) n h e = rw e (unbroken-reference s i b (Read.Reference c x) h c x refl)
+broken-number s i b Read.Broken n h e = rw e (broken-piece s i b Read.Broken h refl)
 
-  pub broken-bare : (u : Bool) → (b && p .qualified && m) ≡ false → p .qualified ≡ false → u ≡ isName y → not u ≡ breaksReference (pieceOf s c text)
-  broken-bare u h q j = rw (j, k) (rw (h, q) at broken-split)
+-- The number of a piece that is neither.
+pub number-left : (p : Read) → OneOf (1 ∷ 2 ∷ []) (tagOf the-type p) → OneOf (0 ∷ 2 ∷ []) (tagOf the-type p) → 15 ≡ numberOfRead p
+number-left (Read.Namespace p) h k = absurd (⊎-elim (λ (e : _≡_ {A = ℕ} 0 1). omega arith) (λ (e : _≡_ {A = ℕ} 0 2). omega arith) h)
+number-left (Read.Reference c p) h k = absurd (⊎-elim (λ (e : _≡_ {A = ℕ} 1 0). omega arith) (λ (e : _≡_ {A = ℕ} 1 2). omega arith) k)
+number-left Read.Broken h k = refl
+
+pub number-namespace : (p : Read) (x : Span) → p ≡ Read.Namespace x → 0 ≡ numberOfRead p
+number-namespace p x e = rw e
+
+pub number-reference : (p : Read) (c : SurfaceComparator) (x : Span) → p ≡ Read.Reference c x → 0 ≡ numberOfRead p
+number-reference p c x e = rw e
+
+pub ruleset numbers = (broken-number, number-namespace, number-reference)
 
 -- A piece outside property bodies has one node.
 one-node : (p : Piece) → treeIdentifiers (identifierOf p) ≡ nodeOfPiece p ∷ []

@@ -14,6 +14,7 @@ use Rattle.language.specs.Surface.{Chain, single, chain}
 use Rattle.language.specs.RawQuery.{Piece, RawQuery, RawAlternatives, readPieces, splitDots, trimNames, readAlternatives, closedBody}
 use Rattle.language.specs.QueryText.{namesIn, depth, depthIn, longest, longestIn, breaks, breaksIn, breaksValue, breaksValueIn, breaksNames, breaksCategory, breaksReference, isNamespacePiece, namespaceOf, surface, surfaceIn}
 use Rattle.language.specs.declared.SurfaceComparator.{SurfaceComparator}
+use Rattle.query_text_pieces.specs.declared.Read.{Read}
 use Rattle.query_tree.specs.Nodes.{Node, tree, treeIn}
 use Rattle.query_tree.specs.declared.TreeNode.{TreeNode}
 use Rattle.query_text_heads.specs.Effects.{Effect, noded, one, met, _then_}
@@ -61,3 +62,9 @@ tailPieces s = found (after (bytes "||") s) readPieces (after (bytes "]]") s >>=
 -- A property body whose head has k bytes, and its `]]`.
 unfoldable pub propertyBody : Bytes → ℕ → Option (RawQuery × Bytes)
 propertyBody s k = onlyIf (all isFree (take k s)) (readAlternatives (drop (2 + k) s) >>= λ a. closedBody (trimNames (splitDots (take k s))) (a .0) (a .1))
+
+-- What a piece outside property bodies reads as, in 01's numbers: 15 where it is neither `namespace:+` nor a reference.
+abbrev pub numberOfRead : Read → ℕ
+numberOfRead (Read.Namespace p) = 0
+numberOfRead (Read.Reference c p) = 0
+numberOfRead Read.Broken = 15

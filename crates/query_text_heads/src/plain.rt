@@ -9,7 +9,7 @@ ghost use Rattle.query_text_pieces.specs.Places.{from, pieceOf, headOf, SplitsA
 ghost use Rattle.query_tree.specs.Nodes.{Node};
 ghost use Rattle.query_tree.specs.Reading.{nodeBy};
 ghost use Rattle.query_text_heads.specs.Effects.{After, noded, ReadsPart};
-ghost use Rattle.query_text_heads.specs.Trees.{deeper, valueNode, nodeOfPiece, pieceEffect, effectIn, chainEffect, restEffect, tailPieces, effect};
+ghost use Rattle.query_text_heads.specs.Trees.{deeper, valueNode, nodeOfPiece, pieceEffect, effectIn, chainEffect, restEffect, tailPieces, effect, numberOfRead};
 use crate::Outcome;
 use crate::Seen;
 use crate::adding::add;
@@ -19,10 +19,12 @@ use language::SurfaceComparator;
 use language::is_equal;
 use query_text_pieces::First;
 use query_text_pieces::Found;
+use query_text_pieces::Read;
 use query_text_pieces::after;
 use query_text_pieces::category_of;
 use query_text_pieces::is_existence;
 use query_text_pieces::piece_at;
+use query_text_pieces::read_piece;
 use query_text_pieces::split_at;
 use query_tree::TreeNode;
 use text::Class;
@@ -33,7 +35,6 @@ use text::scan;
 use text::trimmed;
 use values::Split;
 use values::is_name;
-use values::is_namespace;
 use values::is_property_name;
 use values::is_value;
 
@@ -123,23 +124,25 @@ fn identifier_node(s: &[u8], c: SurfaceComparator, text: Span, split: Split) -> 
     }
 }
 
+// The number that refuses a piece, 0 for none.
+fn piece_number(piece: Read) -> u8
+    ensures { λ r. ⌜ r ≡ numberOfRead piece ⌝ }
+{
+    if let Read::Namespace(_) = piece {
+        return 0;
+    }
+    let Read::Reference(_, _) = piece else {
+        return 15;
+    };
+    0
+}
+
 // Whether such a piece breaks a rule.
 fn is_broken(s: &[u8], c: SurfaceComparator, text: Span, split: Split) -> bool
     requires { ⌜ SplitsAt (now s) text split ⌝ }
     ensures { λ r. ⌜ r ≡ breaksReference (pieceOf (now (s .entry)) c text) ⌝ }
 {
-    let n = split.namespace;
-    let a = split.article;
-    let qualified = split.qualified;
-    let name = part(s, a.start, a.len);
-    let plus = is_equal(c) & qualified & same_bytes(name, b"+");
-    if plus {
-        return !is_namespace(part(s, n.start, n.len));
-    }
-    if qualified {
-        return !(is_namespace(part(s, n.start, n.len)) & is_name(name));
-    }
-    !is_name(name)
+    piece_number(read_piece(s, c, text, split)) != 0
 }
 
 // A piece that is `namespace:+` or a reference.

@@ -1,7 +1,7 @@
 -- Laws of words, heads and pieces by their places, and the ways through the functions.
 use Prim.Native.Nat.{ℕ, zero, suc, _+_, _-_, _≤_, _<_}
 use mathlib.Core.Path.{_≡_, refl, ap, sym, _∙_}
-use mathlib.Core.Bool.{Bool, true, false, cond, _&&_, _||_, false≢true}
+use mathlib.Core.Bool.{Bool, true, false, cond, not, _&&_, _||_, false≢true}
 use mathlib.Core.List.{List, [], _∷_, _++_}
 use mathlib.Core.Option.{Option, some, none}
 use native.Mathlib.Omega.{arith}
@@ -14,7 +14,7 @@ use Rattle.text.specs.Class.{isFree, isOther}
 use Rattle.text.specs.Parts.{partOf, Trimmed}
 use Rattle.text.specs.declared.Span.{Span}
 use Rattle.text.proofs.Laws.{starts-fits, span-le}
-use Rattle.values.specs.Names.{reference, qualified, bare}
+use Rattle.values.specs.Names.{reference, qualified, bare, isName, isNamespace, isReference}
 use Rattle.values.specs.Values.{mapOption}
 use Rattle.values.specs.Answers.{splitOf, Splits}
 use Rattle.values.specs.declared.Split.{Split}
@@ -22,12 +22,13 @@ use Rattle.language.specs.Answer.{found, onlyIf}
 use Rattle.language.specs.Comparators.{word, typed, firstTyped, isEqual}
 use Rattle.language.specs.Surface.{Chain, single, chain}
 use Rattle.language.specs.RawQuery.{Piece, token, nextTerm, comparator, pieceAt, endsHead, headLength, prefixed, splitDots, trimNames}
-use Rattle.language.specs.QueryText.{isCategory, isCategoryOf, articleOf}
+use Rattle.language.specs.QueryText.{isCategory, isCategoryOf, articleOf, isNamespacePiece, isPlusOf, namespaceOf, breaksReference, identifierOf}
 use Rattle.language.specs.declared.SurfaceComparator.{SurfaceComparator}
 use Rattle.language.proofs.AllComparators.{typed-fits}
-use Rattle.query_text_pieces.specs.Places.{from, textAt, restOf, innerEnd, placeOf, headAt, headOf, lastOf, pieceOf, tellsPiece, SplitsAt, categoryTold}
+use Rattle.query_text_pieces.specs.Places.{from, textAt, restOf, innerEnd, placeOf, headAt, headOf, lastOf, pieceOf, tellsPiece, SplitsAt, categoryTold, readTold}
 use Rattle.query_text_pieces.specs.declared.Found.{Found}
 use Rattle.query_text_pieces.specs.declared.First.{First}
+use Rattle.query_text_pieces.specs.declared.Read.{Read}
 
 -- A part of a part.
 pub drop-take : {A : Type 0} (m n : ℕ) (l : List A) → drop m (take n l) ≡ take (n - m) (drop m l)
@@ -227,3 +228,45 @@ module _ (s : Bytes) (c : SurfaceComparator) (text : Span) (r : Split) (b m : Bo
     pub category-no : (b && r .qualified && m) ≡ false → categoryTold s First.Other ≡ onlyIf (isCategory (pieceOf s c text)) (some (articleOf (reference (partOf s text))))
     unfolding categoryTold
     category-no h = rw (test, h)
+
+  module _ (y : Bytes) (k : y ≡ partOf s (r .article)) (g : m ≡ same y (bytes "+")) (x : Bytes) (i : x ≡ partOf s (r .namespace)) (t : Bool) (l : t ≡ isNamespace x) where
+    plus : isNamespacePiece (pieceOf s c text) ≡ (b && r .qualified && m)
+    plus = rw (← e, ← f) (go b (r .qualified))
+      where
+        go : (b q : Bool) → (b && isPlusOf (cond q (qualified (partOf s (r .namespace)) (partOf s (r .article))) (bare (partOf s (r .article))))) ≡ (b && q && m)
+        go true true = rw (← k) (sym g)
+        go true false = refl
+        go false true = refl
+        go false false = refl
+
+    named : (b && r .qualified && m) ≡ true → namespaceOf (reference (partOf s text)) ≡ partOf s (r .namespace)
+    named h = rw (← e) (go b (r .qualified) h)
+      where
+        go : (b q : Bool) → (b && q && m) ≡ true → namespaceOf (cond q (qualified (partOf s (r .namespace)) (partOf s (r .article))) (bare (partOf s (r .article)))) ≡ partOf s (r .namespace)
+        go b true h = refl
+        go true false h = absurd (false≢true h)
+        go false false h = absurd (false≢true h)
+
+    pub read-namespace : (b && r .qualified && m) ≡ true → t ≡ true → readTold s (Read.Namespace (r .namespace)) ≡ onlyIf (not (breaksReference (pieceOf s c text))) (some (identifierOf (pieceOf s c text)))
+    unfolding readTold
+    read-namespace h j = rw (plus, h, named h, ← i, ← l, j)
+
+    pub read-no-namespace : (b && r .qualified && m) ≡ true → t ≡ false → readTold s Read.Broken ≡ onlyIf (not (breaksReference (pieceOf s c text))) (some (identifierOf (pieceOf s c text)))
+    unfolding readTold
+    read-no-namespace h j = rw (plus, h, named h, ← i, ← l, j)
+
+    module _ (u : Bool) (v : u ≡ isName y) (h : (b && r .qualified && m) ≡ false) where
+      judged : isReference (reference (partOf s text)) ≡ ((not (r .qualified) || t) && u)
+      judged = rw (← e) (go (r .qualified))
+        where
+          go : (q : Bool) → isReference (cond q (qualified (partOf s (r .namespace)) (partOf s (r .article))) (bare (partOf s (r .article)))) ≡ ((not q || t) && u)
+          go true = rw (l, v, i, k)
+          go false = rw (v, k)
+
+      pub read-reference : ((not (r .qualified) || t) && u) ≡ true → readTold s (Read.Reference c text) ≡ onlyIf (not (breaksReference (pieceOf s c text))) (some (identifierOf (pieceOf s c text)))
+      unfolding readTold
+      read-reference j = rw (plus, h, judged, j)
+
+      pub read-no-reference : ((not (r .qualified) || t) && u) ≡ false → readTold s Read.Broken ≡ onlyIf (not (breaksReference (pieceOf s c text))) (some (identifierOf (pieceOf s c text)))
+      unfolding readTold
+      read-no-reference j = rw (plus, h, judged, j)

@@ -11,12 +11,13 @@ use Rattle.values.specs.Names.{reference}
 use Rattle.values.specs.Values.{mapOption}
 use Rattle.values.specs.Answers.{splitOf}
 use Rattle.language.specs.Answer.{_>>=_}
-use Rattle.language.specs.Surface.{Chain, single, chain}
+use Rattle.language.specs.Surface.{Chain, single, chain, Identifiers}
 use Rattle.language.specs.RawQuery.{Piece, token, headLength, splitDots, trimNames}
 use Rattle.language.specs.declared.SurfaceComparator.{SurfaceComparator}
 use Rattle.query_text_pieces.specs.declared.Found.{Found}
 use Rattle.query_text_pieces.specs.declared.Placed.{Placed}
 use Rattle.query_text_pieces.specs.declared.First.{First}
+use Rattle.query_text_pieces.specs.declared.Read.{Read}
 
 -- The text from a place on.
 unfoldable pub from : Bytes → ℕ → Bytes
@@ -66,7 +67,12 @@ pub record SplitsAt (s : Bytes) (p : Span) (r : Split) : Type 0 where
   pub namespace : r .namespace .start + r .namespace .len ≤ p .start + length (partOf s p)
   pub article : r .article .start + r .article .len ≤ p .start + length (partOf s p)
 
--- What the answer tells.
+-- What each answer tells.
 unfoldable pub categoryTold : Bytes → First → Option Bytes
 categoryTold s (First.Category p) = some (partOf s p)
 categoryTold s First.Other = none
+
+unfoldable pub readTold : Bytes → Read → Option Identifiers
+readTold s (Read.Namespace p) = some (Identifiers.namespace (partOf s p))
+readTold s (Read.Reference c p) = some (Identifiers.reference c (reference (partOf s p)))
+readTold s Read.Broken = none

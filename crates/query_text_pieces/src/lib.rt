@@ -1,13 +1,14 @@
 // The words and pieces of the query text: where they stand, and how a piece reads.
 ghost use mathlib.Core.Path.{_≡_};
+ghost use mathlib.Core.Bool.{not};
 ghost use mathlib.Core.Option.{some};
 ghost use Rattle.text.specs.Bytes.{after as afterWord};
 ghost use Rattle.text.specs.Parts.{partOf};
 ghost use Rattle.values.specs.Names.{reference};
 ghost use Rattle.language.specs.Answer.{onlyIf};
 ghost use Rattle.language.specs.RawQuery.{token as tokenIn, pieceAt, endsHead, nextTerm};
-ghost use Rattle.language.specs.QueryText.{isCategory, articleOf, isExistence};
-ghost use Rattle.query_text_pieces.specs.Places.{from, textAt, restOf, innerEnd, placeOf, headAt, headOf, lastOf, pieceOf, tellsPiece, SplitsAt, categoryTold};
+ghost use Rattle.language.specs.QueryText.{isCategory, articleOf, isExistence, breaksReference, identifierOf};
+ghost use Rattle.query_text_pieces.specs.Places.{from, textAt, restOf, innerEnd, placeOf, headAt, headOf, lastOf, pieceOf, tellsPiece, SplitsAt, categoryTold, readTold};
 use language::SurfaceComparator;
 use language::comparator_at;
 use language::is_equal;
@@ -21,6 +22,8 @@ use text::trimmed;
 use text::widen;
 use text::word_at;
 use values::Split;
+use values::is_name;
+use values::is_namespace;
 use values::split_reference;
 
 // A place that was looked for, or none.
@@ -40,6 +43,13 @@ pub struct Placed {
 pub enum First {
     Category(Span),
     Other,
+}
+
+// How a piece outside property bodies reads: `namespace:+`, a reference, or neither.
+pub enum Read {
+    Namespace(Span),
+    Reference(SurfaceComparator, Span),
+    Broken,
 }
 
 // Past the word, where it stands at a place.
@@ -181,5 +191,30 @@ pub fn category_of(s: &[u8], c: SurfaceComparator, text: Span, split: Split) -> 
         First::Category(article)
     } else {
         First::Other
+    }
+}
+
+// How a piece outside property bodies reads, by how its reference is split.
+pub fn read_piece(s: &[u8], c: SurfaceComparator, text: Span, split: Split) -> Read
+    ensures { λ r. ⌜ (SplitsAt (now (s .entry)) text split → readTold (now (s .entry)) r
+        ≡ onlyIf (not (breaksReference (pieceOf (now (s .entry)) c text))) (some (identifierOf (pieceOf (now (s .entry)) c text)))) ⌝ }
+{
+    let n = split.namespace;
+    let a = split.article;
+    let qualified = split.qualified;
+    let space = part(s, n.start, n.len);
+    let name = part(s, a.start, a.len);
+    let plus = is_equal(c) & qualified & same_bytes(name, b"+");
+    let spaced = is_namespace(space);
+    if plus {
+        if spaced {
+            return Read::Namespace(n);
+        }
+        return Read::Broken;
+    }
+    if (!qualified | spaced) & is_name(name) {
+        Read::Reference(c, text)
+    } else {
+        Read::Broken
     }
 }
