@@ -14,7 +14,7 @@ use Rattle.text.specs.declared.Span.{Span}
 use Rattle.buffer.specs.Numbers.{twoBytes, zeros, padded}
 use Rattle.buffer.specs.Writing.{written}
 use Rattle.buffer.proofs.Regions.{length-zeros, length-padded}
-use Rattle.buffer.proofs.Written.{length-written, written-here, written-skip, written-over, next}
+use Rattle.buffer.proofs.Written.{length-written, written-none, written-here, written-skip, written-over, next}
 use Rattle.buffer.proofs.Padding.{zeros-add, padded-more}
 use Rattle.query_core.specs.declared.Constant.{Constant}
 use Rattle.query_core.specs.declared.Selector.{Selector}
@@ -25,9 +25,9 @@ use Rattle.query_core.specs.declared.Strings.{Strings}
 use Rattle.query_core.specs.declared.Place.{Place}
 use Rattle.query_core.specs.Postfix.{Node}
 use Rattle.query_core.specs.Held.{querySize}
-use Rattle.query_core.specs.Form.{stringOf, strings, spanAt, slotAt, slotBytes, slotsFrom, queryBytes}
+use Rattle.query_core.specs.Form.{stringOf, strings, spanAt, noSpan, slotAt, slotBytes, slotsFrom, queryBytes}
 use Rattle.query_core.specs.Reading.{joinedBy, nodeBy}
-use Rattle.query_core.specs.Writing.{joinedStrings, nodeStrings, joinedSlot, slotOf, hasRoom, Fits, Laid, Puts, Finishes, countOf, endOf}
+use Rattle.query_core.specs.Writing.{joinedStrings, nodeStrings, joinedSlot, slotOf, joint, hasRoom, Fits, Laid, Puts, Finishes, countOf, endOf}
 
 -- Strings and slots of one more node.
 pub strings-append : (k l : List Node) → strings (k ++ l) ≡ strings k ++ strings l
@@ -158,8 +158,12 @@ module _ (l : List Node) (m : Node) where
   fits-less : Fits (l ++ (m ∷ [])) → Fits l
   fits-less f = (omega (arith, f .0, count-more), omega (arith, f .1, bytes-more))
 
--- The ways to lay a node: too many, no room for its strings, laid.
+-- The ways to lay a node: into no buffer of a held query, too many, no room for its strings, laid.
 module _ (s : Bytes) (x : DeclaredNode) (h : Bytes) (p : Place) where
+  pub put-short : length h < 21570 → Puts s x h p h p
+  unfolding Puts
+  put-short o l d = absurd (omega (arith, o, d .long))
+
   pub put-full : 256 ≤ countOf p → Puts s x h p h (record { code = p .code - countOf p + 257 })
   unfolding Puts
   put-full b l d =
@@ -216,6 +220,15 @@ module _ (s : Bytes) (x : DeclaredNode) (h : Bytes) (p : Place) where
             ∙ ap₂ (λ (u v : Bytes). zeros 2 ++ (padded 5120 u ++ padded 16448 v))
             (ap (λ (z : Slot). slotsFrom 0 l ++ slotBytes z) same-slot ∙ ap (λ (z : ℕ). slotsFrom 0 l ++ slotBytes (slotAt z (nodeBy s x))) (q .1) ∙ sym (slots-more l (nodeBy s x)))
             (ap (λ (z : Bytes). strings l ++ z) (sym string-is) ∙ sym (strings-more l (nodeBy s x)))
+
+-- AND or OR, laid: it has no strings.
+module _ (h : Bytes) (p : Place) (few : countOf p < 256) (y : Slot) (h1 : Bytes) (i : h1 ≡ written h (2 + 20 * countOf p) (slotBytes y)) where
+  same-place : placeAt (countOf p + 1) (endOf p + 0 + 0) ≡ record { code = p .code + 1 }
+  same-place = let e : countOf p + 1 + 512 * (endOf p + 0 + 0) ≡ p .code + 1 = omega arith in rw e
+
+  pub put-joint : (or : Bool) → y ≡ slotOf (joint or) noSpan noSpan → Puts [] (joint or) h p h1 (record { code = p .code + 1 })
+  put-joint true w = rw same-place at (put-there [] (joint true) h p few (nodeStrings (joint true)) refl [] [] refl refl y h1 h1 h1 w i (sym (written-none h1 _)) (sym (written-none h1 _)))
+  put-joint false w = rw same-place at (put-there [] (joint false) h p few (nodeStrings (joint false)) refl [] [] refl refl y h1 h1 h1 w i (sym (written-none h1 _)) (sym (written-none h1 _)))
 
 -- The count before the nodes.
 pub put-count : (h h′ : Bytes) (p : Place) → h′ ≡ written h 0 (twoBytes (countOf p)) → Finishes h p h′

@@ -1,15 +1,16 @@
 -- Laws of a slot's 20 bytes: how they are written, and that the slot comes back.
-use Prim.Native.Nat.{ℕ, _+_, _/_, _<_, _^_}
+use Prim.Native.Nat.{ℕ, suc, _+_, _/_, _%_, _<_, _^_}
 use mathlib.Core.Path.{_≡_}
 use mathlib.Core.List.{[], _∷_}
 use native.Mathlib.Omega.{arith}
 use native.Mathlib.Nat.{mod-add-div}
+use lib.ListN.{set}
 use Rattle.text.specs.Bytes.{Bytes}
 use Rattle.text.specs.declared.Span.{Span}
 use Rattle.buffer.specs.Numbers.{twoBytes, eightBytes, twoAt, eightAt}
 use Rattle.buffer.specs.Writing.{written}
 use Rattle.buffer.proofs.Numbers.{two-low, two-back}
-use Rattle.buffer.proofs.Written.{written-past, next}
+use Rattle.buffer.proofs.Written.{next, eight-is}
 use Rattle.query_core.specs.declared.Slot.{Slot}
 use Rattle.query_core.specs.Held.{slotFrom}
 use Rattle.query_core.specs.Form.{headBytes, spanBytes, slotBytes}
@@ -35,13 +36,17 @@ slot-back x p q n =
 
 -- The ways to write a slot, part by part.
 module _ (h : Bytes) (at : ℕ) where
-  pub head-is : (x : Slot) (a b c d : Bytes)
-      → a ≡ written h at (x .tag ∷ [])
-      → b ≡ written a (at + 1) (x .comparator ∷ [])
-      → c ≡ written b (at + 2) (x .kind ∷ [])
-      → d ≡ written c (at + 3) (0 ∷ [])
-      → d ≡ written h at (headBytes x)
-  head-is x a b c d p q r s = next h at _ _ (next h at _ _ (next h at _ _ p q) r) s
+  pub head-is : (x : Slot) → set (set (set (set h at (x .tag)) (at + 1) (x .comparator)) (at + 2) (x .kind)) (at + 3) 0 ≡ written h at (headBytes x)
+  unfolding written
+  head-is x =
+      let one : at + 1 ≡ suc at = omega arith in
+      let two : at + 2 ≡ suc (suc at) = omega arith in
+      let three : at + 3 ≡ suc (suc (suc at)) = omega arith in
+      rw (one, two, three)
+
+  pub pair-is : (n : ℕ) → set (set h at (n % 256)) (at + 1) (n / 256 % 256) ≡ written h at (twoBytes n)
+  unfolding written
+  pair-is n = let one : at + 1 ≡ suc at = omega arith in rw one
 
   pub span-is : (p : Span) (a b : Bytes) → a ≡ written h at (twoBytes (p .start)) → b ≡ written a (at + 2) (twoBytes (p .len)) → b ≡ written h at (spanBytes p)
   span-is p a b e f = next h at _ _ e f
@@ -55,4 +60,4 @@ module _ (h : Bytes) (at : ℕ) where
   unfolding slotBytes
   slot-is x a b c d p q r s = next h at _ _ (next h at _ _ (next h at _ _ p q) r) s
 
-pub ruleset puts = (written-past, head-is, span-is, slot-is)
+pub ruleset puts = (head-is, pair-is, span-is, eight-is, slot-is)

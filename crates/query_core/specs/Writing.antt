@@ -1,7 +1,7 @@
 -- Working definitions: a declared node as a slot, the strings that it takes along, and a buffer that nodes are laid into.
 use Prim.Native.Nat.{ℕ, _+_, _/_, _%_, _≤_, min}
 use mathlib.Core.Path.{_≡_}
-use mathlib.Core.Bool.{Bool}
+use mathlib.Core.Bool.{Bool, true, false}
 use mathlib.Core.List.{List, [], _∷_, _++_}
 use lib.Dec.{leb}
 use lib.ListN.{length}
@@ -64,6 +64,11 @@ joinedSlot Connective.Select x p q = selectorSlot x p q
 
 abbrev pub slotOf : Node → Span → Span → Slot
 slotOf n p q = joinedSlot (n .connective) (n .selector) p q
+
+-- OR or AND as a declared node; its selector does not count.
+abbrev pub joint : Bool → Node
+joint true = record { connective = Connective.Or; selector = Selector.Category noSpan }
+joint false = record { connective = Connective.And; selector = Selector.Category noSpan }
 
 -- Strings of a and b bytes have room in the heap behind others.
 unfoldable pub hasRoom : ℕ → ℕ → ℕ → Bool

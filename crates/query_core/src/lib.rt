@@ -2,6 +2,7 @@
 pub mod layout; // layout.rt: the regions and tags of a held query
 pub mod query; // query.rt: number 21's test
 pub mod reading; // reading.rt: a node from its bytes
+mod placing; // placing.rt: where the strings of nodes lie, and their slots
 pub mod writing; // writing.rt: nodes into a held query
 
 use language::Comparator;
@@ -13,6 +14,7 @@ use text::Span;
 use values::Scalar;
 pub use writing::count_of;
 pub use writing::finish;
+pub use writing::put_connective;
 pub use writing::put_node;
 
 // A constant: the kind and the code of a scalar, or where a string lies in a text.

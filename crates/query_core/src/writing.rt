@@ -1,207 +1,79 @@
 // Nodes into a held query: each in its 20 bytes, its strings in the heap behind those before it.
-use crate::Connective;
-use crate::Constant;
 use crate::Node;
 use crate::Place;
-use crate::Selector;
 use crate::Slot;
-use crate::Strings;
 use crate::layout;
-use buffer::put_byte;
+use crate::placing::connective_slot;
+use crate::placing::slot_of;
+use crate::placing::strings_of;
 use buffer::put_bytes;
-use buffer::put_eight;
 use buffer::put_two;
-use language::Comparator;
 use text::Span;
 use text::part;
-use values::Kind;
-use values::kind_code;
 ghost use mathlib.Core.Path.{_≡_};
+ghost use mathlib.Core.List.{[]};
+ghost use Prim.Native.Nat.{_+_, _≤_};
+ghost use lib.ListN.{length};
+ghost use Rattle.buffer.specs.Numbers.{twoBytes, eightBytes};
 ghost use Rattle.buffer.specs.Writing.{written};
-ghost use Rattle.query_core.specs.Form.{comparatorCode, tagged, headBytes, spanBytes, slotBytes};
-ghost use Rattle.query_core.specs.Writing.{constantStrings, selectorStrings, nodeStrings, constantSlot, selectorSlot, slotOf, hasRoom, countOf, Puts, Finishes};
+ghost use Rattle.query_core.specs.Form.{headBytes, spanBytes, slotBytes};
+ghost use Rattle.query_core.specs.Writing.{joint, hasRoom, countOf, Puts, Finishes};
 
-// The code of a comparator.
-fn code_of(c: Comparator) -> u8
-    ensures { λ r. ⌜ r ≡ comparatorCode c ⌝ }
-{
-    match c {
-        Comparator::Equal => layout::EQUAL,
-        Comparator::Unequal => layout::UNEQUAL,
-        Comparator::Greater => layout::GREATER,
-        Comparator::Less => layout::LESS,
-    }
-}
-
-// A slot with no constant.
-fn tagged_slot(tag: u8, comparator: u8, first: Span, second: Span) -> Slot
-    ensures { λ r. ⌜ r ≡ tagged tag comparator first second ⌝ }
-{
-    Slot {
-        tag,
-        comparator,
-        kind: 0,
-        first,
-        second,
-        number: 0,
-    }
-}
-
-// Where the strings of a value comparison lie.
-fn constant_strings(first: Span, k: Constant) -> Strings
-    ensures { λ r. ⌜ r ≡ constantStrings first k ⌝ }
-{
-    let none = Span { start: 0, len: 0 };
-    match k {
-        Constant::Scalar(_, _) => Strings {
-            first,
-            second: none,
-        },
-        Constant::String(second) => Strings { first, second },
-    }
-}
-
-// Where the strings of a selector lie.
-fn selector_strings(s: Selector) -> Strings
-    ensures { λ r. ⌜ r ≡ selectorStrings s ⌝ }
-{
-    let none = Span { start: 0, len: 0 };
-    match s {
-        Selector::Category(p) => Strings {
-            first: p,
-            second: none,
-        },
-        Selector::Namespace(p) => Strings {
-            first: p,
-            second: none,
-        },
-        Selector::Existence(p) => Strings {
-            first: p,
-            second: none,
-        },
-        Selector::Subquery(p) => Strings {
-            first: p,
-            second: none,
-        },
-        Selector::Article(_, p) => Strings {
-            first: none,
-            second: p,
-        },
-        Selector::Value(p, _, k) => constant_strings(p, k),
-    }
-}
-
-// Where the strings of a node lie.
-fn strings_of(node: Node) -> Strings
-    ensures { λ r. ⌜ r ≡ nodeStrings node ⌝ }
-{
-    let connective = node.connective;
-    let selector = node.selector;
-    let none = Span { start: 0, len: 0 };
-    match connective {
-        Connective::And => Strings {
-            first: none,
-            second: none,
-        },
-        Connective::Or => Strings {
-            first: none,
-            second: none,
-        },
-        Connective::Select => selector_strings(selector),
-    }
-}
-
-// The slot of a value comparison whose strings lie at p and q.
-fn constant_slot(code: u8, k: Constant, p: Span, q: Span) -> Slot
-    ensures { λ r. ⌜ r ≡ constantSlot code k p q ⌝ }
-{
-    let none = Span { start: 0, len: 0 };
-    match k {
-        Constant::Scalar(j, n) => Slot {
-            tag: layout::VALUE,
-            comparator: code,
-            kind: kind_code(Kind::Scalar(j)),
-            first: p,
-            second: none,
-            number: n,
-        },
-        Constant::String(_) => Slot {
-            tag: layout::VALUE,
-            comparator: code,
-            kind: kind_code(Kind::String),
-            first: p,
-            second: q,
-            number: 0,
-        },
-    }
-}
-
-// The slot of a selector whose strings lie at p and q.
-fn selector_slot(s: Selector, p: Span, q: Span) -> Slot
-    ensures { λ r. ⌜ r ≡ selectorSlot s p q ⌝ }
-{
-    let none = Span { start: 0, len: 0 };
-    match s {
-        Selector::Category(_) => tagged_slot(layout::CATEGORY, 0, p, none),
-        Selector::Namespace(_) => tagged_slot(layout::NAMESPACE, 0, p, none),
-        Selector::Existence(_) => tagged_slot(layout::EXISTENCE, 0, p, none),
-        Selector::Subquery(_) => tagged_slot(layout::SUBQUERY, 0, p, none),
-        Selector::Article(c, _) => tagged_slot(layout::ARTICLE, code_of(c), none, q),
-        Selector::Value(_, c, k) => constant_slot(code_of(c), k, p, q),
-    }
-}
-
-// The slot of a node whose strings lie at p and q.
-fn slot_of(node: Node, p: Span, q: Span) -> Slot
-    ensures { λ r. ⌜ r ≡ slotOf node p q ⌝ }
-{
-    let connective = node.connective;
-    let selector = node.selector;
-    let none = Span { start: 0, len: 0 };
-    match connective {
-        Connective::And => tagged_slot(layout::AND, 0, none, none),
-        Connective::Or => tagged_slot(layout::OR, 0, none, none),
-        Connective::Select => selector_slot(selector, p, q),
-    }
-}
-
-// Writes a slot's first three numbers, a byte each, and a byte 0, as far as there is room.
+// Writes a slot's first three numbers, a byte each, and a byte 0.
 fn put_head(h: &mut [u8], at: usize, x: Slot)
+    requires { ⌜ at + 4 ≤ length (now h) ⌝ }
     ensures { λ _. ⌜ now (h .exit) ≡ written (now (h .entry)) at (headBytes x) ⌝ }
 {
-    if h.len() <= at {
-        return;
-    }
-    put_byte(h, at, x.tag);
-    put_byte(h, at + 1, x.comparator);
-    put_byte(h, at + 2, x.kind);
-    put_byte(h, at + 3, 0);
+    h[at] = x.tag;
+    h[at + 1] = x.comparator;
+    h[at + 2] = x.kind;
+    h[at + 3] = 0;
 }
 
-// Writes a place, two bytes a number, as far as there is room.
+// Writes a number in two bytes.
+fn put_pair(h: &mut [u8], at: usize, n: usize)
+    requires { ⌜ at + 2 ≤ length (now h) ⌝ }
+    ensures { λ _. ⌜ now (h .exit) ≡ written (now (h .entry)) at (twoBytes n) ⌝ }
+{
+    h[at] = (n % 256) as u8;
+    h[at + 1] = (n / 256 % 256) as u8;
+}
+
+// Writes a place, two bytes a number.
 fn put_span(h: &mut [u8], at: usize, p: Span)
+    requires { ⌜ at + 4 ≤ length (now h) ⌝ }
     ensures { λ _. ⌜ now (h .exit) ≡ written (now (h .entry)) at (spanBytes p) ⌝ }
 {
-    if h.len() <= at {
-        return;
-    }
-    put_two(h, at, p.start);
-    put_two(h, at + 2, p.len);
+    put_pair(h, at, p.start);
+    put_pair(h, at + 2, p.len);
 }
 
-// Writes a slot's 20 bytes, as far as there is room.
+// Writes a number in eight bytes.
+fn put_number(h: &mut [u8], at: usize, n: u64)
+    requires { ⌜ at + 8 ≤ length (now h) ⌝ }
+    ensures { λ _. ⌜ now (h .exit) ≡ written (now (h .entry)) at (eightBytes n) ⌝ }
+{
+    let a = n as usize;
+    let b = a / 65536;
+    let c = b / 65536;
+    let d = c / 65536;
+    put_pair(h, at, a);
+    put_pair(h, at + 2, b);
+    put_pair(h, at + 4, c);
+    put_pair(h, at + 6, d);
+}
+
+// Writes a slot's 20 bytes. That there is room is tested once a node, so that a compiler writes many bytes at a time.
 fn put_slot(h: &mut [u8], at: usize, x: Slot)
+    requires { ⌜ at + 20 ≤ length (now h) ⌝ }
     ensures { λ _. ⌜ now (h .exit) ≡ written (now (h .entry)) at (slotBytes x) ⌝ }
 {
-    if h.len() <= at {
-        return;
-    }
     let first = x.first;
     let second = x.second;
     put_head(h, at, x);
     put_span(h, at + 4, first);
     put_span(h, at + 8, second);
-    put_eight(h, at + 12, x.number);
+    put_number(h, at + 12, x.number);
 }
 
 // Whether strings of so many bytes have room in the heap behind others.
@@ -224,10 +96,31 @@ pub fn count_of(at: Place) -> usize
     at.code % 512
 }
 
+// Lays AND or OR behind others, where there is room for it.
+pub fn put_connective(held: &mut [u8], at: Place, or: bool) -> Place
+    ensures { λ r. ⌜ Puts [] (joint or) (now (held .entry)) at (now (held .exit)) r ⌝ }
+{
+    if held.len() < layout::QUERY_BYTES {
+        return at;
+    }
+    let count = at.code % 512;
+    if layout::MOST_NODES <= count {
+        return Place {
+            code: at.code - count + 257,
+        };
+    }
+    let slot = connective_slot(or);
+    put_slot(held, layout::NODES + layout::NODE_BYTES * count, slot);
+    Place { code: at.code + 1 }
+}
+
 // Lays a node behind others, where there is room for it; its strings lie in s.
 pub fn put_node(s: &[u8], held: &mut [u8], at: Place, node: Node) -> Place
     ensures { λ r. ⌜ Puts (now (s .entry)) node (now (held .entry)) at (now (held .exit)) r ⌝ }
 {
+    if held.len() < layout::QUERY_BYTES {
+        return at;
+    }
     let count = at.code % 512;
     let end = at.code / 512;
     if layout::MOST_NODES <= count {

@@ -14,7 +14,7 @@ use Rattle.query_core.specs.declared.Place.{Place}
 use Rattle.query_core.specs.Postfix.{Node, post}
 use Rattle.query_core.specs.Form.{noSpan}
 use Rattle.query_core.specs.Reading.{selectorBy}
-use Rattle.query_core.specs.Writing.{Laid, Puts}
+use Rattle.query_core.specs.Writing.{joint, Laid, Puts}
 use Rattle.query_core_emit.specs.Emission.{Adds, connectiveNode, selectorOf, comparing}
 use Rattle.query_core_emit.specs.declared.Comparison.{Comparison}
 
@@ -23,24 +23,22 @@ adds-then k m {h″ = h″} {p″ = p″} a b =
     record { laid = λ l d. subst (λ (x : List Node). Laid h″ p″ x) (append-assoc l k m) (b .laid (l ++ k) (a .laid l d)) }
 
 module _ (s h h′ : Bytes) (p p′ : Place) where
-  -- a selector, a connective
+  -- a selector
   pub select-adds : (x : Selector) → Puts s (record { connective = Connective.Select; selector = x }) h p h′ p′ → Adds (selectorBy s x ∷ []) h p h′ p′
   unfolding Puts
   select-adds x d = record { laid = d }
-
-  pub or-adds : (or : Bool) (x : Selector) → or ≡ true → Puts s (record { connective = Connective.Or; selector = x }) h p h′ p′ → Adds (connectiveNode or ∷ []) h p h′ p′
-  unfolding Puts
-  or-adds or x e d = rw e (record { laid = d })
-
-  pub and-adds : (or : Bool) (x : Selector) → or ≡ false → Puts s (record { connective = Connective.And; selector = x }) h p h′ p′ → Adds (connectiveNode or ∷ []) h p h′ p′
-  unfolding Puts
-  and-adds or x e d = rw e (record { laid = d })
 
   -- one comparison
   pub one-adds : (w : Comparison) (c : Comparator) (x : Selector) → x ≡ selectorOf w c → Adds (selectorBy s x ∷ []) h p h′ p′ → Adds (post (comparing s w c)) h p h′ p′
   unfolding post
   one-adds (Comparison.Article q) c x e d = rw e at d
   one-adds (Comparison.Value q k) c x e d = rw e at d
+
+-- a connective
+pub joint-adds : (h h′ : Bytes) (p p′ : Place) (or : Bool) → Puts [] (joint or) h p h′ p′ → Adds (connectiveNode or ∷ []) h p h′ p′
+unfolding Puts
+joint-adds h h′ p p′ true d = record { laid = d }
+joint-adds h h′ p p′ false d = record { laid = d }
 
 -- two sides and what joins them
 module _ (a b : Core) {h h₁ h₂ h₃ : Bytes} {p p₁ p₂ p₃ : Place} (f : Adds (post a) h p h₁ p₁) (g : Adds (post b) h₁ p₁ h₂ p₂) where
@@ -55,4 +53,4 @@ module _ (a b : Core) {h h₁ h₂ h₃ : Bytes} {p p₁ p₂ p₃ : Place} (f :
 pub either-adds : (s : Bytes) (w : Comparison) (c : Comparator) (h h₁ h₂ h₃ : Bytes) (p p₁ p₂ p₃ : Place) → Adds (post (comparing s w c)) h p h₁ p₁ → Adds (post (comparing s w Comparator.Equal)) h₁ p₁ h₂ p₂ → Adds (connectiveNode true ∷ []) h₂ p₂ h₃ p₃ → Adds (post (strictOrEqual (comparing s w) c)) h p h₃ p₃
 either-adds s w c h h₁ h₂ h₃ p p₁ p₂ p₃ f g d = disjunction-adds (comparing s w c) (comparing s w Comparator.Equal) f g d
 
-pub ruleset adding = (select-adds, or-adds, and-adds, one-adds, either-adds)
+pub ruleset adding = (select-adds, joint-adds, one-adds, either-adds)

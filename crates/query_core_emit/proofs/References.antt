@@ -31,7 +31,7 @@ use Rattle.query_core_emit.specs.Emission.{Adds, Emits, connectiveNode, 
 use Rattle.query_core_emit.specs.declared.Comparison.{Comparison}
 use Rattle.query_core_emit.specs.declared.Scope.{Scope}
 use Rattle.query_core_emit.specs.declared.Emitted.{Emitted}
-use Rattle.query_core_emit.proofs.Adding.{adds-then, conjunction-adds}
+use Rattle.query_core_emit.proofs.Adding.{adds-then, conjunction-adds, one-adds, either-adds}
 use Rattle.query_core_emit.proofs.Constants.{constant-is}
 
 -- Selectors and scopes.
@@ -74,6 +74,19 @@ module _ (s : Bytes) (w : Comparison) (c : SurfaceComparator) (h h′ : Bytes) (
     one-is g a = rw (← e, g, ← f) a
 
 pub ruleset comparisons = (either-is, one-is)
+
+-- The same of an article name.
+module _ (s : Bytes) (a : Span) (c : SurfaceComparator) (t : Bool) (d : Comparator) (e : t ≡ orEqual c) (f : d ≡ strictly c) (h h₁ : Bytes) (p p₁ : Place) (one : Adds (selectorBy s (Selector.Article d a) ∷ []) h p h₁ p₁) where
+  article-one : Adds (post (comparing s (Comparison.Article a) d)) h p h₁ p₁
+  article-one = one-adds s h h₁ p p₁ (Comparison.Article a) d (Selector.Article d a) refl one
+
+  pub article-strict : t ≡ false → Adds (post (compared (comparing s (Comparison.Article a)) c)) h p h₁ p₁
+  article-strict g = one-is s (Comparison.Article a) c h h₁ p p₁ t d e f g article-one
+
+  pub article-either : (h₂ h₃ : Bytes) (p₂ p₃ : Place) → t ≡ true → Adds (selectorBy s (Selector.Article Comparator.Equal a) ∷ []) h₁ p₁ h₂ p₂ → Adds (connectiveNode true ∷ []) h₂ p₂ h₃ p₃ → Adds (post (compared (comparing s (Comparison.Article a)) c)) h p h₃ p₃
+  article-either h₂ h₃ p₂ p₃ g two d₃ =
+      either-is s (Comparison.Article a) c h h₃ p p₃ t d e f g
+      (either-adds s (Comparison.Article a) d h h₁ h₂ h₃ p p₁ p₂ p₃ article-one (one-adds s h₁ h₂ p₁ p₂ (Comparison.Article a) Comparator.Equal (Selector.Article Comparator.Equal a) refl two) d₃)
 
 -- Definition 5.3.1, by the scope of a reference.
 module _ (s : Bytes) where

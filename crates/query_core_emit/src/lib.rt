@@ -1,4 +1,5 @@
 // The nodes of references and values, put behind those that a held query has. Names and constants are copied into its heap.
+ghost use mathlib.Core.Path.{_≡_};
 use query_core::Constant;
 use query_core::Place;
 use text::Span;
@@ -22,4 +23,14 @@ pub enum Scope {
 pub enum Emitted {
     At(Place),
     Unfit,
+}
+
+// The same answer, its parts read one by one: right behind the call that answers, its bytes are not copied as fast.
+pub fn again(e: Emitted) -> Emitted
+    ensures { λ r. ⌜ r ≡ e ⌝ }
+{
+    match e {
+        Emitted::At(place) => Emitted::At(place),
+        Emitted::Unfit => Emitted::Unfit,
+    }
 }

@@ -9,6 +9,7 @@ ghost use Rattle.language.specs.Core.{Core};
 ghost use Rattle.language.specs.Elaboration.{strictOrEqual, compared, elaborateReference, elaborateConstant, elaborateValue};
 ghost use Rattle.query_core.specs.Postfix.{post};
 ghost use Rattle.query_core.specs.Reading.{selectorBy, joinedBy};
+ghost use Rattle.query_core_emit.specs.declared.Comparison.the-variants.{Article};
 ghost use Rattle.query_core_emit.specs.Emission.{comparing, selectorOf, scopeOf, Adds, Emits, connectiveNode};
 use crate::Comparison;
 use crate::Emitted;
@@ -25,6 +26,7 @@ use query_core::ConstantRead;
 use query_core::Node;
 use query_core::Place;
 use query_core::Selector;
+use query_core::put_connective;
 use query_core::put_node;
 use query_text_pieces::split_at;
 use text::Span;
@@ -49,20 +51,7 @@ pub fn put_select(s: &[u8], held: &mut [u8], at: Place, selector: Selector) -> P
 pub fn put_join(held: &mut [u8], at: Place, or: bool) -> Place
     ensures { λ r. ⌜ Adds (connectiveNode or ∷ []) (now (held .entry)) at (now (held .exit)) r ⌝ }
 {
-    let p = Span { start: 0, len: 0 };
-    let selector = Selector::Category(p);
-    if or {
-        let node = Node {
-            connective: Connective::Or,
-            selector,
-        };
-        return put_node(b"", held, at, node);
-    }
-    let node = Node {
-        connective: Connective::And,
-        selector,
-    };
-    put_node(b"", held, at, node)
+    put_connective(held, at, or)
 }
 
 // The selector of a comparison.
@@ -109,6 +98,19 @@ fn put_compared(
     }
 }
 
+// The same of an article name, the most usual comparison: only the name is handed on.
+fn put_article(s: &[u8], held: &mut [u8], at: Place, p: Span, c: SurfaceComparator) -> Place
+    ensures { λ r. ⌜ Adds (post (compared (comparing (now (s .entry)) (Article p)) c)) (now (held .entry)) at (now (held .exit)) r ⌝ }
+{
+    let d = strict(c);
+    let one = put_select(s, held, at, Selector::Article(d, p));
+    if or_equal(c) {
+        let two = put_select(s, held, one, Selector::Article(Comparator::Equal, p));
+        return put_join(held, two, true);
+    }
+    one
+}
+
 // Where a reference is looked for: definition 5.3.1.
 fn scope_of(c: SurfaceComparator, split: Split) -> Scope
     ensures { λ r. ⌜ r ≡ scopeOf c split ⌝ }
@@ -139,12 +141,11 @@ pub fn put_reference(
     ensures { λ r. ⌜ Adds (post (elaborateReference c (splitOf (now (s .entry)) split))) (now (held .entry)) at (now (held .exit)) r ⌝ }
 {
     let article = split.article;
-    let what = Comparison::Article(article);
     match scope_of(c, split) {
-        Scope::Any => put_compared(s, held, at, what, c),
+        Scope::Any => put_article(s, held, at, article, c),
         Scope::Within(namespace) => {
             let one = put_select(s, held, at, Selector::Namespace(namespace));
-            let two = put_compared(s, held, one, what, c);
+            let two = put_article(s, held, one, article, c);
             put_join(held, two, false)
         }
     }

@@ -23,9 +23,8 @@ use Rattle.query_tree.specs.Nodes.{Node, treeCategories, treeIdentifiers, treeC
 use Rattle.query_tree.specs.declared.TreeNode.{TreeNode}
 use Rattle.query_tree.specs.Form.{stringsIn, nodeIn, nodesIn}
 use Rattle.query_tree.specs.Reading.{nodeBy}
-use Rattle.query_core_fit.specs.declared.Context.{Context}
 use Rattle.query_core_fit.specs.declared.Step.{Step}
-use Rattle.query_core_fit.specs.Fitting.{stepOf, Fits, FitsTwo, Wraps, LeafAt, LeafIn, queryCore, inCore, chainTree, chainCore, partTree, partCore, AtNode, InNode, ChainNode, FitsPart, FitsSides}
+use Rattle.query_core_fit.specs.Fitting.{stepOf, Fits, FitsTwo, Wraps, LeafAt, LeafIn, queryCore, inCore, chainTree, chainCore, AtNode, InNode, ChainNode, FitsIn}
 use Rattle.query_core_fit.proofs.Parts.{query-fits, in-fits, chain-fits}
 use Rattle.query_core_fit.proofs.Joins.{two-short, two-first, two-second, two-both, wrap-unfit, wrap-at}
 
@@ -72,8 +71,8 @@ module _ (t g : Bytes) where
     pub chain-none : Fits (chainTree (kindsOf (registerIn g))) (chainCore (kindsOf (registerIn g))) (nodesIn t) i h p Emitted.Unfit h
     chain-none = none-there (chainTree Γ) (chainCore Γ) (λ c. chain-some (c .0) (treeIn (c .1))) (nodesIn t) i h p z
 
-    pub in-none : (x : Span) (kind : KindRead) → FitsPart (stringsIn t) (kindsOf (registerIn g)) (nodesIn t) (Context.Under x kind) i h p Emitted.Unfit h
-    unfolding FitsPart
+    pub in-none : (x : Span) (kind : KindRead) → FitsIn (stringsIn t) (kindsOf (registerIn g)) (nodesIn t) x kind i h p Emitted.Unfit h
+    unfolding FitsIn
     in-none x kind known = none-there treeIn (inCore Γ (partOf (stringsIn t) x)) in-some (nodesIn t) i h p z
 
   module _ (node : TreeNode) (step : Step) (i : ℕ) (some : i ≡ 0 → ⊥) (is : nodeBy (stringsIn t) node ≡ nodeIn t (i - 1)) (asks : step ≡ stepOf node) (h : Bytes) (p : Place) (r : Emitted) (h′ : Bytes) where
@@ -107,10 +106,6 @@ module _ (t g : Bytes) where
 
     by-step : (u : Step) → step ≡ u → AtStep node u → Fits tree (queryCore Γ) (nodesIn t) i h p r h′
     by-step u e d = query-fits t Γ (nodeBy (stringsIn t) node) i (i - 1) is next h p r h′ (step-at node (subst (AtStep node) (sym e ∙ asks) d))
-
-    pub query-two : (n : ℕ) (or : Bool) → step ≡ Step.Two n or → FitsSides (stringsIn t) (kindsOf (registerIn g)) (nodesIn t) Context.Free or n (i - 1) h p r h′ → Fits tree (queryCore (kindsOf (registerIn g))) (nodesIn t) i h p r h′
-    unfolding FitsSides
-    query-two n or e d = by-step (Step.Two n or) e (d tt)
 
     pub query-subquery : step ≡ Step.Subquery → Fits tree (queryCore (kindsOf (registerIn g))) (nodesIn t) i h p r h′
     query-subquery e = by-step Step.Subquery e tt
@@ -185,20 +180,16 @@ module _ (t g : Bytes) where
       in-by u e d = in-fits t Γ (nodeBy (stringsIn t) node) i (i - 1) is next h p r h′ (partOf (stringsIn t) x) (step-in node (subst (InStep node) (sym e ∙ asks) d))
 
       module _ (kind : KindRead) where
-        pub in-two : (n : ℕ) (or : Bool) → step ≡ Step.Two n or → FitsSides (stringsIn t) (kindsOf (registerIn g)) (nodesIn t) (Context.Under x kind) or n (i - 1) h p r h′ → FitsPart (stringsIn t) (kindsOf (registerIn g)) (nodesIn t) (Context.Under x kind) i h p r h′
-        unfolding FitsSides FitsPart
-        in-two n or e d known = in-by (Step.Two n or) e (d known)
-
-        pub in-property : (y : Span) → step ≡ Step.Property y → FitsPart (stringsIn t) (kindsOf (registerIn g)) (nodesIn t) (Context.Under x kind) i h p r h′
-        unfolding FitsPart
+        pub in-property : (y : Span) → step ≡ Step.Property y → FitsIn (stringsIn t) (kindsOf (registerIn g)) (nodesIn t) x kind i h p r h′
+        unfolding FitsIn
         in-property y e known = in-by (Step.Property y) e tt
 
-        pub in-link : (y : Span) → step ≡ Step.Link y → FitsPart (stringsIn t) (kindsOf (registerIn g)) (nodesIn t) (Context.Under x kind) i h p r h′
-        unfolding FitsPart
+        pub in-link : (y : Span) → step ≡ Step.Link y → FitsIn (stringsIn t) (kindsOf (registerIn g)) (nodesIn t) x kind i h p r h′
+        unfolding FitsIn
         in-link y e known = in-by (Step.Link y) e tt
 
-        pub in-leaf : (s : Bytes) → step ≡ Step.Leaf → s ≡ part t 4088 1024 → LeafIn (partOf s x) (kindOf kind) (nodeBy s node) h p r h′ → FitsPart (stringsIn t) (kindsOf (registerIn g)) (nodesIn t) (Context.Under x kind) i h p r h′
-        unfolding FitsPart
+        pub in-leaf : (s : Bytes) → step ≡ Step.Leaf → s ≡ part t 4088 1024 → LeafIn (partOf s x) (kindOf kind) (nodeBy s node) h p r h′ → FitsIn (stringsIn t) (kindsOf (registerIn g)) (nodesIn t) x kind i h p r h′
+        unfolding FitsIn
         in-leaf s e f d known = in-by Step.Leaf e (subst (λ k. LeafIn (partOf (stringsIn t) x) k (nodeBy (stringsIn t) node) h p r h′) known (rw f at d))
 
   -- A chain's last name, and one that leads on.
@@ -206,8 +197,8 @@ module _ (t g : Bytes) where
     here : kindOf kind ≡ Γ (partOf (stringsIn t) x)
     here = rw f at known
 
-    pub chain-property : (r : Emitted) (h′ : Bytes) → step ≡ Step.Property x → FitsPart (stringsIn t) (kindsOf (registerIn g)) (nodesIn t) (Context.Under x kind) (i - 1) h p r h′ → Fits (chainTree (kindsOf (registerIn g))) (chainCore (kindsOf (registerIn g))) (nodesIn t) i h p r h′
-    unfolding FitsPart
+    pub chain-property : (r : Emitted) (h′ : Bytes) → step ≡ Step.Property x → FitsIn (stringsIn t) (kindsOf (registerIn g)) (nodesIn t) x kind (i - 1) h p r h′ → Fits (chainTree (kindsOf (registerIn g))) (chainCore (kindsOf (registerIn g))) (nodesIn t) i h p r h′
+    unfolding FitsIn
     chain-property r h′ e d = chain-by node step i some is asks h p r h′ (Step.Property x) e (d here)
 
     pub chain-link : (r v : Emitted) (p₁ : Place) (h₁ h′ : Bytes) → step ≡ Step.Link x → Fits (chainTree (kindsOf (registerIn g))) (chainCore (kindsOf (registerIn g))) (nodesIn t) (i - 1) h p v h₁ → v ≡ Emitted.At p₁ → Wraps (partOf s x) (kindOf kind) h₁ p₁ r h′ → Fits (chainTree (kindsOf (registerIn g))) (chainCore (kindsOf (registerIn g))) (nodesIn t) i h p r h′
@@ -222,46 +213,67 @@ module _ (t g : Bytes) where
 
   -- A query inside a property.
   module _ (node : TreeNode) (step : Step) (i : ℕ) (some : i ≡ 0 → ⊥) (is : nodeBy (stringsIn t) node ≡ nodeIn t (i - 1)) (asks : step ≡ stepOf node) (x : Span) (kind : KindRead) (h : Bytes) (p : Place) (e : step ≡ Step.Subquery) where
-    pub in-subquery : (r v : Emitted) (p₁ : Place) (h₁ h′ s : Bytes) → s ≡ part t 4088 1024 → Fits tree (queryCore (kindsOf (registerIn g))) (nodesIn t) (i - 1) h p v h₁ → v ≡ Emitted.At p₁ → Wraps (partOf s x) (kindOf kind) h₁ p₁ r h′ → FitsPart (stringsIn t) (kindsOf (registerIn g)) (nodesIn t) (Context.Under x kind) i h p r h′
-    unfolding FitsPart
+    pub in-subquery : (r v : Emitted) (p₁ : Place) (h₁ h′ s : Bytes) → s ≡ part t 4088 1024 → Fits tree (queryCore (kindsOf (registerIn g))) (nodesIn t) (i - 1) h p v h₁ → v ≡ Emitted.At p₁ → Wraps (partOf s x) (kindOf kind) h₁ p₁ r h′ → FitsIn (stringsIn t) (kindsOf (registerIn g)) (nodesIn t) x kind i h p r h′
+    unfolding FitsIn
     in-subquery r v p₁ h₁ h′ s f d u w known =
         in-by node step i some is asks h p r h′ x Step.Subquery e
         (wrap-at tree (queryCore Γ) (nodesIn t) (i - 1) (partOf (stringsIn t) x) (Γ (partOf (stringsIn t) x)) h h₁ p r p₁ h′ (rw u at d) (subst (λ k. Wraps (partOf (stringsIn t) x) k h₁ p₁ r h′) known (rw f at w)))
 
-    pub in-unfit : (v : Emitted) (h₁ : Bytes) → Fits tree (queryCore (kindsOf (registerIn g))) (nodesIn t) (i - 1) h p v h₁ → v ≡ Emitted.Unfit → FitsPart (stringsIn t) (kindsOf (registerIn g)) (nodesIn t) (Context.Under x kind) i h p Emitted.Unfit h₁
-    unfolding FitsPart
+    pub in-unfit : (v : Emitted) (h₁ : Bytes) → Fits tree (queryCore (kindsOf (registerIn g))) (nodesIn t) (i - 1) h p v h₁ → v ≡ Emitted.Unfit → FitsIn (stringsIn t) (kindsOf (registerIn g)) (nodesIn t) x kind i h p Emitted.Unfit h₁
+    unfolding FitsIn
     in-unfit v h₁ d u known =
         in-by node step i some is asks h p Emitted.Unfit h₁ x Step.Subquery e
         (wrap-unfit tree (queryCore Γ) (nodesIn t) (i - 1) (partOf (stringsIn t) x) (Γ (partOf (stringsIn t) x)) h h₁ p (rw u at d))
 
-  -- A part, by what stands around it; two parts.
-  module _ (c : Context) (i : ℕ) (h : Bytes) (p : Place) where
-    pub part-query : (r : Emitted) (h′ : Bytes) → c ≡ Context.Free → Fits tree (queryCore (kindsOf (registerIn g))) (nodesIn t) i h p r h′ → FitsPart (stringsIn t) (kindsOf (registerIn g)) (nodesIn t) c i h p r h′
-    unfolding FitsPart
-    part-query r h′ e d = rw e (λ known. d)
+  -- Two sides, n nodes in the second, and what joins them.
+  module _ {A : Type 0} (f : A → List Node) (e : A → Option Core) (or : Bool) (n j : ℕ) (enough : n ≤ j) (h : Bytes) (p : Place) where
+    whole : (j - n) + n ≡ j
+    whole = omega (arith, enough)
 
-    pub part-in : (r : Emitted) (h′ : Bytes) (x : Span) (kind : KindRead) → c ≡ Context.Under x kind → FitsPart (stringsIn t) (kindsOf (registerIn g)) (nodesIn t) (Context.Under x kind) i h p r h′ → FitsPart (stringsIn t) (kindsOf (registerIn g)) (nodesIn t) c i h p r h′
-    part-in r h′ x kind e d = rw e d
+    sides-first : (v : Emitted) (h₁ : Bytes) → Fits f e (nodesIn t) (j - n) h p v h₁ → v ≡ Emitted.Unfit → FitsTwo f e or (nodesIn t) n j h p Emitted.Unfit h₁
+    sides-first v h₁ a u = two-first f e or (nodesIn t) n (j - n) j h p whole h₁ (rw u at a)
 
-    module _ (n : ℕ) (or : Bool) where
-      pub sides-short : i < n → FitsSides (stringsIn t) (kindsOf (registerIn g)) (nodesIn t) c or n i h p Emitted.Unfit h
-      unfolding FitsSides
-      sides-short l known = two-short (partTree Γ c) (partCore Γ (stringsIn t) c) or (nodesIn t) n 0 i h p l
+    sides-second : (v w : Emitted) (h₁ h₂ : Bytes) (p₁ : Place) → Fits f e (nodesIn t) (j - n) h p v h₁ → v ≡ Emitted.At p₁ → Fits f e (nodesIn t) j h₁ p₁ w h₂ → w ≡ Emitted.Unfit → FitsTwo f e or (nodesIn t) n j h p Emitted.Unfit h₂
+    sides-second v w h₁ h₂ p₁ a u b y = two-second f e or (nodesIn t) n (j - n) j h p whole h₁ h₂ p₁ (rw u at a) (rw y at b)
 
-      module _ (enough : n ≤ i) where
-        whole : (i - n) + n ≡ i
-        whole = omega (arith, enough)
+    sides-both : (v w : Emitted) (h₁ h₂ h₃ : Bytes) (p₁ p₂ p₃ : Place) → Fits f e (nodesIn t) (j - n) h p v h₁ → v ≡ Emitted.At p₁ → Fits f e (nodesIn t) j h₁ p₁ w h₂ → w ≡ Emitted.At p₂ → Adds (connectiveNode or ∷ []) h₂ p₂ h₃ p₃ → FitsTwo f e or (nodesIn t) n j h p (Emitted.At p₃) h₃
+    sides-both v w h₁ h₂ h₃ p₁ p₂ p₃ a u b y d = two-both f e or (nodesIn t) n (j - n) j h p whole h₁ h₂ h₃ p₁ p₂ p₃ (rw u at a) (rw y at b) d
 
-        pub sides-first : (v : Emitted) (h₁ : Bytes) → FitsPart (stringsIn t) (kindsOf (registerIn g)) (nodesIn t) c (i - n) h p v h₁ → v ≡ Emitted.Unfit → FitsSides (stringsIn t) (kindsOf (registerIn g)) (nodesIn t) c or n i h p Emitted.Unfit h₁
-        unfolding FitsSides FitsPart
-        sides-first v h₁ a u known = two-first (partTree Γ c) (partCore Γ (stringsIn t) c) or (nodesIn t) n (i - n) i h p whole h₁ (rw u at a known)
+  module _ (node : TreeNode) (step : Step) (i : ℕ) (some : i ≡ 0 → ⊥) (is : nodeBy (stringsIn t) node ≡ nodeIn t (i - 1)) (asks : step ≡ stepOf node) (n : ℕ) (or : Bool) (e : step ≡ Step.Two n or) (h : Bytes) (p : Place) where
+    abbrev at-two : (r : Emitted) (h′ : Bytes) → FitsTwo tree (queryCore Γ) or (nodesIn t) n (i - 1) h p r h′ → Fits tree (queryCore Γ) (nodesIn t) i h p r h′
+    at-two r h′ d = by-step node step i some is asks h p r h′ (Step.Two n or) e d
 
-        pub sides-second : (v w : Emitted) (h₁ h₂ : Bytes) (p₁ : Place) → FitsPart (stringsIn t) (kindsOf (registerIn g)) (nodesIn t) c (i - n) h p v h₁ → v ≡ Emitted.At p₁ → FitsPart (stringsIn t) (kindsOf (registerIn g)) (nodesIn t) c i h₁ p₁ w h₂ → w ≡ Emitted.Unfit → FitsSides (stringsIn t) (kindsOf (registerIn g)) (nodesIn t) c or n i h p Emitted.Unfit h₂
-        unfolding FitsSides FitsPart
-        sides-second v w h₁ h₂ p₁ a u b y known = two-second (partTree Γ c) (partCore Γ (stringsIn t) c) or (nodesIn t) n (i - n) i h p whole h₁ h₂ p₁ (rw u at a known) (rw y at b known)
+    abbrev in-two : (x : Span) (r : Emitted) (h′ : Bytes) → FitsTwo treeIn (inCore Γ (partOf (stringsIn t) x)) or (nodesIn t) n (i - 1) h p r h′ → Fits treeIn (inCore Γ (partOf (stringsIn t) x)) (nodesIn t) i h p r h′
+    in-two x r h′ d = in-by node step i some is asks h p r h′ x (Step.Two n or) e d
 
-        pub sides-both : (v w : Emitted) (h₁ h₂ h₃ : Bytes) (p₁ p₂ p₃ : Place) → FitsPart (stringsIn t) (kindsOf (registerIn g)) (nodesIn t) c (i - n) h p v h₁ → v ≡ Emitted.At p₁ → FitsPart (stringsIn t) (kindsOf (registerIn g)) (nodesIn t) c i h₁ p₁ w h₂ → w ≡ Emitted.At p₂ → Adds (connectiveNode or ∷ []) h₂ p₂ h₃ p₃ → FitsSides (stringsIn t) (kindsOf (registerIn g)) (nodesIn t) c or n i h p (Emitted.At p₃) h₃
-        unfolding FitsSides FitsPart
-        sides-both v w h₁ h₂ h₃ p₁ p₂ p₃ a u b y d known = two-both (partTree Γ c) (partCore Γ (stringsIn t) c) or (nodesIn t) n (i - n) i h p whole h₁ h₂ h₃ p₁ p₂ p₃ (rw u at a known) (rw y at b known) d
+    pub query-short : i - 1 < n → Fits tree (queryCore (kindsOf (registerIn g))) (nodesIn t) i h p Emitted.Unfit h
+    query-short l = at-two Emitted.Unfit h (two-short tree (queryCore Γ) or (nodesIn t) n 0 (i - 1) h p l)
 
-pub ruleset descends = (query-none, chain-none, in-none, query-two, query-subquery, query-property, query-link, query-leaf, chain-two, chain-subquery, chain-leaf, in-two, in-property, in-link, in-leaf, chain-property, chain-link, chain-unfit, in-subquery, in-unfit, part-query, part-in, sides-short, sides-first, sides-second, sides-both)
+    pub in-short : (x : Span) (kind : KindRead) → i - 1 < n → FitsIn (stringsIn t) (kindsOf (registerIn g)) (nodesIn t) x kind i h p Emitted.Unfit h
+    unfolding FitsIn
+    in-short x kind l known = in-two x Emitted.Unfit h (two-short treeIn (inCore Γ (partOf (stringsIn t) x)) or (nodesIn t) n 0 (i - 1) h p l)
+
+    module _ (enough : n ≤ i - 1) where
+      pub query-first : (v : Emitted) (h₁ : Bytes) → Fits tree (queryCore (kindsOf (registerIn g))) (nodesIn t) (i - 1 - n) h p v h₁ → v ≡ Emitted.Unfit → Fits tree (queryCore (kindsOf (registerIn g))) (nodesIn t) i h p Emitted.Unfit h₁
+      query-first v h₁ a u = at-two Emitted.Unfit h₁ (sides-first tree (queryCore Γ) or n (i - 1) enough h p v h₁ a u)
+
+      pub query-second : (v w : Emitted) (h₁ h₂ : Bytes) (p₁ : Place) → Fits tree (queryCore (kindsOf (registerIn g))) (nodesIn t) (i - 1 - n) h p v h₁ → v ≡ Emitted.At p₁ → Fits tree (queryCore (kindsOf (registerIn g))) (nodesIn t) (i - 1) h₁ p₁ w h₂ → w ≡ Emitted.Unfit → Fits tree (queryCore (kindsOf (registerIn g))) (nodesIn t) i h p Emitted.Unfit h₂
+      query-second v w h₁ h₂ p₁ a u b y = at-two Emitted.Unfit h₂ (sides-second tree (queryCore Γ) or n (i - 1) enough h p v w h₁ h₂ p₁ a u b y)
+
+      pub query-both : (v w : Emitted) (h₁ h₂ h₃ : Bytes) (p₁ p₂ p₃ : Place) → Fits tree (queryCore (kindsOf (registerIn g))) (nodesIn t) (i - 1 - n) h p v h₁ → v ≡ Emitted.At p₁ → Fits tree (queryCore (kindsOf (registerIn g))) (nodesIn t) (i - 1) h₁ p₁ w h₂ → w ≡ Emitted.At p₂ → Adds (connectiveNode or ∷ []) h₂ p₂ h₃ p₃ → Fits tree (queryCore (kindsOf (registerIn g))) (nodesIn t) i h p (Emitted.At p₃) h₃
+      query-both v w h₁ h₂ h₃ p₁ p₂ p₃ a u b y d = at-two (Emitted.At p₃) h₃ (sides-both tree (queryCore Γ) or n (i - 1) enough h p v w h₁ h₂ h₃ p₁ p₂ p₃ a u b y d)
+
+      module _ (x : Span) (kind : KindRead) where
+        pub in-first : (v : Emitted) (h₁ : Bytes) → FitsIn (stringsIn t) (kindsOf (registerIn g)) (nodesIn t) x kind (i - 1 - n) h p v h₁ → v ≡ Emitted.Unfit → FitsIn (stringsIn t) (kindsOf (registerIn g)) (nodesIn t) x kind i h p Emitted.Unfit h₁
+        unfolding FitsIn
+        in-first v h₁ a u known = in-two x Emitted.Unfit h₁ (sides-first treeIn (inCore Γ (partOf (stringsIn t) x)) or n (i - 1) enough h p v h₁ (a known) u)
+
+        pub in-second : (v w : Emitted) (h₁ h₂ : Bytes) (p₁ : Place) → FitsIn (stringsIn t) (kindsOf (registerIn g)) (nodesIn t) x kind (i - 1 - n) h p v h₁ → v ≡ Emitted.At p₁ → FitsIn (stringsIn t) (kindsOf (registerIn g)) (nodesIn t) x kind (i - 1) h₁ p₁ w h₂ → w ≡ Emitted.Unfit → FitsIn (stringsIn t) (kindsOf (registerIn g)) (nodesIn t) x kind i h p Emitted.Unfit h₂
+        unfolding FitsIn
+        in-second v w h₁ h₂ p₁ a u b y known = in-two x Emitted.Unfit h₂ (sides-second treeIn (inCore Γ (partOf (stringsIn t) x)) or n (i - 1) enough h p v w h₁ h₂ p₁ (a known) u (b known) y)
+
+        pub in-both : (v w : Emitted) (h₁ h₂ h₃ : Bytes) (p₁ p₂ p₃ : Place) → FitsIn (stringsIn t) (kindsOf (registerIn g)) (nodesIn t) x kind (i - 1 - n) h p v h₁ → v ≡ Emitted.At p₁ → FitsIn (stringsIn t) (kindsOf (registerIn g)) (nodesIn t) x kind (i - 1) h₁ p₁ w h₂ → w ≡ Emitted.At p₂ → Adds (connectiveNode or ∷ []) h₂ p₂ h₃ p₃ → FitsIn (stringsIn t) (kindsOf (registerIn g)) (nodesIn t) x kind i h p (Emitted.At p₃) h₃
+        unfolding FitsIn
+        in-both v w h₁ h₂ h₃ p₁ p₂ p₃ a u b y d known = in-two x (Emitted.At p₃) h₃ (sides-both treeIn (inCore Γ (partOf (stringsIn t) x)) or n (i - 1) enough h p v w h₁ h₂ h₃ p₁ p₂ p₃ (a known) u (b known) y d)
+
+pub ruleset descends = (query-none, chain-none, in-none, query-subquery, query-property, query-link, query-leaf, chain-two, chain-subquery, chain-leaf, in-property, in-link, in-leaf, chain-property, chain-link, chain-unfit, in-subquery, in-unfit, query-short, query-first, query-second, query-both, in-short, in-first, in-second, in-both)

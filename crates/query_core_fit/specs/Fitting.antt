@@ -8,7 +8,9 @@ use mathlib.Core.Option.{Option, some, none}
 use lib.ListN.{length}
 use Rattle.text.specs.Bytes.{Bytes}
 use Rattle.text.specs.Parts.{partOf}
+use Rattle.text.specs.declared.Span.{Span}
 use Rattle.values.specs.declared.Kind.{Kind}
+use Rattle.values.specs.declared.KindRead.{KindRead}
 use Rattle.language.specs.Answer.{_>>=_}
 use Rattle.language.specs.Register.{Typing}
 use Rattle.language.specs.Surface.{Chain, Alternatives, Query}
@@ -23,7 +25,6 @@ use Rattle.query_core_emit.specs.declared.Emitted.{Emitted}
 use Rattle.query_tree.specs.Nodes.{Node, treeChain, treeIn, tree}
 use Rattle.query_tree.specs.declared.TreeNode.{TreeNode}
 use Rattle.register_form_view.specs.View.{kindOf}
-use Rattle.query_core_fit.specs.declared.Context.{Context}
 use Rattle.query_core_fit.specs.declared.Step.{Step}
 
 -- What a node asks for.
@@ -122,24 +123,6 @@ module _ (Γ : Typing) where
   abbrev pub chainCore : Chain × Alternatives → Option Core
   chainCore c = along Γ (c .0) (λ x. elaborateIn (c .1) Γ x)
 
-  -- A part by what stands around it.
-  abbrev pub PartOf : Context → Type 0
-  PartOf Context.Free = Query
-  PartOf (Context.Under x k) = Alternatives
-
-  abbrev pub partTree : (c : Context) → PartOf c → List Node
-  partTree Context.Free q = tree q
-  partTree (Context.Under x k) a = treeIn a
-
-  abbrev pub partCore : Bytes → (c : Context) → PartOf c → Option Core
-  partCore s Context.Free q = elaborate q Γ
-  partCore s (Context.Under x k) a = elaborateIn a Γ (partOf s x)
-
-  -- What is known of the property's kind is its kind.
-  abbrev pub Known : Bytes → Context → Type 0
-  Known s Context.Free = Unit {0}
-  Known s (Context.Under x k) = kindOf k ≡ Γ (partOf s x)
-
   -- A part ends with a node, the node numbered i, by what the node is.
   module _ (l : List Node) where
     abbrev pub AtNode : Node → ℕ → Bytes → Place → Emitted → Bytes → Type 0
@@ -183,9 +166,6 @@ module _ (Γ : Typing) where
     ChainNode (Node.property x) i h p r h′ = Fits treeIn (inCore x) l i h p r h′
     ChainNode (Node.link x) i h p r h′ = Fits chainTree (λ c. inside x (Γ x) (chainCore c)) l i h p r h′
 
--- What a part's context asks of an answer.
-unfoldable pub FitsPart : Bytes → Typing → List Node → Context → ℕ → Bytes → Place → Emitted → Bytes → Type 0
-FitsPart s Γ l c i h p r h′ = Known Γ s c → Fits (partTree Γ c) (partCore Γ s c) l i h p r h′
-
-unfoldable pub FitsSides : Bytes → Typing → List Node → Context → Bool → ℕ → ℕ → Bytes → Place → Emitted → Bytes → Type 0
-FitsSides s Γ l c or n i h p r h′ = Known Γ s c → FitsTwo (partTree Γ c) (partCore Γ s c) or l n i h p r h′
+-- The nodes before node i end with those of the alternatives of the property whose name lies at x; k is its kind.
+unfoldable pub FitsIn : Bytes → Typing → List Node → Span → KindRead → ℕ → Bytes → Place → Emitted → Bytes → Type 0
+FitsIn s Γ l x k i h p r h′ = kindOf k ≡ Γ (partOf s x) → Fits treeIn (inCore Γ (partOf s x)) l i h p r h′

@@ -4,9 +4,7 @@ ghost use Rattle.language.specs.Register.{kindsOf};
 ghost use Rattle.register_form.specs.Form.{registerIn};
 ghost use Rattle.query_tree.specs.Form.{stringsIn, nodesIn};
 ghost use Rattle.query_tree.specs.Nodes.{tree as treeOf};
-ghost use Rattle.query_core_fit.specs.declared.Context.the-variants.{Under};
-ghost use Rattle.query_core_fit.specs.Fitting.{Fits, queryCore, chainTree, chainCore, FitsPart, FitsSides};
-use crate::Context;
+ghost use Rattle.query_core_fit.specs.Fitting.{Fits, queryCore, chainTree, chainCore, FitsIn};
 use crate::Step;
 use crate::leaves::kind_at;
 use crate::leaves::put_leaf;
@@ -15,54 +13,13 @@ use crate::leaves::put_subquery;
 use crate::leaves::step_of;
 use query_core::Place;
 use query_core_emit::Emitted;
+use query_core_emit::again;
 use query_core_emit::writing::put_join;
 use query_tree::layout;
 use query_tree::reading::node_at;
 use text::Span;
 use text::part;
 use values::KindRead;
-
-// A query, or the alternatives of a property.
-fn fit_part(
-    tree: &[u8],
-    i: usize,
-    context: Context,
-    register: &[u8],
-    held: &mut [u8],
-    at: Place,
-) -> Emitted
-    ensures { λ r. ⌜ FitsPart (stringsIn (now (tree .entry))) (kindsOf (registerIn (now (register .entry)))) (nodesIn (now (tree .entry))) context i (now (held .entry)) at r (now (held .exit)) ⌝ }
-{
-    match context {
-        Context::Free => fit_query(tree, i, register, held, at),
-        Context::Under(x, kind) => fit_in(tree, i, x, kind, register, held, at),
-    }
-}
-
-// Two parts, n nodes in the second, and what joins them.
-fn fit_two(
-    tree: &[u8],
-    i: usize,
-    n: usize,
-    or: bool,
-    context: Context,
-    register: &[u8],
-    held: &mut [u8],
-    at: Place,
-) -> Emitted
-    ensures { λ r. ⌜ FitsSides (stringsIn (now (tree .entry))) (kindsOf (registerIn (now (register .entry)))) (nodesIn (now (tree .entry))) context or n i (now (held .entry)) at r (now (held .exit)) ⌝ }
-{
-    if i < n {
-        return Emitted::Unfit;
-    }
-    match fit_part(tree, i - n, context, register, held, at) {
-        Emitted::At(first) => match fit_part(tree, i, context, register, held, first) {
-            Emitted::At(second) => Emitted::At(put_join(held, second, or)),
-            Emitted::Unfit => Emitted::Unfit,
-        },
-        Emitted::Unfit => Emitted::Unfit,
-    }
-}
 
 // A query.
 pub fn fit_query(tree: &[u8], i: usize, register: &[u8], held: &mut [u8], at: Place) -> Emitted
@@ -74,16 +31,27 @@ pub fn fit_query(tree: &[u8], i: usize, register: &[u8], held: &mut [u8], at: Pl
     let last = i - 1;
     let node = node_at(tree, last);
     match step_of(node) {
-        Step::Two(n, or) => fit_two(tree, last, n, or, Context::Free, register, held, at),
+        Step::Two(n, or) => {
+            if last < n {
+                return Emitted::Unfit;
+            }
+            match fit_query(tree, last - n, register, held, at) {
+                Emitted::At(first) => match fit_query(tree, last, register, held, first) {
+                    Emitted::At(second) => Emitted::At(put_join(held, second, or)),
+                    Emitted::Unfit => Emitted::Unfit,
+                },
+                Emitted::Unfit => Emitted::Unfit,
+            }
+        }
         Step::Subquery => Emitted::Unfit,
-        Step::Property(_) => fit_chain(tree, i, register, held, at),
-        Step::Link(_) => fit_chain(tree, i, register, held, at),
-        Step::Leaf => put_leaf(
+        Step::Property(_) => again(fit_chain(tree, i, register, held, at)),
+        Step::Link(_) => again(fit_chain(tree, i, register, held, at)),
+        Step::Leaf => again(put_leaf(
             part(tree, layout::STRINGS, layout::STRING_BYTES),
             held,
             at,
             node,
-        ),
+        )),
     }
 }
 
@@ -124,7 +92,7 @@ fn fit_in(
     held: &mut [u8],
     at: Place,
 ) -> Emitted
-    ensures { λ r. ⌜ FitsPart (stringsIn (now (tree .entry))) (kindsOf (registerIn (now (register .entry)))) (nodesIn (now (tree .entry))) (Under x kind) i (now (held .entry)) at r (now (held .exit)) ⌝ }
+    ensures { λ r. ⌜ FitsIn (stringsIn (now (tree .entry))) (kindsOf (registerIn (now (register .entry)))) (nodesIn (now (tree .entry))) x kind i (now (held .entry)) at r (now (held .exit)) ⌝ }
 {
     if i == 0 {
         return Emitted::Unfit;
@@ -133,16 +101,18 @@ fn fit_in(
     let s = part(tree, layout::STRINGS, layout::STRING_BYTES);
     let node = node_at(tree, last);
     match step_of(node) {
-        Step::Two(n, or) => fit_two(
-            tree,
-            last,
-            n,
-            or,
-            Context::Under(x, kind),
-            register,
-            held,
-            at,
-        ),
+        Step::Two(n, or) => {
+            if last < n {
+                return Emitted::Unfit;
+            }
+            match fit_in(tree, last - n, x, kind, register, held, at) {
+                Emitted::At(first) => match fit_in(tree, last, x, kind, register, held, first) {
+                    Emitted::At(second) => Emitted::At(put_join(held, second, or)),
+                    Emitted::Unfit => Emitted::Unfit,
+                },
+                Emitted::Unfit => Emitted::Unfit,
+            }
+        }
         Step::Subquery => match fit_query(tree, last, register, held, at) {
             Emitted::At(inner) => put_subquery(s, held, inner, x, kind),
             Emitted::Unfit => Emitted::Unfit,

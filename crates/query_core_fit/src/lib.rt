@@ -12,18 +12,10 @@ use query_core::layout;
 use query_core_emit::Emitted;
 use tables::widen;
 use text::Span;
-use values::KindRead;
 
 pub mod descent; // descent.rt: a tree from its last node down
 pub mod leaves; // leaves.rt: what a single node asks for and puts
 pub mod names; // names.rt: the properties that a tree names
-
-// What stands around a part of a query: nothing, or the property that its alternatives are about, by its name and by what is known
-// of its kind.
-pub enum Context {
-    Free,
-    Under(Span, KindRead),
-}
 
 // What a node asks for: its two sides (and whether they are joined by OR), the query that it leads to, the alternatives or the rest
 // of the chain that it names, or nothing.

@@ -5,7 +5,7 @@ ghost use Rattle.text.specs.Parts.{partOf};
 ghost use Rattle.values.specs.Names.{isName};
 ghost use Rattle.language.specs.RawQuery.{RawAlternatives, plainBody};
 ghost use Rattle.language.specs.QueryText.{breaksReference};
-ghost use Rattle.query_text_pieces.specs.Places.{from, pieceOf, headOf};
+ghost use Rattle.query_text_pieces.specs.Places.{from, pieceOf, headOf, SplitsAt};
 ghost use Rattle.query_tree.specs.Nodes.{Node};
 ghost use Rattle.query_tree.specs.Reading.{nodeBy};
 ghost use Rattle.query_text_heads.specs.Effects.{After, noded, ReadsPart};
@@ -14,6 +14,7 @@ use crate::Outcome;
 use crate::Seen;
 use crate::adding::add;
 use crate::adding::flag;
+use crate::again;
 use language::SurfaceComparator;
 use language::is_equal;
 use query_text_pieces::First;
@@ -32,6 +33,7 @@ use text::part;
 use text::same_bytes;
 use text::scan;
 use text::trimmed;
+use values::Split;
 use values::is_name;
 use values::is_property_name;
 use values::is_value;
@@ -103,11 +105,11 @@ pub fn value_piece(
     )
 }
 
-// The node of a piece that is `namespace:+` or a reference, whether it breaks a rule or not.
-fn identifier_node(s: &[u8], c: SurfaceComparator, text: Span) -> TreeNode
+// The node of a piece that is `namespace:+` or a reference, whether it breaks a rule or not, by how its reference is split.
+fn identifier_node(s: &[u8], c: SurfaceComparator, text: Span, split: Split) -> TreeNode
+    requires { ⌜ SplitsAt (now s) text split ⌝ }
     ensures { λ r. ⌜ nodeBy (now (s .entry)) r ≡ nodeOfPiece (pieceOf (now (s .entry)) c text) ⌝ }
 {
-    let split = split_at(s, text);
     let n = split.namespace;
     let a = split.article;
     let qualified = split.qualified;
@@ -136,19 +138,28 @@ fn piece_number(piece: Read) -> u8
 }
 
 // Whether such a piece breaks a rule.
-fn is_broken(s: &[u8], c: SurfaceComparator, text: Span) -> bool
+fn is_broken(s: &[u8], c: SurfaceComparator, text: Span, split: Split) -> bool
+    requires { ⌜ SplitsAt (now s) text split ⌝ }
     ensures { λ r. ⌜ r ≡ breaksReference (pieceOf (now (s .entry)) c text) ⌝ }
 {
-    piece_number(read_piece(s, c, text)) != 0
+    piece_number(read_piece(s, c, text, split)) != 0
 }
 
 // A piece that is `namespace:+` or a reference.
-fn identifier(s: &[u8], c: SurfaceComparator, text: Span, tree: &mut [u8], seen: Seen) -> Seen
+fn identifier(
+    s: &[u8],
+    c: SurfaceComparator,
+    text: Span,
+    split: Split,
+    tree: &mut [u8],
+    seen: Seen,
+) -> Seen
+    requires { ⌜ SplitsAt (now s) text split ⌝ }
     ensures { λ r. ⌜ After (now (tree .entry)) seen (pieceEffect false (pieceOf (now (s .entry)) c text)) (now (tree .exit)) r ⌝ }
 {
-    let node = identifier_node(s, c, text);
+    let node = identifier_node(s, c, text, split);
     let added = add(s, tree, seen, node);
-    flag(added, false, is_broken(s, c, text), false)
+    flag(added, false, is_broken(s, c, text, split), false)
 }
 
 // A category name, which a comparator breaks.
@@ -179,7 +190,7 @@ fn piece(
     if categories {
         category(s, is_equal(c), text, tree, seen)
     } else {
-        identifier(s, c, text, tree, seen)
+        identifier(s, c, text, split_at(s, text), tree, seen)
     }
 }
 
@@ -194,7 +205,7 @@ fn more_pieces(s: &[u8], at: usize, categories: bool, tree: &mut [u8], seen: See
             let text = p.text;
             let put = piece(s, categories, c, text, tree, seen);
             let joined = add(s, tree, put, TreeNode::Bar(1));
-            more_pieces(s, p.next, categories, tree, joined)
+            again(more_pieces(s, p.next, categories, tree, joined))
         }
         Found::Nothing => match after(s, at, b"]]") {
             Found::At(i) => Outcome::Got(i, seen),
@@ -212,14 +223,15 @@ pub fn plain(s: &[u8], at: usize, depth: usize, tree: &mut [u8], seen: Seen) -> 
     let text = p.text;
     let next = p.next;
     let flagged = flag(seen, 8 < depth, false, false);
-    match category_of(s, c, text) {
+    let split = split_at(s, text);
+    match category_of(s, c, text, split) {
         First::Category(name) => {
             let put = category(s, true, name, tree, flagged);
-            more_pieces(s, next, true, tree, put)
+            again(more_pieces(s, next, true, tree, put))
         }
         First::Other => {
-            let put = identifier(s, c, text, tree, flagged);
-            more_pieces(s, next, false, tree, put)
+            let put = identifier(s, c, text, split, tree, flagged);
+            again(more_pieces(s, next, false, tree, put))
         }
     }
 }

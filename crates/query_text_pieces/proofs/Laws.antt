@@ -14,7 +14,7 @@ use Rattle.text.specs.Class.{isFree, isOther}
 use Rattle.text.specs.Parts.{partOf, Trimmed}
 use Rattle.text.specs.declared.Span.{Span}
 use Rattle.text.proofs.Laws.{starts-fits, span-le}
-use Rattle.values.specs.Names.{reference, qualified, bare, isNamespace, isReference}
+use Rattle.values.specs.Names.{reference, qualified, bare, isName, isNamespace, isReference}
 use Rattle.values.specs.Values.{mapOption}
 use Rattle.values.specs.Answers.{splitOf, Splits}
 use Rattle.values.specs.declared.Split.{Split}
@@ -22,7 +22,7 @@ use Rattle.language.specs.Answer.{found, onlyIf}
 use Rattle.language.specs.Comparators.{word, typed, firstTyped, isEqual}
 use Rattle.language.specs.Surface.{Chain, single, chain}
 use Rattle.language.specs.RawQuery.{Piece, token, nextTerm, comparator, pieceAt, endsHead, headLength, prefixed, splitDots, trimNames}
-use Rattle.language.specs.QueryText.{isCategory, isCategoryOf, articleOf, isExistence, isNamespacePiece, isPlusOf, namespaceOf, breaksReference, identifierOf}
+use Rattle.language.specs.QueryText.{isCategory, isCategoryOf, articleOf, isNamespacePiece, isPlusOf, namespaceOf, breaksReference, identifierOf}
 use Rattle.language.specs.declared.SurfaceComparator.{SurfaceComparator}
 use Rattle.language.proofs.AllComparators.{typed-fits}
 use Rattle.query_text_pieces.specs.Places.{from, textAt, restOf, innerEnd, placeOf, headAt, headOf, lastOf, pieceOf, tellsPiece, SplitsAt, categoryTold, readTold}
@@ -229,7 +229,7 @@ module _ (s : Bytes) (c : SurfaceComparator) (text : Span) (r : Split) (b m : Bo
     unfolding categoryTold
     category-no h = rw (test, h)
 
-  module _ (y : Bytes) (k : y ≡ partOf s (r .article)) (g : m ≡ same y (bytes "+")) (x : Bytes) (t : Bool) where
+  module _ (y : Bytes) (k : y ≡ partOf s (r .article)) (g : m ≡ same y (bytes "+")) (x : Bytes) (i : x ≡ partOf s (r .namespace)) (t : Bool) (l : t ≡ isNamespace x) where
     plus : isNamespacePiece (pieceOf s c text) ≡ (b && r .qualified && m)
     plus = rw (← e, ← f) (go b (r .qualified))
       where
@@ -247,18 +247,26 @@ module _ (s : Bytes) (c : SurfaceComparator) (text : Span) (r : Split) (b m : Bo
         go true false h = absurd (false≢true h)
         go false false h = absurd (false≢true h)
 
-    pub read-namespace : (b && r .qualified && m) ≡ true → x ≡ partOf s (r .namespace) → t ≡ isNamespace x → t ≡ true → readTold s (Read.Namespace (r .namespace)) ≡ onlyIf (not (breaksReference (pieceOf s c text))) (some (identifierOf (pieceOf s c text)))
+    pub read-namespace : (b && r .qualified && m) ≡ true → t ≡ true → readTold s (Read.Namespace (r .namespace)) ≡ onlyIf (not (breaksReference (pieceOf s c text))) (some (identifierOf (pieceOf s c text)))
     unfolding readTold
-    read-namespace h i l j = rw (plus, h, named h, ← i, ← l, j)
+    read-namespace h j = rw (plus, h, named h, ← i, ← l, j)
 
-    pub read-no-namespace : (b && r .qualified && m) ≡ true → x ≡ partOf s (r .namespace) → t ≡ isNamespace x → t ≡ false → readTold s Read.Broken ≡ onlyIf (not (breaksReference (pieceOf s c text))) (some (identifierOf (pieceOf s c text)))
+    pub read-no-namespace : (b && r .qualified && m) ≡ true → t ≡ false → readTold s Read.Broken ≡ onlyIf (not (breaksReference (pieceOf s c text))) (some (identifierOf (pieceOf s c text)))
     unfolding readTold
-    read-no-namespace h i l j = rw (plus, h, named h, ← i, ← l, j)
+    read-no-namespace h j = rw (plus, h, named h, ← i, ← l, j)
 
-    pub read-reference : (b && r .qualified && m) ≡ false → x ≡ partOf s text → t ≡ isReference (reference x) → t ≡ true → readTold s (Read.Reference c text) ≡ onlyIf (not (breaksReference (pieceOf s c text))) (some (identifierOf (pieceOf s c text)))
-    unfolding readTold
-    read-reference h i l j = rw (plus, h, ← i, ← l, j)
+    module _ (u : Bool) (v : u ≡ isName y) (h : (b && r .qualified && m) ≡ false) where
+      judged : isReference (reference (partOf s text)) ≡ ((not (r .qualified) || t) && u)
+      judged = rw (← e) (go (r .qualified))
+        where
+          go : (q : Bool) → isReference (cond q (qualified (partOf s (r .namespace)) (partOf s (r .article))) (bare (partOf s (r .article)))) ≡ ((not q || t) && u)
+          go true = rw (l, v, i, k)
+          go false = rw (v, k)
 
-    pub read-no-reference : (b && r .qualified && m) ≡ false → x ≡ partOf s text → t ≡ isReference (reference x) → t ≡ false → readTold s Read.Broken ≡ onlyIf (not (breaksReference (pieceOf s c text))) (some (identifierOf (pieceOf s c text)))
-    unfolding readTold
-    read-no-reference h i l j = rw (plus, h, ← i, ← l, j)
+      pub read-reference : ((not (r .qualified) || t) && u) ≡ true → readTold s (Read.Reference c text) ≡ onlyIf (not (breaksReference (pieceOf s c text))) (some (identifierOf (pieceOf s c text)))
+      unfolding readTold
+      read-reference j = rw (plus, h, judged, j)
+
+      pub read-no-reference : ((not (r .qualified) || t) && u) ≡ false → readTold s Read.Broken ≡ onlyIf (not (breaksReference (pieceOf s c text))) (some (identifierOf (pieceOf s c text)))
+      unfolding readTold
+      read-no-reference j = rw (plus, h, judged, j)

@@ -22,8 +22,8 @@ use text::trimmed;
 use text::widen;
 use text::word_at;
 use values::Split;
+use values::is_name;
 use values::is_namespace;
-use values::is_reference;
 use values::split_reference;
 
 // A place that was looked for, or none.
@@ -179,12 +179,11 @@ pub fn split_at(s: &[u8], text: Span) -> Split
     }
 }
 
-// The category name of a bracket's first piece.
-pub fn category_of(s: &[u8], c: SurfaceComparator, text: Span) -> First
-    ensures { λ r. ⌜ categoryTold (now (s .entry)) r
-        ≡ onlyIf (isCategory (pieceOf (now (s .entry)) c text)) (some (articleOf (reference (partOf (now (s .entry)) text)))) ⌝ }
+// The category name of a bracket's first piece, by how its reference is split.
+pub fn category_of(s: &[u8], c: SurfaceComparator, text: Span, split: Split) -> First
+    ensures { λ r. ⌜ (SplitsAt (now (s .entry)) text split → categoryTold (now (s .entry)) r
+        ≡ onlyIf (isCategory (pieceOf (now (s .entry)) c text)) (some (articleOf (reference (partOf (now (s .entry)) text))))) ⌝ }
 {
-    let split = split_at(s, text);
     let n = split.namespace;
     let article = split.article;
     let yes = is_equal(c) & split.qualified & same_bytes(part(s, n.start, n.len), b"Category");
@@ -195,22 +194,25 @@ pub fn category_of(s: &[u8], c: SurfaceComparator, text: Span) -> First
     }
 }
 
-// How a piece outside property bodies reads.
-pub fn read_piece(s: &[u8], c: SurfaceComparator, text: Span) -> Read
-    ensures { λ r. ⌜ readTold (now (s .entry)) r
-        ≡ onlyIf (not (breaksReference (pieceOf (now (s .entry)) c text))) (some (identifierOf (pieceOf (now (s .entry)) c text))) ⌝ }
+// How a piece outside property bodies reads, by how its reference is split.
+pub fn read_piece(s: &[u8], c: SurfaceComparator, text: Span, split: Split) -> Read
+    ensures { λ r. ⌜ (SplitsAt (now (s .entry)) text split → readTold (now (s .entry)) r
+        ≡ onlyIf (not (breaksReference (pieceOf (now (s .entry)) c text))) (some (identifierOf (pieceOf (now (s .entry)) c text)))) ⌝ }
 {
-    let split = split_at(s, text);
     let n = split.namespace;
     let a = split.article;
-    let plus = is_equal(c) & split.qualified & same_bytes(part(s, a.start, a.len), b"+");
+    let qualified = split.qualified;
+    let space = part(s, n.start, n.len);
+    let name = part(s, a.start, a.len);
+    let plus = is_equal(c) & qualified & same_bytes(name, b"+");
+    let spaced = is_namespace(space);
     if plus {
-        if is_namespace(part(s, n.start, n.len)) {
+        if spaced {
             return Read::Namespace(n);
         }
         return Read::Broken;
     }
-    if is_reference(part(s, text.start, text.len)) {
+    if (!qualified | spaced) & is_name(name) {
         Read::Reference(c, text)
     } else {
         Read::Broken

@@ -9,6 +9,7 @@ use query_text_heads::Outcome;
 use query_text_heads::Seen;
 use query_text_heads::adding::add;
 use query_text_heads::adding::join;
+use query_text_heads::again;
 use query_text_heads::plain::chain;
 use query_text_heads::plain::one_deeper;
 use query_text_heads::plain::plain;
@@ -30,7 +31,7 @@ pub fn query(s: &[u8], at: usize, depth: usize, tree: &mut [u8], seen: Seen) -> 
     ensures { λ r. ⌜ ReadsPart (now (s .entry)) (effect depth) (now (tree .entry)) seen (readQuery (from (now (s .entry)) at)) r (now (tree .exit)) ⌝ }
 {
     match conjunction(s, at, depth, tree, seen) {
-        Outcome::Got(next, got) => more_conjunctions(s, next, depth, tree, got),
+        Outcome::Got(next, got) => again(more_conjunctions(s, next, depth, tree, got)),
         Outcome::Refused => Outcome::Refused,
     }
 }
@@ -42,7 +43,7 @@ fn more_conjunctions(s: &[u8], at: usize, depth: usize, tree: &mut [u8], seen: S
         Found::At(i) => match conjunction(s, i, depth, tree, seen) {
             Outcome::Got(next, got) => {
                 let joined = join(s, tree, seen, got, Connective::Or);
-                more_conjunctions(s, next, depth, tree, joined)
+                again(more_conjunctions(s, next, depth, tree, joined))
             }
             Outcome::Refused => Outcome::Refused,
         },
@@ -55,7 +56,7 @@ fn conjunction(s: &[u8], at: usize, depth: usize, tree: &mut [u8], seen: Seen) -
     ensures { λ r. ⌜ ReadsPart (now (s .entry)) (effect depth) (now (tree .entry)) seen (readConjunction (from (now (s .entry)) at)) r (now (tree .exit)) ⌝ }
 {
     match term(s, at, depth, tree, seen) {
-        Outcome::Got(next, got) => more_terms(s, next, depth, tree, got),
+        Outcome::Got(next, got) => again(more_terms(s, next, depth, tree, got)),
         Outcome::Refused => Outcome::Refused,
     }
 }
@@ -67,7 +68,7 @@ fn more_terms(s: &[u8], at: usize, depth: usize, tree: &mut [u8], seen: Seen) ->
         Found::At(i) => match term(s, i, depth, tree, seen) {
             Outcome::Got(next, got) => {
                 let joined = join(s, tree, seen, got, Connective::And);
-                more_terms(s, next, depth, tree, joined)
+                again(more_terms(s, next, depth, tree, joined))
             }
             Outcome::Refused => Outcome::Refused,
         },
@@ -88,7 +89,7 @@ fn term(s: &[u8], at: usize, depth: usize, tree: &mut [u8], seen: Seen) -> Outco
             Outcome::Refused => Outcome::Refused,
         },
         Found::Nothing => match token(s, at, b"[[") {
-            Found::At(i) => bracket(s, i, depth, tree, seen),
+            Found::At(i) => again(bracket(s, i, depth, tree, seen)),
             Found::Nothing => Outcome::Refused,
         },
     }
@@ -99,7 +100,7 @@ fn bracket(s: &[u8], at: usize, depth: usize, tree: &mut [u8], seen: Seen) -> Ou
     ensures { λ r. ⌜ ReadsPart (now (s .entry)) (effect depth) (now (tree .entry)) seen (readBody (from (now (s .entry)) at)) r (now (tree .exit)) ⌝ }
 {
     let Found::At(end) = head_end(s, at) else {
-        return plain(s, at, depth, tree, seen);
+        return again(plain(s, at, depth, tree, seen));
     };
     let len = end - at;
     if !all_in(part(s, at, len), Class::Free) {
@@ -122,7 +123,7 @@ fn alternatives(s: &[u8], at: usize, depth: usize, tree: &mut [u8], seen: Seen) 
     ensures { λ r. ⌜ ReadsPart (now (s .entry)) (effectIn depth) (now (tree .entry)) seen (readAlternatives (from (now (s .entry)) at)) r (now (tree .exit)) ⌝ }
 {
     match alternative(s, at, depth, tree, seen) {
-        Outcome::Got(next, got) => more_alternatives(s, next, depth, tree, got),
+        Outcome::Got(next, got) => again(more_alternatives(s, next, depth, tree, got)),
         Outcome::Refused => Outcome::Refused,
     }
 }
@@ -134,7 +135,7 @@ fn more_alternatives(s: &[u8], at: usize, depth: usize, tree: &mut [u8], seen: S
         Found::At(i) => match alternative(s, i, depth, tree, seen) {
             Outcome::Got(next, got) => {
                 let joined = join(s, tree, seen, got, Connective::Bar);
-                more_alternatives(s, next, depth, tree, joined)
+                again(more_alternatives(s, next, depth, tree, joined))
             }
             Outcome::Refused => Outcome::Refused,
         },

@@ -1,20 +1,21 @@
 -- Laws of nodes laid into a tree's bytes, and the ways through the functions.
-use Prim.Native.Nat.{ℕ, _+_, _*_, _-_, _≤_, _<_}
+use Prim.Native.Nat.{ℕ, suc, _+_, _*_, _-_, _/_, _%_, _≤_, _<_}
 use mathlib.Core.Path.{_≡_, refl, sym, ap, ap₂, subst, _∙_}
 use mathlib.Core.Bool.{Bool, true, false, not, _&&_, false≢true}
 use mathlib.Core.List.{List, [], _∷_, _++_, append-assoc, append-nil}
 use native.Mathlib.Omega.{arith}
 use native.Mathlib.Nat.{zero-add}
 use lib.Dec.{ltb, leb}
-use lib.ListN.{length, length-append}
+use lib.ListN.{length, set, length-append}
 use borrow.Author.Tests.{lt-ltb, le-leb, ltb-true, leb-true, not-false, not-true}
 use Rattle.text.specs.Bytes.{Bytes, all, part}
 use Rattle.text.specs.Parts.{partOf}
 use Rattle.text.proofs.Laws.{all-append}
-use Rattle.buffer.specs.Numbers.{twoBytes, zeros, padded}
+use Rattle.buffer.specs.Numbers.{zeros, padded, twoBytes}
 use Rattle.buffer.specs.Writing.{written}
 use Rattle.buffer.proofs.Padding.{zeros-add}
-use Rattle.buffer.proofs.Written.{written-then, written-past, length-written, next}
+use Rattle.buffer.proofs.Written.{written-then, length-written}
+use Rattle.buffer.proofs.Regions.{length-zeros, length-padded}
 use Rattle.values.specs.Names.{bare, qualified}
 use Rattle.language.proofs.Members.{and-true, both-true}
 use Rattle.query_tree.specs.Nodes.{Node, joinBy, stringOf, strings}
@@ -169,11 +170,29 @@ in-room c e n m r h k =
     let d = and-true (ltb c 681) (leb e 1024) (b .0) in
     (ltb-true c 681 (d .0), leb-true e 1024 (d .1), leb-true n 64 (b .1), leb-true m 64 (a .1))
 
--- A row, part by part.
-pub row-written : (h k₁ k₂ k₃ k₄ k₅ : Bytes) (at t c n a b : ℕ) → k₁ ≡ written h at (t ∷ []) → k₂ ≡ written k₁ (at + 1) (c ∷ []) → k₃ ≡ written k₂ (at + 2) (twoBytes n) → k₄ ≡ written k₃ (at + 4) (a ∷ []) → k₅ ≡ written k₄ (at + 5) (b ∷ [])
-    → k₅ ≡ written h at (rowBytes (rowOf t c n a b))
-unfolding rowBytes
-row-written h k₁ k₂ k₃ k₄ k₅ at t c n a b e₁ e₂ e₃ e₄ e₅ = next h at _ (b ∷ []) (next h at _ (a ∷ []) (next h at _ (twoBytes n) (next h at (t ∷ []) (c ∷ []) e₁ e₂) e₃) e₄) e₅
+-- A row, byte by byte.
+pub row-written : (h : Bytes) (at t c n a b : ℕ) → set (set (set (set (set (set h at t) (at + 1) c) (at + 2) (n % 256)) (at + 3) (n / 256 % 256)) (at + 4) a) (at + 5) b ≡ written h at (rowBytes (rowOf t c n a b))
+unfolding rowBytes written
+row-written h at t c n a b =
+    let one : at + 1 ≡ suc at = omega arith in
+    let two : at + 2 ≡ suc (suc at) = omega arith in
+    let three : at + 3 ≡ suc (suc (suc at)) = omega arith in
+    let four : at + 4 ≡ suc (suc (suc (suc at))) = omega arith in
+    let five : at + 5 ≡ suc (suc (suc (suc (suc at)))) = omega arith in
+    rw (one, two, three, four, five)
+
+-- No nodes are laid into fewer bytes than a tree has.
+pub put-short : (y : Node) (t : Bytes) (p : Place) → length t < 5112 → Adds (y ∷ []) t p t p
+put-short y t p o =
+    record {
+      long = refl;
+      laid = λ l f d.
+          let rows = length-padded 4086 (rowsFrom 0 l) (omega (arith, length-rows 0 l, one-more l y, f .few)) in
+          let texts = length-padded 1024 (strings l) (omega (arith, length-more l y, f .short)) in
+          let both = length-append (padded 4086 (rowsFrom 0 l)) (padded 1024 (strings l)) in
+          let all = length-append (zeros 2) (padded 4086 (rowsFrom 0 l) ++ padded 1024 (strings l)) in
+          absurd (omega (arith, o, ap length (d .bytes), rows, texts, both, all, length-zeros 2));
+    }
 
 -- Nodes laid one list behind the other.
 module _ (t t₁ t₂ : Bytes) (p p₁ p₂ : Place) (k m : List Node) where
@@ -216,4 +235,4 @@ pub finished : (t : Bytes) (p : Place) (l : List Node) → Laid t p l → writte
 unfolding nodeBytes
 finished t p l d = ap₂ (λ (h : Bytes) (n : ℕ). written h 0 (twoBytes n)) (d .bytes) (d .count) ∙ written-front (rowsFrom 0 l) (strings l) (length l)
 
-pub ruleset putting = (written-past, put-full, put-is)
+pub ruleset putting = (put-short, put-full, put-is)

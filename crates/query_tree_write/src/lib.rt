@@ -1,11 +1,12 @@
 // Nodes put into a held tree, one behind the other.
 ghost use mathlib.Core.Path.{_≡_};
+ghost use Prim.Native.Nat.{_+_, _≤_};
+ghost use lib.ListN.{length};
 ghost use Rattle.buffer.specs.Numbers.{twoBytes};
 ghost use Rattle.buffer.specs.Writing.{written};
 ghost use Rattle.query_tree.specs.Form.{rowOf, rowBytes};
 ghost use Rattle.query_tree.specs.Reading.{nodeBy};
 ghost use Rattle.query_tree_write.specs.Laying.{entryWith, entryOf, hasRoom, Puts};
-use buffer::put_byte;
 use buffer::put_bytes;
 use buffer::put_two;
 use language::SurfaceComparator;
@@ -77,7 +78,7 @@ fn has_room(count: usize, end: usize, first: usize, second: usize) -> bool
     (count < layout::MOST_NODES) & (end <= layout::STRING_BYTES) & (first <= 64) & (second <= 64)
 }
 
-// Writes a row.
+// Writes a row. That there is room is tested once a node, so that a compiler writes many bytes at a time.
 fn put_row(
     tree: &mut [u8],
     at: usize,
@@ -87,22 +88,24 @@ fn put_row(
     first: u8,
     second: u8,
 )
+    requires { ⌜ at + 6 ≤ length (now tree) ⌝ }
     ensures { λ _. ⌜ now (tree .exit) ≡ written (now (tree .entry)) at (rowBytes (rowOf tag comparator number first second)) ⌝ }
 {
-    if tree.len() <= at {
-        return;
-    }
-    put_byte(tree, at, tag);
-    put_byte(tree, at + 1, comparator);
-    put_two(tree, at + 2, number);
-    put_byte(tree, at + 4, first);
-    put_byte(tree, at + 5, second);
+    tree[at] = tag;
+    tree[at + 1] = comparator;
+    tree[at + 2] = (number % 256) as u8;
+    tree[at + 3] = (number / 256 % 256) as u8;
+    tree[at + 4] = first;
+    tree[at + 5] = second;
 }
 
 // Puts a node behind those that are there, where there is room. Its strings are places in s.
 pub fn put_node(s: &[u8], tree: &mut [u8], at: Place, node: TreeNode) -> Place
     ensures { λ r. ⌜ Puts (nodeBy (now (s .entry)) node) (now (tree .entry)) at (now (tree .exit)) r ⌝ }
 {
+    if tree.len() < layout::TREE_BYTES {
+        return at;
+    }
     let count = at.count;
     let end = at.end;
     let e = entry_of(node, end);

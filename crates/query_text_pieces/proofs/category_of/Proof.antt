@@ -3,9 +3,6 @@ use borrow.Author.Needs.{needs}
 use Rattle.query_text_pieces.proofs.category_of.Statement.{statement}
 use Rattle.query_text_pieces.proofs.category_of.Tie as tie
 
-split-at-requires : tie.Need-split-at-requires
-split-at-requires c κs = search needs
-
 is-equal-requires : tie.Need-is-equal-requires
 is-equal-requires c κs = search needs
 
@@ -19,16 +16,15 @@ same-bytes-requires : tie.Need-same-bytes-requires
 same-bytes-requires c κs = search needs
 
 returns : tie.Need-returns
-returns c = category-yes (c .before .before .before .before .before .before .before .before .before .before .args .s .now) (c .before .before .before .before .before .before .before .before .before .before .args .c) (c .before .before .before .before .before .before .before .before .before .before .args .text) (c .before .before .before .before .before .before .before .before .split-at .result) _ _ (c .before .before .before .before .before .before .before .before .split-at .ensures .is) (c .before .before .before .before .before .is-equal .ensures) _ (c .before .before .before .part .ensures) (c .before .same-bytes .ensures) (c .if1 .taken)
+returns c h = category-yes (c .before .before .before .before .before .before .before .before .before .args .s .now) (c .before .before .before .before .before .before .before .before .before .args .c) (c .before .before .before .before .before .before .before .before .before .args .text) (c .before .before .before .before .before .before .before .before .before .args .split) _ _ (h .is) (c .before .before .before .before .before .is-equal .ensures) _ (c .before .before .before .part .ensures) (c .before .same-bytes .ensures) (c .if1 .taken)
 
 returns-2 : tie.Need-returns-2
-returns-2 c = category-no (c .before .before .before .before .before .before .before .before .before .before .args .s .now) (c .before .before .before .before .before .before .before .before .before .before .args .c) (c .before .before .before .before .before .before .before .before .before .before .args .text) (c .before .before .before .before .before .before .before .before .split-at .result) _ _ (c .before .before .before .before .before .before .before .before .split-at .ensures .is) (c .before .before .before .before .before .is-equal .ensures) _ (c .before .before .before .part .ensures) (c .before .same-bytes .ensures) (c .if1 .left)
+returns-2 c h = category-no (c .before .before .before .before .before .before .before .before .before .args .s .now) (c .before .before .before .before .before .before .before .before .before .args .c) (c .before .before .before .before .before .before .before .before .before .args .text) (c .before .before .before .before .before .before .before .before .before .args .split) _ _ (h .is) (c .before .before .before .before .before .is-equal .ensures) _ (c .before .before .before .part .ensures) (c .before .same-bytes .ensures) (c .if1 .left)
 
 pub category-of-spec : {M : Type 1} → statement M
 category-of-spec =
     tie.close
     (tie.spec
-    split-at-requires
     is-equal-requires
     part-requires
     slice-aggregate-same-bytes

@@ -1,57 +1,73 @@
+use native.Mathlib.Omega.{arith}
+use lib.ListN.{length-set}
+use Rattle.query_tree_write.proofs.Laws.{row-written}
 use borrow.Author.Needs.{needs}
-use Rattle.query_tree_write.proofs.Laws.{putting, row-written}
 use Rattle.query_tree_write.proofs.put_row.Statement.{statement}
 use Rattle.query_tree_write.proofs.put_row.Tie as tie
+use Rattle.query_tree_write.proofs.put_row.Reads as reads
+use Rattle.query_tree_write.proofs.put_row.Lts as lts
 
-returns : tie.Need-returns
-returns c = search (putting, needs)
+slice-write-tree : tie.Need-slice-write-tree
+slice-write-tree c = search needs
 
-put-byte-requires : tie.Need-put-byte-requires
-put-byte-requires c κs = search needs
+add-tree : tie.Need-add-tree
+add-tree c = search needs
 
-add-put-byte : tie.Need-add-put-byte
-add-put-byte c = search needs
+slice-write-tree-2 : tie.Need-slice-write-tree-2
+slice-write-tree-2 c = simp length-set (omega arith)
 
-put-byte-requires-2 : tie.Need-put-byte-requires-2
-put-byte-requires-2 c κs = search needs
+cast-tree : tie.Need-cast-tree
+cast-tree c = search needs
 
-add-put-two : tie.Need-add-put-two
-add-put-two c = search needs
+add-tree-2 : tie.Need-add-tree-2
+add-tree-2 c = search needs
 
-put-two-requires : tie.Need-put-two-requires
-put-two-requires c κs = search needs
+slice-write-tree-3 : tie.Need-slice-write-tree-3
+slice-write-tree-3 c = simp length-set (omega arith)
 
-add-put-byte-2 : tie.Need-add-put-byte-2
-add-put-byte-2 c = search needs
+cast-tree-2 : tie.Need-cast-tree-2
+cast-tree-2 c = search needs
 
-put-byte-requires-3 : tie.Need-put-byte-requires-3
-put-byte-requires-3 c κs = search needs
+add-tree-3 : tie.Need-add-tree-3
+add-tree-3 c = search needs
 
-add-put-byte-3 : tie.Need-add-put-byte-3
-add-put-byte-3 c = search needs
+slice-write-tree-4 : tie.Need-slice-write-tree-4
+slice-write-tree-4 c = simp length-set (omega arith)
 
-put-byte-requires-4 : tie.Need-put-byte-requires-4
-put-byte-requires-4 c κs = search needs
+add-tree-4 : tie.Need-add-tree-4
+add-tree-4 c = search needs
+
+slice-write-tree-5 : tie.Need-slice-write-tree-5
+slice-write-tree-5 c = simp length-set (omega arith)
+
+add-tree-5 : tie.Need-add-tree-5
+add-tree-5 c = search needs
+
+slice-write-tree-6 : tie.Need-slice-write-tree-6
+slice-write-tree-6 c = simp length-set (omega arith)
 
 same-length : tie.Need-same-length
 same-length c = search needs
 
-returns-2 : tie.Need-returns-2
-returns-2 c = row-written _ _ _ _ _ _ _ _ _ _ _ _ (c .before .before .before .before .before .before .before .before .before .before .before .before .before .before .before .before .before .before .put-byte .ensures) (c .before .before .before .before .before .before .before .before .before .before .before .before .before .before .put-byte2 .ensures) (c .before .before .before .before .before .before .before .before .before .before .put-two .ensures) (c .before .before .before .before .before .before .put-byte3 .ensures) (c .before .before .put-byte4 .ensures)
+returns : tie.Need-returns
+returns c = row-written _ _ _ _ _ _ _
 
 pub put-row-spec : {M : Type 1} → statement M
 put-row-spec =
     tie.close
     (tie.spec
-    returns
-    put-byte-requires
-    add-put-byte
-    put-byte-requires-2
-    add-put-two
-    put-two-requires
-    add-put-byte-2
-    put-byte-requires-3
-    add-put-byte-3
-    put-byte-requires-4
+    slice-write-tree
+    add-tree
+    slice-write-tree-2
+    cast-tree
+    add-tree-2
+    slice-write-tree-3
+    cast-tree-2
+    add-tree-3
+    slice-write-tree-4
+    add-tree-4
+    slice-write-tree-5
+    add-tree-5
+    slice-write-tree-6
     same-length
-    returns-2)
+    returns)

@@ -2,9 +2,11 @@ use Rattle.query_core.proofs.Slots.{puts}
 use borrow.Author.Needs.{needs}
 use Rattle.query_core.proofs.writing.put_slot.Statement.{statement}
 use Rattle.query_core.proofs.writing.put_slot.Tie as tie
-
-returns : tie.Need-returns
-returns c = search puts
+use Rattle.query_core.proofs.writing.put_slot.Reads as reads
+use Rattle.query_core.proofs.writing.put_slot.Lts as lts
+use Rattle.query_core.proofs.writing.put_head.Reads as put-head-reads
+use Rattle.query_core.proofs.writing.put_number.Reads as put-number-reads
+use Rattle.query_core.proofs.writing.put_span.Reads as put-span-reads
 
 put-head-requires : tie.Need-put-head-requires
 put-head-requires c κs = search needs
@@ -21,29 +23,28 @@ add-put-span-2 c = search needs
 put-span-requires-2 : tie.Need-put-span-requires-2
 put-span-requires-2 c κs = search needs
 
-add-put-eight : tie.Need-add-put-eight
-add-put-eight c = search needs
+add-put-number : tie.Need-add-put-number
+add-put-number c = search needs
 
-put-eight-requires : tie.Need-put-eight-requires
-put-eight-requires c κs = search needs
+put-number-requires : tie.Need-put-number-requires
+put-number-requires c κs = search needs
 
 same-length : tie.Need-same-length
 same-length c = search needs
 
-returns-2 : tie.Need-returns-2
-returns-2 c = search puts
+returns : tie.Need-returns
+returns c = search (puts, needs)
 
 pub put-slot-spec : {M : Type 1} → statement M
 put-slot-spec =
     tie.close
     (tie.spec
-    returns
     put-head-requires
     add-put-span
     put-span-requires
     add-put-span-2
     put-span-requires-2
-    add-put-eight
-    put-eight-requires
+    add-put-number
+    put-number-requires
     same-length
-    returns-2)
+    returns)

@@ -9,8 +9,8 @@ scope-of-requires c κs = search needs
 enum-told : tie.Need-enum-told
 enum-told c = search needs
 
-put-compared-requires : tie.Need-put-compared-requires
-put-compared-requires c κs = search needs
+put-article-requires : tie.Need-put-article-requires
+put-article-requires c κs = search needs
 
 enum-known-namespace : tie.Need-enum-known-namespace
 enum-known-namespace c = search needs
@@ -18,8 +18,8 @@ enum-known-namespace c = search needs
 put-select-requires : tie.Need-put-select-requires
 put-select-requires c κs = search needs
 
-put-compared-requires-2 : tie.Need-put-compared-requires-2
-put-compared-requires-2 c κs = search needs
+put-article-requires-2 : tie.Need-put-article-requires-2
+put-article-requires-2 c κs = search needs
 
 put-join-requires : tie.Need-put-join-requires
 put-join-requires c κs = search needs
@@ -42,10 +42,10 @@ put-reference-spec =
     (tie.spec
     scope-of-requires
     enum-told
-    put-compared-requires
+    put-article-requires
     enum-known-namespace
     put-select-requires
-    put-compared-requires-2
+    put-article-requires-2
     put-join-requires
     same-length
     returns

@@ -8,10 +8,11 @@ use borrow.Fn.PlainCycle.{Measures, is, falls, and}
 use Rattle.query_text_heads.proofs.plain.more_pieces.Reads as more-pieces
 use Rattle.query_text_heads.proofs.plain.more_pieces.Kinds as more-pieces-kinds
 use Rattle.query_text_heads.proofs.plain.+more_pieces.Lts-more_pieces as more-pieces-lts
+use Rattle.query_text_heads.proofs.adding.add.Reads as add-reads
+use Rattle.query_text_heads.proofs.again.Reads as again-reads
+use Rattle.query_text_heads.proofs.plain.piece.Reads as piece-reads
 use Rattle.query_text_pieces.proofs.after.Reads as after-reads
 use Rattle.query_text_pieces.proofs.piece_at.Reads as piece-at-reads
-use Rattle.query_text_heads.proofs.adding.add.Reads as add-reads
-use Rattle.query_text_heads.proofs.plain.piece.Reads as piece-reads
 use Rattle.query_text_heads.proofs.plain.+more_pieces.{statement}
 use Rattle.query_text_heads.proofs.plain.+more_pieces.Tie.{close}
 
@@ -27,7 +28,7 @@ more-pieces-below t =
     and 2 more-pieces-kinds.ps (falls 2 more-pieces-kinds.ps _<_ μ-more-pieces t) more-pieces.Pre
 
 abbrev more-pieces-calls : ℕ → more-pieces-lts.Claims
-more-pieces-calls t = (after-reads.Asked, after-reads.Learnt, piece-at-reads.Asked, piece-at-reads.Learnt, piece-reads.Asked, piece-reads.Learnt, add-reads.Asked, add-reads.Learnt, more-pieces-below t, more-pieces.Post)
+more-pieces-calls t = (after-reads.Asked, after-reads.Learnt, piece-at-reads.Asked, piece-at-reads.Learnt, piece-reads.Asked, piece-reads.Learnt, add-reads.Asked, add-reads.Learnt, more-pieces-below t, more-pieces.Post, again-reads.Asked, again-reads.Learnt)
 
 more-pieces-slice-aggregate-after : (t : ℕ) → more-pieces-lts.Need-slice-aggregate-after (more-pieces-calls t) (more-pieces-at t) more-pieces.Post
 more-pieces-slice-aggregate-after t c = search (pieces, needs)
@@ -50,6 +51,9 @@ more-pieces-add-requires t c κs = search (pieces, needs)
 more-pieces-more-pieces-requires : (t : ℕ) → more-pieces-lts.Need-more-pieces-requires (more-pieces-calls t) (more-pieces-at t) more-pieces.Post
 more-pieces-more-pieces-requires t c κs = (fall-pieces (c .before .before .before .before .before .before .before .before .before .before .before .before .before .before .before .before .before .before .args .s .now) (c .before .before .before .before .before .before .before .before .before .before .before .before .before .before .before .before .before .before .args .at) _ _ _ (c .before .before .before .before .before .before .before .before .before .before .piece-at .result) (c .before .before .before .before .before .before .before .before .before .before .before .before .before .before .after .ensures) (c .before .before .before .before .before .before .before .before .before .before .before .before .i .given .1) (c .before .before .before .before .before .before .before .before .before .before .piece-at .ensures) (c .before .before .before .before .before .before .before .before .before .before .before .before .before .before .before .before .before .before .pre .0), tt)
 
+more-pieces-again-requires : (t : ℕ) → more-pieces-lts.Need-again-requires (more-pieces-calls t) (more-pieces-at t) more-pieces.Post
+more-pieces-again-requires t c κs = search needs
+
 more-pieces-enum-told : (t : ℕ) → more-pieces-lts.Need-enum-told (more-pieces-calls t) (more-pieces-at t) more-pieces.Post
 more-pieces-enum-told t c = search (pieces, needs)
 
@@ -69,7 +73,7 @@ more-pieces-same-length : (t : ℕ) → more-pieces-lts.Need-same-length (more-p
 more-pieces-same-length t c = search (pieces, needs)
 
 more-pieces-returns : (t : ℕ) → more-pieces-lts.Need-returns (more-pieces-calls t) (more-pieces-at t) more-pieces.Post
-more-pieces-returns t c = pieces-on (c .before .before .before .before .before .before .before .before .before .before .before .before .before .before .before .before .before .before .before .before .before .args .s .now) (c .before .before .before .before .before .before .before .before .before .before .before .before .before .before .before .before .before .before .before .before .before .args .at) _ _ (c .before .before .before .before .before .before .before .before .before .before .before .before .before .before .before .before .before .before .before .before .before .args .categories) _ _ _ _ _ _ _ _ (c .before .before .before .before .before .before .before .before .before .before .before .before .before .piece-at .result) (c .before .before .before .before .before .before .before .before .before .before .before .before .before .before .before .before .before .after .ensures) (c .before .before .before .before .before .before .before .before .before .before .before .before .before .before .before .i .given .1) (c .before .before .before .before .before .before .before .before .before .before .before .before .before .piece-at .ensures) (c .before .before .before .before .before .before .before .before .before .before .piece .ensures) (c .before .before .before .before .before .before .add .ensures) (c .before .before .more-pieces .ensures)
+more-pieces-returns t c = rw (c .again .ensures) (pieces-on (c .before .before .before .before .before .before .before .before .before .before .before .before .before .before .before .before .before .before .before .before .before .before .args .s .now) (c .before .before .before .before .before .before .before .before .before .before .before .before .before .before .before .before .before .before .before .before .before .before .args .at) _ _ (c .before .before .before .before .before .before .before .before .before .before .before .before .before .before .before .before .before .before .before .before .before .before .args .categories) _ _ _ _ _ _ _ _ (c .before .before .before .before .before .before .before .before .before .before .before .before .before .before .piece-at .result) (c .before .before .before .before .before .before .before .before .before .before .before .before .before .before .before .before .before .before .after .ensures) (c .before .before .before .before .before .before .before .before .before .before .before .before .before .before .before .before .i .given .1) (c .before .before .before .before .before .before .before .before .before .before .before .before .before .before .piece-at .ensures) (c .before .before .before .before .before .before .before .before .before .before .before .piece .ensures) (c .before .before .before .before .before .before .before .add .ensures) (c .before .before .before .more-pieces .ensures))
 
 more-pieces-returns-2 : (t : ℕ) → more-pieces-lts.Need-returns-2 (more-pieces-calls t) (more-pieces-at t) more-pieces.Post
 more-pieces-returns-2 t c = search (pieces, needs)
@@ -86,6 +90,7 @@ pub +more-pieces-spec : {M : Type 1} → statement M
     (more-pieces-piece-requires t)
     (more-pieces-add-requires t)
     (more-pieces-more-pieces-requires t)
+    (more-pieces-again-requires t)
     (more-pieces-enum-told t)
     (more-pieces-slice-aggregate-after-2 t)
     (more-pieces-after-requires-2 t)

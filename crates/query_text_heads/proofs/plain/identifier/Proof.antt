@@ -2,6 +2,12 @@ use Rattle.query_text_heads.proofs.Bodies.{identifier-is}
 use borrow.Author.Needs.{needs}
 use Rattle.query_text_heads.proofs.plain.identifier.Statement.{statement}
 use Rattle.query_text_heads.proofs.plain.identifier.Tie as tie
+use Rattle.query_text_heads.proofs.plain.identifier.Reads as reads
+use Rattle.query_text_heads.proofs.plain.identifier.Lts as lts
+use Rattle.query_text_heads.proofs.adding.add.Reads as add-reads
+use Rattle.query_text_heads.proofs.adding.flag.Reads as flag-reads
+use Rattle.query_text_heads.proofs.plain.identifier_node.Reads as identifier-node-reads
+use Rattle.query_text_heads.proofs.plain.is_broken.Reads as is-broken-reads
 
 identifier-node-requires : tie.Need-identifier-node-requires
 identifier-node-requires c κs = search needs

@@ -1,5 +1,5 @@
-use Rattle.query_text_heads.proofs.Bodies.{numbers}
 use borrow.Author.Needs.{needs}
+use Rattle.query_text_heads.proofs.Bodies.{broken-number}
 use Rattle.query_text_heads.proofs.plain.is_broken.Statement.{statement}
 use Rattle.query_text_heads.proofs.plain.is_broken.Tie as tie
 
@@ -10,7 +10,7 @@ piece-number-requires : tie.Need-piece-number-requires
 piece-number-requires c κs = search needs
 
 returns : tie.Need-returns
-returns c = search (numbers, needs)
+returns c = broken-number (c .before .before .before .args .s .now) _ _ _ _ (c .before .read-piece .ensures (c .before .before .before .pre)) (c .piece-number .ensures)
 
 pub is-broken-spec : {M : Type 1} → statement M
 is-broken-spec = tie.close (tie.spec read-piece-requires piece-number-requires returns)

@@ -3,8 +3,10 @@ use Prim.Native.Nat.{_+_, _*_}
 use lib.ListN.{length}
 use Rattle.query_text_pieces.specs.Places.{from}
 use Rattle.query_text_heads.specs.Trees.{effect, effectIn}
-use Rattle.query_text_read.proofs.Ways.{cycle, bracket-got, alternative-group}
+use Rattle.query_text_read.proofs.Ways.{cycle, bracket-got, alternative-group, or-joined, and-joined, more-joined}
 use Rattle.query_text_read.proofs.Falls.{fall, fall-more, fall-or, fall-and, head-fits}
+use Rattle.query_text_read.proofs.readers.+alternative+alternatives+bracket+conjunction+more_alternatives+more_conjunctions+more_terms+query+term.{statement}
+use Rattle.query_text_read.proofs.readers.+alternative+alternatives+bracket+conjunction+more_alternatives+more_conjunctions+more_terms+query+term.Tie.{close}
 use Prim.Native.Nat.{ℕ, _<_}
 use borrow.Fn.Kinds.{In}
 use borrow.Fn.PlainCycle.{Measures, is, falls, and}
@@ -35,22 +37,27 @@ use Rattle.query_text_read.proofs.readers.+alternative+alternatives+bra
 use Rattle.query_text_read.proofs.readers.term.Reads as term
 use Rattle.query_text_read.proofs.readers.term.Kinds as term-kinds
 use Rattle.query_text_read.proofs.readers.+alternative+alternatives+bracket+conjunction+more_alternatives+more_conjunctions+more_terms+query+term.Lts-term as term-lts
+use Rattle.query_text_heads.proofs.adding.add.Reads as add-reads
+use Rattle.query_text_heads.proofs.adding.join.Reads as join-reads
+use Rattle.query_text_heads.proofs.again.Reads as again-reads
+use Rattle.query_text_heads.proofs.plain.chain.Reads as chain-reads
+use Rattle.query_text_heads.proofs.plain.one_deeper.Reads as one-deeper-reads
+use Rattle.query_text_heads.proofs.plain.plain.Reads as plain-reads
+use Rattle.query_text_heads.proofs.plain.value_piece.Reads as value-piece-reads
 use Rattle.query_text_pieces.proofs.after.Reads as after-reads
 use Rattle.query_text_pieces.proofs.head_end.Reads as head-end-reads
 use Rattle.query_text_pieces.proofs.inner_end.Reads as inner-end-reads
 use Rattle.query_text_pieces.proofs.next_term.Reads as next-term-reads
 use Rattle.query_text_pieces.proofs.piece_at.Reads as piece-at-reads
 use Rattle.query_text_pieces.proofs.token.Reads as token-reads
-use Rattle.query_text_heads.proofs.adding.add.Reads as add-reads
-use Rattle.query_text_heads.proofs.adding.join.Reads as join-reads
-use Rattle.query_text_heads.proofs.plain.chain.Reads as chain-reads
-use Rattle.query_text_heads.proofs.plain.one_deeper.Reads as one-deeper-reads
-use Rattle.query_text_heads.proofs.plain.plain.Reads as plain-reads
-use Rattle.query_text_heads.proofs.plain.value_piece.Reads as value-piece-reads
 use Rattle.text.proofs.all_in.Reads as all-in-reads
 use Rattle.text.proofs.part.Reads as part-reads
-use Rattle.query_text_read.proofs.readers.+alternative+alternatives+bracket+conjunction+more_alternatives+more_conjunctions+more_terms+query+term.{statement}
-use Rattle.query_text_read.proofs.readers.+alternative+alternatives+bracket+conjunction+more_alternatives+more_conjunctions+more_terms+query+term.Tie.{close}
+use Rattle.query_text_read.proofs.readers.+alternative+alternatives+bracket+conjunction+more_alternatives+more_conjunctions+more_terms+query+term.{
+  statement,
+}
+use Rattle.query_text_read.proofs.readers.+alternative+alternatives+bracket+conjunction+more_alternatives+more_conjunctions+more_terms+query+term.Tie.{
+  close,
+}
 
 abbrev μ-alternative : Measures 2 alternative-kinds.ps ℕ
 μ-alternative κs a = 4 * length (from (a .0 .now) (a .1 .0))
@@ -169,28 +176,28 @@ abbrev alternative-calls : ℕ → alternative-lts.Claims
 alternative-calls t = (token-reads.Asked, token-reads.Learnt, one-deeper-reads.Asked, one-deeper-reads.Learnt, query-below t, query.Post, inner-end-reads.Asked, inner-end-reads.Learnt, add-reads.Asked, add-reads.Learnt, piece-at-reads.Asked, piece-at-reads.Learnt, value-piece-reads.Asked, value-piece-reads.Learnt)
 
 abbrev alternatives-calls : ℕ → alternatives-lts.Claims
-alternatives-calls t = (alternative-below t, alternative.Post, more-alternatives-below t, more-alternatives.Post)
+alternatives-calls t = (alternative-below t, alternative.Post, more-alternatives-below t, more-alternatives.Post, again-reads.Asked, again-reads.Learnt)
 
 abbrev bracket-calls : ℕ → bracket-lts.Claims
-bracket-calls t = (head-end-reads.Asked, head-end-reads.Learnt, plain-reads.Asked, plain-reads.Learnt, part-reads.Asked, part-reads.Learnt, all-in-reads.Asked, all-in-reads.Learnt, alternatives-below t, alternatives.Post, after-reads.Asked, after-reads.Learnt, chain-reads.Asked, chain-reads.Learnt)
+bracket-calls t = (head-end-reads.Asked, head-end-reads.Learnt, plain-reads.Asked, plain-reads.Learnt, again-reads.Asked, again-reads.Learnt, part-reads.Asked, part-reads.Learnt, all-in-reads.Asked, all-in-reads.Learnt, alternatives-below t, alternatives.Post, after-reads.Asked, after-reads.Learnt, chain-reads.Asked, chain-reads.Learnt)
 
 abbrev conjunction-calls : ℕ → conjunction-lts.Claims
-conjunction-calls t = (term-below t, term.Post, more-terms-below t, more-terms.Post)
+conjunction-calls t = (term-below t, term.Post, more-terms-below t, more-terms.Post, again-reads.Asked, again-reads.Learnt)
 
 abbrev more-alternatives-calls : ℕ → more-alternatives-lts.Claims
-more-alternatives-calls t = (after-reads.Asked, after-reads.Learnt, alternative-below t, alternative.Post, join-reads.Asked, join-reads.Learnt, more-alternatives-below t, more-alternatives.Post)
+more-alternatives-calls t = (after-reads.Asked, after-reads.Learnt, alternative-below t, alternative.Post, join-reads.Asked, join-reads.Learnt, more-alternatives-below t, more-alternatives.Post, again-reads.Asked, again-reads.Learnt)
 
 abbrev more-conjunctions-calls : ℕ → more-conjunctions-lts.Claims
-more-conjunctions-calls t = (token-reads.Asked, token-reads.Learnt, conjunction-below t, conjunction.Post, join-reads.Asked, join-reads.Learnt, more-conjunctions-below t, more-conjunctions.Post)
+more-conjunctions-calls t = (token-reads.Asked, token-reads.Learnt, conjunction-below t, conjunction.Post, join-reads.Asked, join-reads.Learnt, more-conjunctions-below t, more-conjunctions.Post, again-reads.Asked, again-reads.Learnt)
 
 abbrev more-terms-calls : ℕ → more-terms-lts.Claims
-more-terms-calls t = (next-term-reads.Asked, next-term-reads.Learnt, term-below t, term.Post, join-reads.Asked, join-reads.Learnt, more-terms-below t, more-terms.Post)
+more-terms-calls t = (next-term-reads.Asked, next-term-reads.Learnt, term-below t, term.Post, join-reads.Asked, join-reads.Learnt, more-terms-below t, more-terms.Post, again-reads.Asked, again-reads.Learnt)
 
 abbrev query-calls : ℕ → query-lts.Claims
-query-calls t = (conjunction-below t, conjunction.Post, more-conjunctions-below t, more-conjunctions.Post)
+query-calls t = (conjunction-below t, conjunction.Post, more-conjunctions-below t, more-conjunctions.Post, again-reads.Asked, again-reads.Learnt)
 
 abbrev term-calls : ℕ → term-lts.Claims
-term-calls t = (token-reads.Asked, token-reads.Learnt, one-deeper-reads.Asked, one-deeper-reads.Learnt, query-below t, query.Post, bracket-below t, bracket.Post)
+term-calls t = (token-reads.Asked, token-reads.Learnt, one-deeper-reads.Asked, one-deeper-reads.Learnt, query-below t, query.Post, bracket-below t, bracket.Post, again-reads.Asked, again-reads.Learnt)
 
 alternative-slice-aggregate-token : (t : ℕ) → alternative-lts.Need-slice-aggregate-token (alternative-calls t) (alternative-at t) alternative.Post
 alternative-slice-aggregate-token t c = search needs
@@ -267,6 +274,9 @@ alternatives-enum-known-next t c = search needs
 alternatives-more-alternatives-requires : (t : ℕ) → alternatives-lts.Need-more-alternatives-requires (alternatives-calls t) (alternatives-at t) alternatives.Post
 alternatives-more-alternatives-requires t c κs = search (fall, needs)
 
+alternatives-again-requires : (t : ℕ) → alternatives-lts.Need-again-requires (alternatives-calls t) (alternatives-at t) alternatives.Post
+alternatives-again-requires t c κs = search needs
+
 alternatives-enum-told : (t : ℕ) → alternatives-lts.Need-enum-told (alternatives-calls t) (alternatives-at t) alternatives.Post
 alternatives-enum-told t c = search needs
 
@@ -274,7 +284,7 @@ alternatives-same-length : (t : ℕ) → alternatives-lts.Need-same-length (alte
 alternatives-same-length t c = search needs
 
 alternatives-returns : (t : ℕ) → alternatives-lts.Need-returns (alternatives-calls t) (alternatives-at t) alternatives.Post
-alternatives-returns t c = search cycle
+alternatives-returns t c = rw (c .again .ensures) (search cycle)
 
 alternatives-same-length-2 : (t : ℕ) → alternatives-lts.Need-same-length-2 (alternatives-calls t) (alternatives-at t) alternatives.Post
 alternatives-same-length-2 t c = search needs
@@ -294,11 +304,14 @@ bracket-enum-told t c = search needs
 bracket-plain-requires : (t : ℕ) → bracket-lts.Need-plain-requires (bracket-calls t) (bracket-at t) bracket.Post
 bracket-plain-requires t c κs = search needs
 
+bracket-again-requires : (t : ℕ) → bracket-lts.Need-again-requires (bracket-calls t) (bracket-at t) bracket.Post
+bracket-again-requires t c κs = search needs
+
 bracket-same-length : (t : ℕ) → bracket-lts.Need-same-length (bracket-calls t) (bracket-at t) bracket.Post
 bracket-same-length t c = search needs
 
 bracket-returns : (t : ℕ) → bracket-lts.Need-returns (bracket-calls t) (bracket-at t) bracket.Post
-bracket-returns t c = search cycle
+bracket-returns t c = rw (c .again .ensures) (search cycle)
 
 bracket-sub-len : (t : ℕ) → bracket-lts.Need-sub-len (bracket-calls t) (bracket-at t) bracket.Post
 bracket-sub-len t c = search (fall, needs)
@@ -366,6 +379,9 @@ conjunction-enum-known-next t c = search needs
 conjunction-more-terms-requires : (t : ℕ) → conjunction-lts.Need-more-terms-requires (conjunction-calls t) (conjunction-at t) conjunction.Post
 conjunction-more-terms-requires t c κs = search (fall, needs)
 
+conjunction-again-requires : (t : ℕ) → conjunction-lts.Need-again-requires (conjunction-calls t) (conjunction-at t) conjunction.Post
+conjunction-again-requires t c κs = search needs
+
 conjunction-enum-told : (t : ℕ) → conjunction-lts.Need-enum-told (conjunction-calls t) (conjunction-at t) conjunction.Post
 conjunction-enum-told t c = search needs
 
@@ -373,7 +389,7 @@ conjunction-same-length : (t : ℕ) → conjunction-lts.Need-same-length (conjun
 conjunction-same-length t c = search needs
 
 conjunction-returns : (t : ℕ) → conjunction-lts.Need-returns (conjunction-calls t) (conjunction-at t) conjunction.Post
-conjunction-returns t c = search cycle
+conjunction-returns t c = rw (c .again .ensures) (search cycle)
 
 conjunction-same-length-2 : (t : ℕ) → conjunction-lts.Need-same-length-2 (conjunction-calls t) (conjunction-at t) conjunction.Post
 conjunction-same-length-2 t c = search needs
@@ -402,6 +418,9 @@ more-alternatives-join-requires t c κs = search needs
 more-alternatives-more-alternatives-requires : (t : ℕ) → more-alternatives-lts.Need-more-alternatives-requires (more-alternatives-calls t) (more-alternatives-at t) more-alternatives.Post
 more-alternatives-more-alternatives-requires t c κs = (fall-more (c .before .before .before .before .before .before .before .before .before .before .before .before .before .before .before .before .before .before .before .args .s .now) (c .before .before .before .before .before .before .before .before .before .before .before .before .before .before .before .before .before .before .before .args .at) _ _ _ _ _ (c .before .before .before .before .before .before .before .before .before .before .before .before .before .before .before .after .ensures) (c .before .before .before .before .before .before .before .before .before .before .before .before .before .i .given .1) (effectIn (c .before .before .before .before .before .before .before .before .before .before .before .before .before .before .before .before .before .before .before .args .depth)) _ _ _ _ _ _ (c .before .before .before .before .before .before .before .before .before .before .alternative .ensures) (c .before .before .before .before .before .before .next .given .1) (c .before .before .before .before .before .before .before .before .before .before .before .before .before .before .before .before .before .before .before .pre .0), tt)
 
+more-alternatives-again-requires : (t : ℕ) → more-alternatives-lts.Need-again-requires (more-alternatives-calls t) (more-alternatives-at t) more-alternatives.Post
+more-alternatives-again-requires t c κs = search needs
+
 more-alternatives-enum-told : (t : ℕ) → more-alternatives-lts.Need-enum-told (more-alternatives-calls t) (more-alternatives-at t) more-alternatives.Post
 more-alternatives-enum-told t c = search needs
 
@@ -412,7 +431,7 @@ more-alternatives-same-length : (t : ℕ) → more-alternatives-lts.Need-same-le
 more-alternatives-same-length t c = search needs
 
 more-alternatives-returns : (t : ℕ) → more-alternatives-lts.Need-returns (more-alternatives-calls t) (more-alternatives-at t) more-alternatives.Post
-more-alternatives-returns t c = search cycle
+more-alternatives-returns t c = rw (c .again .ensures) (more-joined _ _ _ _ _ _ _ _ _ _ _ _ _ _ _ (c .before .before .before .before .before .before .before .before .before .before .before .before .before .before .before .before .before .before .before .after .ensures) (c .before .before .before .before .before .before .before .before .before .before .before .before .before .before .before .before .before .i .given .1) (c .before .before .before .before .before .before .before .before .before .before .before .before .before .before .alternative .ensures) (c .before .before .before .before .before .before .before .before .before .before .next .given .1) (c .before .before .before .before .before .before .before .join .ensures) (c .before .before .before .more-alternatives .ensures))
 
 more-alternatives-same-length-2 : (t : ℕ) → more-alternatives-lts.Need-same-length-2 (more-alternatives-calls t) (more-alternatives-at t) more-alternatives.Post
 more-alternatives-same-length-2 t c = search needs
@@ -444,6 +463,9 @@ more-conjunctions-join-requires t c κs = search needs
 more-conjunctions-more-conjunctions-requires : (t : ℕ) → more-conjunctions-lts.Need-more-conjunctions-requires (more-conjunctions-calls t) (more-conjunctions-at t) more-conjunctions.Post
 more-conjunctions-more-conjunctions-requires t c κs = (fall-or (c .before .before .before .before .before .before .before .before .before .before .before .before .before .before .before .before .before .before .before .args .s .now) (c .before .before .before .before .before .before .before .before .before .before .before .before .before .before .before .before .before .before .before .args .at) _ _ _ _ _ (c .before .before .before .before .before .before .before .before .before .before .before .before .before .before .before .token .ensures) (c .before .before .before .before .before .before .before .before .before .before .before .before .before .i .given .1) (effect (c .before .before .before .before .before .before .before .before .before .before .before .before .before .before .before .before .before .before .before .args .depth)) _ _ _ _ _ _ (c .before .before .before .before .before .before .before .before .before .before .conjunction .ensures) (c .before .before .before .before .before .before .next .given .1) (c .before .before .before .before .before .before .before .before .before .before .before .before .before .before .before .before .before .before .before .pre .0), tt)
 
+more-conjunctions-again-requires : (t : ℕ) → more-conjunctions-lts.Need-again-requires (more-conjunctions-calls t) (more-conjunctions-at t) more-conjunctions.Post
+more-conjunctions-again-requires t c κs = search needs
+
 more-conjunctions-enum-told : (t : ℕ) → more-conjunctions-lts.Need-enum-told (more-conjunctions-calls t) (more-conjunctions-at t) more-conjunctions.Post
 more-conjunctions-enum-told t c = search needs
 
@@ -454,7 +476,7 @@ more-conjunctions-same-length : (t : ℕ) → more-conjunctions-lts.Need-same-le
 more-conjunctions-same-length t c = search needs
 
 more-conjunctions-returns : (t : ℕ) → more-conjunctions-lts.Need-returns (more-conjunctions-calls t) (more-conjunctions-at t) more-conjunctions.Post
-more-conjunctions-returns t c = search cycle
+more-conjunctions-returns t c = rw (c .again .ensures) (or-joined _ _ _ _ _ _ _ _ _ _ _ _ _ _ _ (c .before .before .before .before .before .before .before .before .before .before .before .before .before .before .before .before .before .before .before .token .ensures) (c .before .before .before .before .before .before .before .before .before .before .before .before .before .before .before .before .before .i .given .1) (c .before .before .before .before .before .before .before .before .before .before .before .before .before .before .conjunction .ensures) (c .before .before .before .before .before .before .before .before .before .before .next .given .1) (c .before .before .before .before .before .before .before .join .ensures) (c .before .before .before .more-conjunctions .ensures))
 
 more-conjunctions-same-length-2 : (t : ℕ) → more-conjunctions-lts.Need-same-length-2 (more-conjunctions-calls t) (more-conjunctions-at t) more-conjunctions.Post
 more-conjunctions-same-length-2 t c = search needs
@@ -483,6 +505,9 @@ more-terms-join-requires t c κs = search needs
 more-terms-more-terms-requires : (t : ℕ) → more-terms-lts.Need-more-terms-requires (more-terms-calls t) (more-terms-at t) more-terms.Post
 more-terms-more-terms-requires t c κs = (fall-and (c .before .before .before .before .before .before .before .before .before .before .before .before .before .before .before .before .before .before .args .s .now) (c .before .before .before .before .before .before .before .before .before .before .before .before .before .before .before .before .before .before .args .at) _ _ _ (c .before .before .before .before .before .before .before .before .before .before .before .before .before .before .before .next-term .ensures) (c .before .before .before .before .before .before .before .before .before .before .before .before .before .i .given .1) (effect (c .before .before .before .before .before .before .before .before .before .before .before .before .before .before .before .before .before .before .args .depth)) _ _ _ _ _ _ (c .before .before .before .before .before .before .before .before .before .before .term .ensures) (c .before .before .before .before .before .before .next .given .1) (c .before .before .before .before .before .before .before .before .before .before .before .before .before .before .before .before .before .before .pre .0), tt)
 
+more-terms-again-requires : (t : ℕ) → more-terms-lts.Need-again-requires (more-terms-calls t) (more-terms-at t) more-terms.Post
+more-terms-again-requires t c κs = search needs
+
 more-terms-enum-told : (t : ℕ) → more-terms-lts.Need-enum-told (more-terms-calls t) (more-terms-at t) more-terms.Post
 more-terms-enum-told t c = search needs
 
@@ -493,7 +518,7 @@ more-terms-same-length : (t : ℕ) → more-terms-lts.Need-same-length (more-ter
 more-terms-same-length t c = search needs
 
 more-terms-returns : (t : ℕ) → more-terms-lts.Need-returns (more-terms-calls t) (more-terms-at t) more-terms.Post
-more-terms-returns t c = search cycle
+more-terms-returns t c = rw (c .again .ensures) (and-joined _ _ _ _ _ _ _ _ _ _ _ _ _ _ _ (c .before .before .before .before .before .before .before .before .before .before .before .before .before .before .before .before .before .before .before .next-term .ensures) (c .before .before .before .before .before .before .before .before .before .before .before .before .before .before .before .before .before .i .given .1) (c .before .before .before .before .before .before .before .before .before .before .before .before .before .before .term .ensures) (c .before .before .before .before .before .before .before .before .before .before .next .given .1) (c .before .before .before .before .before .before .before .join .ensures) (c .before .before .before .more-terms .ensures))
 
 more-terms-same-length-2 : (t : ℕ) → more-terms-lts.Need-same-length-2 (more-terms-calls t) (more-terms-at t) more-terms.Post
 more-terms-same-length-2 t c = search needs
@@ -513,6 +538,9 @@ query-enum-known-next t c = search needs
 query-more-conjunctions-requires : (t : ℕ) → query-lts.Need-more-conjunctions-requires (query-calls t) (query-at t) query.Post
 query-more-conjunctions-requires t c κs = search (fall, needs)
 
+query-again-requires : (t : ℕ) → query-lts.Need-again-requires (query-calls t) (query-at t) query.Post
+query-again-requires t c κs = search needs
+
 query-enum-told : (t : ℕ) → query-lts.Need-enum-told (query-calls t) (query-at t) query.Post
 query-enum-told t c = search needs
 
@@ -520,7 +548,7 @@ query-same-length : (t : ℕ) → query-lts.Need-same-length (query-calls t) (qu
 query-same-length t c = search needs
 
 query-returns : (t : ℕ) → query-lts.Need-returns (query-calls t) (query-at t) query.Post
-query-returns t c = search cycle
+query-returns t c = rw (c .again .ensures) (search cycle)
 
 query-same-length-2 : (t : ℕ) → query-lts.Need-same-length-2 (query-calls t) (query-at t) query.Post
 query-same-length-2 t c = search needs
@@ -576,6 +604,9 @@ term-enum-known-i-2 t c = search needs
 term-bracket-requires : (t : ℕ) → term-lts.Need-bracket-requires (term-calls t) (term-at t) term.Post
 term-bracket-requires t c κs = search (fall, needs)
 
+term-again-requires : (t : ℕ) → term-lts.Need-again-requires (term-calls t) (term-at t) term.Post
+term-again-requires t c κs = search needs
+
 term-enum-told-4 : (t : ℕ) → term-lts.Need-enum-told-4 (term-calls t) (term-at t) term.Post
 term-enum-told-4 t c = search needs
 
@@ -601,7 +632,7 @@ term-same-length-4 : (t : ℕ) → term-lts.Need-same-length-4 (term-calls t) (t
 term-same-length-4 t c = search needs
 
 term-returns-4 : (t : ℕ) → term-lts.Need-returns-4 (term-calls t) (term-at t) term.Post
-term-returns-4 t c = search cycle
+term-returns-4 t c = rw (c .again .ensures) (search cycle)
 
 term-returns-5 : (t : ℕ) → term-lts.Need-returns-5 (term-calls t) (term-at t) term.Post
 term-returns-5 t c = search cycle
@@ -646,6 +677,7 @@ pub +alternative+alternatives+bracket+conjunction+more-alternatives+more-conjunc
     (alternatives-alternative-requires t)
     (alternatives-enum-known-next t)
     (alternatives-more-alternatives-requires t)
+    (alternatives-again-requires t)
     (alternatives-enum-told t)
     (alternatives-same-length t)
     (alternatives-returns t)
@@ -656,6 +688,7 @@ pub +alternative+alternatives+bracket+conjunction+more-alternatives+more-conjunc
     (bracket-enum-known-end t)
     (bracket-enum-told t)
     (bracket-plain-requires t)
+    (bracket-again-requires t)
     (bracket-same-length t)
     (bracket-returns t)
     (bracket-sub-len t)
@@ -677,13 +710,11 @@ pub +alternative+alternatives+bracket+conjunction+more-alternatives+more-conjunc
     (bracket-returns-4 t)
     (bracket-same-length-4 t)
     (bracket-returns-5 t))
-    (λ t. conjunction-lts.spec
-    (term-below t, term.Post, more-terms-below t, more-terms.Post)
-    (conjunction-at t)
-    conjunction.Post
+    (λ t. conjunction-lts.spec (conjunction-calls t) (conjunction-at t) conjunction.Post
     (conjunction-term-requires t)
     (conjunction-enum-known-next t)
     (conjunction-more-terms-requires t)
+    (conjunction-again-requires t)
     (conjunction-enum-told t)
     (conjunction-same-length t)
     (conjunction-returns t)
@@ -697,6 +728,7 @@ pub +alternative+alternatives+bracket+conjunction+more-alternatives+more-conjunc
     (more-alternatives-enum-known-next t)
     (more-alternatives-join-requires t)
     (more-alternatives-more-alternatives-requires t)
+    (more-alternatives-again-requires t)
     (more-alternatives-enum-told t)
     (more-alternatives-enum-told-2 t)
     (more-alternatives-same-length t)
@@ -712,6 +744,7 @@ pub +alternative+alternatives+bracket+conjunction+more-alternatives+more-conjunc
     (more-conjunctions-enum-known-next t)
     (more-conjunctions-join-requires t)
     (more-conjunctions-more-conjunctions-requires t)
+    (more-conjunctions-again-requires t)
     (more-conjunctions-enum-told t)
     (more-conjunctions-enum-told-2 t)
     (more-conjunctions-same-length t)
@@ -726,6 +759,7 @@ pub +alternative+alternatives+bracket+conjunction+more-alternatives+more-conjunc
     (more-terms-enum-known-next t)
     (more-terms-join-requires t)
     (more-terms-more-terms-requires t)
+    (more-terms-again-requires t)
     (more-terms-enum-told t)
     (more-terms-enum-told-2 t)
     (more-terms-same-length t)
@@ -737,6 +771,7 @@ pub +alternative+alternatives+bracket+conjunction+more-alternatives+more-conjunc
     (query-conjunction-requires t)
     (query-enum-known-next t)
     (query-more-conjunctions-requires t)
+    (query-again-requires t)
     (query-enum-told t)
     (query-same-length t)
     (query-returns t)
@@ -759,6 +794,7 @@ pub +alternative+alternatives+bracket+conjunction+more-alternatives+more-conjunc
     (term-token-requires-3 t)
     (term-enum-known-i-2 t)
     (term-bracket-requires t)
+    (term-again-requires t)
     (term-enum-told-4 t)
     (term-same-length t)
     (term-returns t)

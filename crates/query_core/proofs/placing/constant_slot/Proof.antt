@@ -1,6 +1,6 @@
 use borrow.Author.Needs.{needs}
-use Rattle.query_core.proofs.writing.constant_slot.Statement.{statement}
-use Rattle.query_core.proofs.writing.constant_slot.Tie as tie
+use Rattle.query_core.proofs.placing.constant_slot.Statement.{statement}
+use Rattle.query_core.proofs.placing.constant_slot.Tie as tie
 
 enum-known-k : tie.Need-enum-known-k
 enum-known-k c = search needs

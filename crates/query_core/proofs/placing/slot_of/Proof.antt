@@ -1,6 +1,6 @@
 use borrow.Author.Needs.{needs}
-use Rattle.query_core.proofs.writing.slot_of.Statement.{statement}
-use Rattle.query_core.proofs.writing.slot_of.Tie as tie
+use Rattle.query_core.proofs.placing.slot_of.Statement.{statement}
+use Rattle.query_core.proofs.placing.slot_of.Tie as tie
 
 enum-told : tie.Need-enum-told
 enum-told c = search needs

@@ -1,6 +1,6 @@
 use borrow.Author.Needs.{needs}
-use Rattle.query_core.proofs.writing.selector_strings.Statement.{statement}
-use Rattle.query_core.proofs.writing.selector_strings.Tie as tie
+use Rattle.query_core.proofs.placing.selector_strings.Statement.{statement}
+use Rattle.query_core.proofs.placing.selector_strings.Tie as tie
 
 enum-known-s : tie.Need-enum-known-s
 enum-known-s c = search needs

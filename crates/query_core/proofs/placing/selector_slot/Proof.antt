@@ -1,6 +1,6 @@
 use borrow.Author.Needs.{needs}
-use Rattle.query_core.proofs.writing.selector_slot.Statement.{statement}
-use Rattle.query_core.proofs.writing.selector_slot.Tie as tie
+use Rattle.query_core.proofs.placing.selector_slot.Statement.{statement}
+use Rattle.query_core.proofs.placing.selector_slot.Tie as tie
 
 enum-told : tie.Need-enum-told
 enum-told c = search needs

@@ -1,6 +1,6 @@
 use borrow.Author.Needs.{needs}
-use Rattle.query_core.proofs.writing.constant_strings.Statement.{statement}
-use Rattle.query_core.proofs.writing.constant_strings.Tie as tie
+use Rattle.query_core.proofs.placing.constant_strings.Statement.{statement}
+use Rattle.query_core.proofs.placing.constant_strings.Tie as tie
 
 enum-told : tie.Need-enum-told
 enum-told c = search needs
