@@ -14,5 +14,4 @@ pub mod Sets
 pub mod Direct
 pub mod Agreement
 pub mod Calls
-pub mod Spellings
 pub mod Sample

@@ -8,5 +8,4 @@ pub mod Walking
 pub mod Ascii
 pub mod Naming
 pub mod Keeping
-pub mod Composed
 pub mod Examples

@@ -1,4 +1,3 @@
 pub mod Adding
-pub mod Composing
 pub mod Constants
 pub mod References

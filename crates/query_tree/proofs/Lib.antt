@@ -1,5 +1,4 @@
 pub mod Builds
-pub mod Composing
 pub mod Items
 pub mod Heights
 pub mod Trees
