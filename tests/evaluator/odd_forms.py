@@ -65,7 +65,10 @@ def of_texts():
     yield 'a property in a namespace', False, laid(props=put(BASE['props'], 0, (3, 6)), pages=[3, 4])
     yield 'a property name with a dot', False, text(3, b'\0S.')
     yield 'a category with a dot', True, text(5, b'\0b.')
-    for bad in (b':', b'#', b'{', b'}', b'_'):
+    for good in (b'\xc3\xa4', b'\xc2\xa0', b'\xc5\xbf'):
+        yield 'a composed name', True, text(5, b'\0b' + good)
+        yield 'a composed namespace', True, text(6, b'\3T' + good + b'a')
+    for bad in (b':', b'#', b'{', b'}', b'_', b'a\xcc\x88', b'b\xcc\x88', b'\xcc\x88', b'\xc2\x9f', b'\xc6\x80', b'\xc1\xa1', b'\xff', b'\xc3', b'\xe2\x82\xac'):
         yield 'a name that is a value only', False, text(5, b'\0b' + bad)
         yield 'a string that is no name', True, laid(texts=[*NAMES[:6], b'\0c' + bad, NAMES[6]], pages=[7, 4],
                                                      terms=[*BASE['terms'][:2], (STRING, 6), BASE['terms'][3], (LINK, 7), BASE['terms'][5]])

@@ -105,7 +105,7 @@ def first_pieces():
 
 def names():
     for name, held in ((b'a ', False), (b' a', False), (b'a b', True), (b'', False), (b'a:b', False), (b'+', False), (b'!a', False), (b'a.b', True),
-                       (b'a]', False), (b'a|', False), (b'a<', False), (b'a\n', False), (b'\xff', True), (b'n' * 64, True), (b'n' * 65, False)):
+                       (b'a]', False), (b'a|', False), (b'a<', False), (b'a\n', False), (b'\xff', False), (b'\xc3\xa4', True), (b'a\xcc\x88', False), (b'n' * 64, True), (b'n' * 65, False)):
         yield f'bare {name}', held, bare(name)
         yield f'>> {name}', held, bare(name, b'>>')
         yield f'category {name}', held, category(name)

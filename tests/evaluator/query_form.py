@@ -1,6 +1,6 @@
 """Held queries by docs/LAYOUT.md: written from a core query, and read back by the rules."""
 from core import And, Article, Category, Existence, InNamespace, Or, Subquery, Value
-from values import KINDS, SCALARS, code_of, is_name, is_namespace, is_property_name, is_value, scalar_of
+from values import KINDS, SCALARS, code_of, is_composed, is_name, is_namespace, is_property_name, is_value, scalar_of
 
 NODE, MOST_NODES, MOST_HEAP = 20, 256, 16448
 NODES = 2  # where the nodes begin
@@ -65,6 +65,10 @@ def kept(rule, text):
     return text
 
 
+def kept_name(rule, text):
+    return kept(is_composed, kept(rule, text))
+
+
 def read_constant(slot, string):
     kind = KINDS[slot[2]]
     if kind == b'string':
@@ -82,18 +86,18 @@ def put_node(stack, slot, first, second):
         right, left = stack.pop(), stack.pop()
         stack.append((And, Or)[tag](left, right))
     elif tag == 2:
-        stack.append(Category(kept(is_name, first)))
+        stack.append(Category(kept_name(is_name, first)))
     elif tag == 3:
-        stack.append(InNamespace(kept(is_namespace, first)))
+        stack.append(InNamespace(kept_name(is_namespace, first)))
     elif tag == 4:
-        stack.append(Existence(kept(is_property_name, first)))
+        stack.append(Existence(kept_name(is_property_name, first)))
     elif tag == 5:
-        stack.append(Subquery(kept(is_property_name, first), stack.pop()))
+        stack.append(Subquery(kept_name(is_property_name, first), stack.pop()))
     elif tag == 6:
-        stack.append(Article(COMPARATORS[slot[1]], kept(is_name, second)))
+        stack.append(Article(COMPARATORS[slot[1]], kept_name(is_name, second)))
     elif tag == 7:
         constant = read_constant(slot, second)
-        stack.append(Value(kept(is_property_name, first), COMPARATORS[slot[1]], constant))
+        stack.append(Value(kept_name(is_property_name, first), COMPARATORS[slot[1]], constant))
     else:
         raise ValueError
 

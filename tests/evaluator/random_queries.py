@@ -1,6 +1,6 @@
 """Random query texts, most of them accepted for the register that they are drawn from, and selecting some of its pages."""
 from random_registers import CATEGORIES, NAMES, PLAIN_VALUES, damaged
-from respell import spelled
+from respell import retyped, spelled
 from values import read_value
 
 STRAYS = 0.2  # how often a term is written for another page, or for none
@@ -10,7 +10,7 @@ BLANKS = [b'', b'', b'', b' ', b'\n', b'  ']
 FAULTY = {
     13: [b'[[a]', b'[[a|b]]', b'[[> >a]]', b'AND', b'<q></q>', b'[[S::a]b]]', b'[[a<b::c]]', b'[[S::<q>[[a]]</q>x]]'],
     14: [b'[[' + b'.'.join([b'P'] * 9) + b'::a]]', b'<q>' * 9 + b'[[a]]' + b'</q>' * 9, b'[[' + b'.' * 8 + b'::a]]'],
-    15: [b'[[Category:+]]', b'[[+]]', b'[[a_b]]', b'[[T:]]', b'[[!T:+]]', b'[[Category:C||>K]]', b'[[P..Q::a]]',
+    15: [b'[[\xff]]', b'[[b\xcc\x81]]', b'[[Category:e\xcc\x81\xcc\x81]]', b'[[\xc2\x80:a]]', b'[[\xc1\xa1::+]]', b'[[Category:+]]', b'[[+]]', b'[[a_b]]', b'[[T:]]', b'[[!T:+]]', b'[[Category:C||>K]]', b'[[P..Q::a]]',
          b'[[!P::a]]', b'[[]]', b'[[a||b::c]]', b'[[Category:C||Category:K]]'],
     16: [b'[[S::~A]]', b'[[S::]]', b'[[S::! ]]', b'[[S::"]]', b'[[N::' + b'7' * 65 + b']]', b'[[P::a||]]'],
     17: [b'[[Z::1]]', b'[[P.Z::+]]', b'[[Z.P::a]]', b'[[P::<q>[[Z::+]]</q>]]'],
@@ -156,6 +156,7 @@ def query_text(rng, register):
     """A query of what the pages of a register hold, of which there is at least one, or a text that is refused."""
     writer, way = Writer(rng, register), rng.random()
     text = writer.query(writer.page(), rng.choice([1, 2, 4, 8]), rng.choice([0, 1, 2, 3, 4, 8]))
+    text = text if rng.random() < 0.5 else retyped(rng, text)
     if way < 0.62:
         return text
     if way < 0.74:

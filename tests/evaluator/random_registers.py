@@ -1,17 +1,19 @@
 """Random register texts, most of them accepted, and pairs of them."""
-from respell import spelled
+import re
 
-NAMES = [b'a', b'b', b'ab', b'B', b'a b', b'D1', b'a.b', b'Category', b'\xc3\xa9', b'\xff', b'=a', b'n' * 64]
-NAMESPACES = [b'', b'', b'', b'T', b'Talk', b'a', b'Category']
+from respell import spelled, typed
+
+NAMES = [b'a', b'b', b'ab', b'B', b'a b', b'D1', b'a.b', b'Category', b'\xc3\xa9', b'\xc5\xbfa\xc3\xab', b'=a', b'\xc3\xa4' * 21 + b'n', b'n' * 64]
+NAMESPACES = [b'', b'', b'', b'T', b'Talk', b'\xc3\x96', b'Category']
 # Pages; few in Category, since a query that names one with no comparator asks for a category.
-KNOWN = [(namespace, name) for namespace in (b'', b'T', b'Talk', b'a') for name in NAMES] + [(b'Category', b'a'), (b'Category', b'C')]
-CATEGORIES = [b'C', b'K', b'a', b'C d', b'a.b']
-KINDS = {b'P': b'page', b'Q': b'page', b'R s': b'page', b'N': b'number', b'M': b'number', b'B': b'boolean',
+KNOWN = [(namespace, name) for namespace in (b'', b'T', b'Talk', b'\xc3\x96') for name in NAMES] + [(b'Category', b'a'), (b'Category', b'C')]
+CATEGORIES = [b'C', b'K', b'\xc3\xa9', b'C d', b'a.b']
+KINDS = {b'P': b'page', b'Q': b'page', b'R s': b'page', b'N': b'number', b'\xc4\xb2\xc3\xbc': b'number', b'B': b'boolean',
          b'S': b'string', b'U': b'string'}
 PLAIN_VALUES = {
     b'number': [b'0', b'-0', b'7', b'007', b'-7', b'12', b'1', b'999999999999999', b'-999999999999999'],
     b'boolean': [b'true', b'Yes', b'1', b'FALSE', b'no', b'0', b'nO'],
-    b'string': [b'A7', b'A9', b'a', b'7', b'true', b'+', b'=x', b'!x', b'a:b', b'\xff', b'_', b'x' * 64],
+    b'string': [b'A7', b'A9', b'a', b'7', b'true', b'+', b'=x', b'!x', b'a:b', b'\xff', b'\xc3\xa9', b'e\xcc\x81', b'_', b'x' * 64],
 }
 UNFIT = {
     b'page': [b'_', b'T:', b'a:b:c', b'T:+', b'a#', b'+'],
@@ -19,7 +21,8 @@ UNFIT = {
     b'boolean': [b'y', b'2', b't', b'truth', b'-0'],
 }
 BAD_NAMES = [b'', b' a', b'a ', b'!a', b'~a', b'+', b'a:b', b'a_b', b'a#', b'{', b'a|b', b'a<b', b'a]', b'\x7f',
-             b'\t', b'n' * 65]
+             b'\t', b'n' * 65, b'\xff', b'\xc2\x80', b'\xc1\xa1', b'\xc6\x80', b'\xe2\x82\xac', b'a\xc3', b'b\xcc\x81',
+             b'e\xcc\x81\xcc\x81', b'\xcc\x81a', b'\xc3\xa9\xcc\x81', b'u\xcc\x88\xcc\x84', b'a\xcc\x88' * 21 + b'nn']
 BAD_VALUES = [b'', b' x', b'x ', b'~x', b'x|y', b'<x', b'x' * 65, b'\x01', b'\x7f']
 REGISTER_TOKENS = [b'"', b'(', b')', b' ', b'\n', b'(cat "C")', b'(val "N" "x")', b'prop', b'page', b'\r', b'a']
 CAT, VAL = b' (cat "%s")', b' (val "%s" "%s")'
@@ -59,7 +62,8 @@ def written(rng, kinds, drawn):
     lines += [b'(page "%s" "%s"%s)\n' % (namespace, name, b''.join(forms)) for namespace, name, forms in drawn]
     if rng.random() < 0.3:
         rng.shuffle(lines)
-    return b''.join(lines)
+    text = b''.join(lines)
+    return text if rng.random() < 0.5 else re.sub(rb'[^"\n]+', lambda part: typed(rng, part[0]), text)
 
 
 def some_kinds(rng):

@@ -3,7 +3,7 @@ import re
 from functools import lru_cache
 from typing import NamedTuple
 
-from values import is_name, is_namespace, is_property_name, is_value, read_reference, trim
+from values import composed, is_name, is_namespace, is_property_name, is_value, read_reference, trim
 
 COMPARATORS = (b'>>', b'<<', b'!', b'>', b'<')  # longest first
 BARRED = b'[]|<>'
@@ -49,6 +49,11 @@ class Piece(NamedTuple):
 
 class NoReading(Exception):
     pass
+
+
+def name_in(text):
+    """A name composed; what breaks the rule is kept for the refusal."""
+    return text if composed(text) is None else composed(text)
 
 
 class Reader:
@@ -113,7 +118,7 @@ class Reader:
         while self.taken(b'||'):
             alternatives.append(self.alternative(depth))
         self.expect(b']]')
-        return Property(names, alternatives)
+        return Property(list(map(name_in, names)), alternatives)
 
     def alternative(self, depth):
         self.blanks()
@@ -141,13 +146,13 @@ class Reader:
             return Identifiers([self.identifier(piece) for piece in pieces])
         names = [trim(after)] + [piece.text for piece in pieces[1:]]
         self.want(15, all(map(is_name, names)) and not any(piece.comparator for piece in pieces))
-        return Categories(names)
+        return Categories(list(map(name_in, names)))
 
     def identifier(self, piece):
         before, colon, after = piece.text.partition(b':')
         if not piece.comparator and colon and trim(after) == b'+':
             self.want(15, is_namespace(trim(before)))
-            return Namespace(trim(before))
+            return Namespace(name_in(trim(before)))
         reference = read_reference(piece.text)
         self.want(15, reference is not None)
         return Reference(piece.comparator, reference)

@@ -3,7 +3,7 @@ import re
 from functools import lru_cache
 from typing import NamedTuple
 
-from values import is_name, is_namespace, is_property_name, is_storable, is_value, read_value, spelling
+from values import composed, is_composed, is_name, is_namespace, is_property_name, is_storable, is_value, read_value, spelling
 
 QUOTED = rb'"([^"\n]*)"'
 FORM = rb' \((?:cat ' + QUOTED + rb'|val ' + QUOTED + rb' ' + QUOTED + rb')\)'
@@ -67,6 +67,13 @@ def breaks_a_rule(lines):
         kept = kept and is_namespace(namespace) and is_name(name) and all(map(is_name, categories))
         kept = kept and all(is_property_name(prop) and is_value(text) for prop, text in values)
     return not kept
+
+
+def composed_lines(lines):
+    """The same with names composed; all of them keep the rule. Values stay as typed."""
+    pages = [(composed(namespace), composed(name), list(map(composed, categories)), [(composed(prop), text) for prop, text in values])
+             for namespace, name, categories, values in lines.pages]
+    return Lines([(composed(name), kind) for name, kind in lines.props], pages)
 
 
 def declares_twice(lines):
@@ -134,17 +141,17 @@ def limits_passed(register):
 
 def is_page(page, kinds):
     kept = is_namespace(page.namespace) and is_name(page.name) and all(map(is_name, page.categories))
+    kept = kept and all(map(is_composed, (page.namespace, page.name, *page.categories)))
     return kept and all(kinds.get(prop) == value[0] and is_storable(value) for prop, value in page.held)
 
 
 def is_register(register):
     """The rules behind 3 to 6 and the limits."""
-    kept = all(map(is_property_name, register.kinds)) and len(register.places) == len(register.pages)
+    kept = all(is_property_name(name) and is_composed(name) for name in register.kinds) and len(register.places) == len(register.pages)
     return kept and all(is_page(page, register.kinds) for page in register.pages) and not limits_passed(register)
 
 
 CONDITIONS = (
-    (3, breaks_a_rule),
     (4, declares_twice),
     (5, lacks_a_prop_line),
     (6, has_an_unfit_value),
@@ -160,6 +167,9 @@ def register_call(text):
     lines = read_lines(text)
     if lines is None:
         return 2, None
+    if breaks_a_rule(lines):
+        return 3, None
+    lines = composed_lines(lines)
     for number, holds in CONDITIONS:
         if holds(lines):
             return number, None

@@ -1,10 +1,27 @@
-"""Another text of the same register: other lines and forms between each other, repeats, other spellings of values."""
-from register import read_lines
+"""Another text of the same register: other lines and forms between each other, repeats, other spellings of names and values."""
+import re
+import unicodedata
+
+from register import composed_lines, read_lines
 from values import read_value, spelling
 
 WORDS = {True: [b'true', b'yes', b'1'], False: [b'false', b'no', b'0']}
 COLONS = [b':', b':', b' :', b': ', b' : ', b'  :', b':  ', b'  :  ']
 MAIN = [b'', b'', b'', b':', b':', b': ', b':  ']  # before a name of the main namespace
+
+
+LETTER = re.compile(rb'[\xc3-\xc5][\x80-\xbf]')
+
+
+def retyped(rng, text):
+    """Some accented letters as a letter and a mark."""
+    return LETTER.sub(lambda found: unicodedata.normalize('NFD', found[0].decode()).encode() if rng.random() < 0.5 else found[0], text)
+
+
+def typed(rng, name):
+    """Another spelling of a name; the shortest where the one drawn is over 64 bytes."""
+    text = retyped(rng, name)
+    return text if len(text) <= 64 else name
 
 
 def mixed(rng, one, other):
@@ -27,7 +44,7 @@ def spelled_boolean(rng, truth):
 
 def spelled_link(rng, link):
     namespace, name = link
-    return namespace + rng.choice(COLONS if namespace else MAIN) + name
+    return typed(rng, namespace) + rng.choice(COLONS if namespace else MAIN) + typed(rng, name)
 
 
 SPELLED = {b'string': lambda rng, text: text, b'number': spelled_number, b'boolean': spelled_boolean, b'page': spelled_link}
@@ -51,11 +68,11 @@ def with_repeats(rng, forms):
 
 def respelled(rng, text):
     """Another text of the register that an accepted text gives; its forms or bytes may be too many."""
-    lines = read_lines(text)
+    lines = composed_lines(read_lines(text))
     kinds, pages = dict(lines.props), []
     for namespace, name, categories, values in lines.pages:
         values = with_repeats(rng, [(prop, read_value(kinds[prop], one)) for prop, one in values])
-        values = [b' (val "%s" "%s")' % (prop, spelled(rng, one)) for prop, one in values]
-        categories = [b' (cat "%s")' % one for one in with_repeats(rng, categories)]
-        pages.append(b'(page "%s" "%s"%s)\n' % (namespace, name, b''.join(mixed(rng, categories, values))))
-    return b''.join(mixed(rng, [b'(prop "%s" %s)\n' % one for one in lines.props], pages))
+        values = [b' (val "%s" "%s")' % (typed(rng, prop), spelled(rng, one)) for prop, one in values]
+        categories = [b' (cat "%s")' % typed(rng, one) for one in with_repeats(rng, categories)]
+        pages.append(b'(page "%s" "%s"%s)\n' % (typed(rng, namespace), typed(rng, name), b''.join(mixed(rng, categories, values))))
+    return b''.join(mixed(rng, [b'(prop "%s" %s)\n' % (typed(rng, name), kind) for name, kind in lines.props], pages))

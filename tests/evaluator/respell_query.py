@@ -1,5 +1,6 @@
-"""Another text of the same surface query: other groups, blanks, and AND written or not."""
+"""Another text of the same surface query: other groups, blanks, names typed in another way, and AND written or not."""
 from reading import Categories, Exists, Identifiers, Namespace, Query
+from respell import typed
 
 
 class Respeller:
@@ -44,19 +45,23 @@ class Respeller:
 
     def body(self, term):
         if isinstance(term, Categories):
-            return self.spaced(b'Category', b':') + self.several(term.names)
+            return self.spaced(b'Category', b':') + self.several([self.name(one) for one in term.names])
         if isinstance(term, Identifiers):
             return self.several([self.identifier(one) for one in term.selectors])
-        return b'.'.join(map(self.spaced, term.head)) + b'::' + self.several([self.alternative(one) for one in term.alternatives])
+        return b'.'.join(self.spaced(self.name(one)) for one in term.head) + b'::' + self.several([self.alternative(one) for one in term.alternatives])
+
+    def name(self, name):
+        return typed(self.rng, name)
 
     def several(self, texts):
         return b'||'.join(map(self.spaced, texts))
 
     def identifier(self, one):
         if isinstance(one, Namespace):
-            return self.spaced(one.name, b':', b'+')
+            return self.spaced(self.name(one.name), b':', b'+')
         namespace, name = one.reference
-        return one.comparator + self.blank() + (name if namespace is None else namespace + self.blank() + b':' + self.blank() + name)
+        before = b'' if namespace is None else self.name(namespace) + self.blank() + b':' + self.blank()
+        return one.comparator + self.blank() + before + self.name(name)
 
     def alternative(self, one):
         if isinstance(one, Query):

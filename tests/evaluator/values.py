@@ -1,5 +1,6 @@
-"""Names, references, values and kinds. Bytes are `bytes`."""
+"""Names, references, values and kinds. Bytes are `bytes`; names are given composed."""
 import re
+import unicodedata
 from functools import lru_cache
 
 BLANKS = b' \n'
@@ -8,6 +9,10 @@ BIAS = 10 ** 15
 SCALARS = {b'number': range(1, 2 * BIAS), b'boolean': range(2)}  # the codes of each
 NUMBER = re.compile(rb'-?[0-9]{1,15}')
 BOOLEANS = {b'true': True, b'yes': True, b'1': True, b'false': False, b'no': False, b'0': False}
+
+
+# The marks that occur in decompositions of U+00C0 to U+017F.
+MARKS = set(''.join(unicodedata.normalize('NFD', chr(code))[1:] for code in range(0xC0, 0x180)))
 
 
 def trim(text):
@@ -21,8 +26,21 @@ def keeps(text, barred):
     return 1 <= len(text) <= 64 and allowed and trim(text) == text
 
 
+@lru_cache(10000)
+def composed(text):
+    """The composed form of the bytes of a name, None where its code points or marks break the rule."""
+    try:
+        typed = text.decode()
+    except UnicodeDecodeError:
+        return None
+    whole = unicodedata.normalize('NFC', typed)
+    allowed = all(32 <= ord(one) <= 126 or 0xA0 <= ord(one) <= 0x17F or one in MARKS for one in typed)
+    return whole.encode() if allowed and all(one not in MARKS and ord(one) <= 0x17F for one in whole) else None
+
+
 def is_name(text):
-    return keeps(text, b'[]|<>:#{}_"') and text[:1] not in (b'!', b'~', b'+')
+    """As typed."""
+    return keeps(text, b'[]|<>:#{}_"') and text[:1] not in (b'!', b'~', b'+') and composed(text) is not None
 
 
 def is_namespace(text):
@@ -33,6 +51,10 @@ def is_property_name(text):
     return is_name(text) and b'.' not in text
 
 
+def is_composed(text):
+    return composed(text) == text
+
+
 def is_value(text):
     return keeps(text, b'[]|<>"') and text[:1] != b'~'
 
@@ -41,9 +63,9 @@ def read_reference(text):
     """(namespace, name), the namespace None where none is written; None where the text is no reference."""
     before, colon, after = text.partition(b':')
     if not colon:
-        return (None, text) if is_name(text) else None
+        return (None, composed(text)) if is_name(text) else None
     namespace, name = trim(before), trim(after)
-    return (namespace, name) if is_namespace(namespace) and is_name(name) else None
+    return (composed(namespace), composed(name)) if is_namespace(namespace) and is_name(name) else None
 
 
 @lru_cache(10000)

@@ -12,9 +12,9 @@ use lib.ListN.{length, drop}
 use Rattle.text.specs.Bytes.{Bytes, any}
 use Rattle.language.specs.Answer.{Answer, refused, accepted, acceptedOf, orRefuse, Check, _if_, judge, found, andThen}
 use Rattle.language.specs.Register.{Register, Typing, kindsOf}
-use Rattle.language.specs.RegisterText.{Entry, entries, registerOf, readRegister}
+use Rattle.language.specs.RegisterText.{Entry, entries, composedEntries, registerOf, readRegister}
 use Rattle.language.specs.RegisterText as RegisterText
-use Rattle.language.specs.Surface.{Query, propertiesOf}
+use Rattle.language.specs.Surface.{Query, propertiesOf, composedQuery}
 use Rattle.language.specs.RawQuery.{RawQuery, readWhole}
 use Rattle.language.specs.QueryText.{surface, readText}
 use Rattle.language.specs.QueryText as QueryText
@@ -67,7 +67,7 @@ nothing (some a) k = refl
 pub register-refuses : (t h : Bytes) → refusalOf (registerCall t h) ≡ lowest (registerTable t h)
 unfolding registerCall stored placed readRegister registerTable
 register-refuses t h =
-    read-then 1 2 (ltb 32768 (length t)) (entries t) RegisterText.checks registerOf (λ R. []) (8 if ltb (length h) registerSize ∷ []) _ (λ R. last 8 (ltb (length h) registerSize) _)
+    read-then 1 2 (ltb 32768 (length t)) (entries t) RegisterText.checks (λ l. registerOf (composedEntries l)) (λ R. []) (8 if ltb (length h) registerSize ∷ []) _ (λ R. last 8 (ltb (length h) registerSize) _)
     ∙ ap (λ l. lowest (1 if ltb 32768 (length t) ∷ 2 if lacks (entries t) ∷ (found (entries t) RegisterText.checks [] ++ l))) (nothing (acceptedOf (readRegister t)) (8 if ltb (length h) registerSize ∷ []))
 
 pub join-refuses : (h k b : Bytes) → refusalOf (joinCall h k b) ≡ lowest (joinTable h k b)
@@ -106,7 +106,7 @@ core-then : {B : Type 0} (s : Bytes) (R : Register) (k : List Check) (f : Core �
 unfolding coreOf readText fit fitTable
 core-then s R k f e =
     ap refusalOf (then-assoc (readText s) (fit (kindsOf R)) f)
-    ∙ read-then 12 13 (ltb 1024 (length s)) (readWhole s) QueryText.checks surface (fitTable (kindsOf R)) k (λ q. andThen (fit (kindsOf R) q) f) (λ q. fit-then (any (isUndeclared (kindsOf R)) (propertiesOf q)) (elaborate q (kindsOf R)) (λ c. ltb 256 (nodes c)) k f e)
+    ∙ read-then 12 13 (ltb 1024 (length s)) (readWhole s) QueryText.checks (λ q. composedQuery (surface q)) (fitTable (kindsOf R)) k (λ q. andThen (fit (kindsOf R) q) f) (λ q. fit-then (any (isUndeclared (kindsOf R)) (propertiesOf q)) (elaborate q (kindsOf R)) (λ c. ltb 256 (nodes c)) k f e)
 
 pub query-refuses : (h s b : Bytes) → refusalOf (queryCall h s b) ≡ lowest (queryTable h s b)
 unfolding queryCall writtenIn queryTable lowest
@@ -119,7 +119,7 @@ query-refuses h s b = go (heldRegister h)
 pub read-refuses : (s b : Bytes) → refusalOf (readCall s b) ≡ lowest (readTable s b)
 unfolding readCall writtenIn readText readTable
 read-refuses s b =
-    read-then 12 13 (ltb 1024 (length s)) (readWhole s) QueryText.checks surface (λ q. []) (33 if ltb (length b) treeSize ∷ []) _ (λ q. last 33 (ltb (length b) treeSize) _)
+    read-then 12 13 (ltb 1024 (length s)) (readWhole s) QueryText.checks (λ q. composedQuery (surface q)) (λ q. []) (33 if ltb (length b) treeSize ∷ []) _ (λ q. last 33 (ltb (length b) treeSize) _)
     ∙ ap (λ l. lowest (12 if ltb 1024 (length s) ∷ 13 if lacks (readWhole s) ∷ (found (readWhole s) QueryText.checks [] ++ l))) (nothing (acceptedOf (readText s)) (33 if ltb (length b) treeSize ∷ []))
 
 pub fit-refuses : (t h b : Bytes) → refusalOf (fitCall t h b) ≡ lowest (fitCallTable t h b)

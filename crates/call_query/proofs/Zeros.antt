@@ -11,7 +11,7 @@ use Rattle.text.specs.Bytes.{Bytes, any}
 use Rattle.language.specs.Answer.{Answer, refused, accepted, numberOf, judge, _if_, found}
 use Rattle.language.specs.Register.{Typing}
 use Rattle.language.specs.RawQuery.{RawQuery, readWhole}
-use Rattle.language.specs.Surface.{Query, propertiesOf}
+use Rattle.language.specs.Surface.{Query, composedQuery, propertiesOf}
 use Rattle.language.specs.QueryText.{depth, longest, breaks, breaksValue, surface, checks, readText}
 use Rattle.language.specs.Core.{Core, nodes}
 use Rattle.language.specs.Elaboration.{elaborate, isUndeclared, fit}
@@ -30,11 +30,11 @@ zero-read s = long (ltb 1024 (length s))
     judged false false true q e = absurd (omega arith)
     judged false false false q e = (q, refl)
 
-    read : (o : Option RawQuery) → Zero (found o (λ q. judge (checks q) (surface q)) (refused 13))
+    read : (o : Option RawQuery) → Zero (found o (λ q. judge (checks q) (composedQuery (surface q))) (refused 13))
     read none e = absurd (omega arith)
-    read (some q) e = judged (ltb 8 (max (depth q) (longest q))) (breaks q) (breaksValue q) (surface q) e
+    read (some q) e = judged (ltb 8 (max (depth q) (longest q))) (breaks q) (breaksValue q) (composedQuery (surface q)) e
 
-    long : (b : Bool) → Zero (cond b (refused 12) (found (readWhole s) (λ q. judge (checks q) (surface q)) (refused 13)))
+    long : (b : Bool) → Zero (cond b (refused 12) (found (readWhole s) (λ q. judge (checks q) (composedQuery (surface q))) (refused 13)))
     long true e = absurd (omega arith)
     long false e = read (readWhole s) e
 

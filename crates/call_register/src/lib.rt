@@ -1,14 +1,19 @@
 // The register call: judges a register text, and writes the held register.
+ghost use mathlib.Core.Path.{_≡_};
+ghost use lib.Dec.{ltb};
+ghost use Rattle.text.specs.Bytes.{all};
 ghost use Rattle.language.specs.Answer.{Answered};
 ghost use Rattle.call_answers.specs.Calls.{registerCall};
-ghost use Rattle.call_register.specs.Writing.{Writes};
+ghost use Rattle.call_register.specs.Writing.{Writes, Registers, RegistersTyped};
 use register_form::layout;
 use register_form_assembly::terms::put_own;
 use register_form_write::write_draft;
 use register_text_draft::draft_text;
+use register_text_entries::composing::compose;
 use register_text_verdict::judge;
+use register_text_verdict::judge_typed;
 
-// Writes the register of an accepted text: 0, or 8 where the buffer is too short.
+// Writes the register of accepted rows: 0, or 8 where the buffer is too short.
 fn write_text(text: &[u8], t: &[u16], n: usize, props: &[u16], np: usize, held: &mut [u8]) -> usize
     ensures { λ r. ⌜ Writes (now (text .entry)) (now (t .entry)) (now (props .entry)) n np (now (held .entry)) r (now (held .exit)) ⌝ }
 {
@@ -58,16 +63,54 @@ fn write_text(text: &[u8], t: &[u16], n: usize, props: &[u16], np: usize, held: 
     )
 }
 
+// Judges the first n rows, over the text c, whose names are composed, and writes their register: 0, or the lowest of 4 to 8.
+fn register_rows(c: &[u8], t: &[u16], n: usize, held: &mut [u8]) -> usize
+    ensures { λ r. ⌜ Registers (now (c .entry)) (now (t .entry)) n (now (held .entry)) r (now (held .exit)) ⌝ }
+{
+    let mut props = [0u16; 5500];
+    let mut pages = [0u16; 5500];
+    let judged = judge(c, t, n, &mut props, &mut pages);
+    if judged.number != 0 {
+        return judged.number;
+    }
+    write_text(c, t, n, &props, judged.props, held)
+}
+
+// The same of rows as typed: their names are composed first.
+fn register_typed(text: &[u8], t: &[u16], n: usize, held: &mut [u8]) -> usize
+    ensures { λ r. ⌜ RegistersTyped (now (text .entry)) (now (t .entry)) n (now (held .entry)) r (now (held .exit)) ⌝ }
+{
+    let mut copy = [0u8; 32768];
+    let mut rows = [0u16; 27500];
+    compose(text, t, n, &mut copy, &mut rows);
+    register_rows(&copy, &rows, n, held)
+}
+
+// Whether all bytes are below 128: then there is nothing to compose. It never stops before the end, so that a compiler takes many bytes
+// at a time.
+fn is_ascii(s: &[u8]) -> bool
+    ensures { λ r. ⌜ r ≡ all (λ b. ltb b 128) (now (s .entry)) ⌝ }
+{
+    let mut ascii = true;
+    let mut i: usize = 0;
+    while i < s.len() {
+        ascii = ascii & (s[i] < 128);
+        i += 1;
+    }
+    ascii
+}
+
 // The register call: writes the held register of a text, or answers the number that refuses it.
 pub fn register(text: &[u8], held: &mut [u8]) -> usize
     ensures { λ r. ⌜ Answered (registerCall (now (text .entry)) (now (held .entry))) (now (held .entry)) r (now (held .exit)) ⌝ }
 {
     let mut t = [0u16; 27500];
-    let mut props = [0u16; 5500];
-    let mut pages = [0u16; 5500];
-    let judged = judge(text, &mut t, &mut props, &mut pages);
-    if judged.number != 0 {
-        return judged.number;
+    let typed = judge_typed(text, &mut t);
+    if typed.number != 0 {
+        return typed.number;
     }
-    write_text(text, &t, judged.rows, &props, judged.props, held)
+    if is_ascii(text) {
+        return register_rows(text, &t, typed.rows, held);
+    }
+    register_typed(text, &t, typed.rows, held)
 }

@@ -7,7 +7,7 @@ use Rattle.text.specs.Bytes.{Bytes, bytes, orderOf, same, any, all}
 use Rattle.text.specs.declared.Order.{Order}
 use Rattle.text.proofs.Laws.{same-eq, all-append}
 use Rattle.values.specs.declared.Kind.{Kind}
-use Rattle.values.specs.Names.{Reference, bare, qualified, reference, isReference}
+use Rattle.values.specs.Names.{Reference, bare, qualified, reference, isReference, composedReference}
 use Rattle.values.specs.Values.{Constant, Value, plain, link, kindOf, kindOfConstant, orderConstants, mapOption, readConstant, sameKind}
 use Rattle.language.specs.Answer.{Answer, accepted, _>>=_, found, onlyIf}
 use Rattle.language.specs.Comparators.{word, isEqual, strictly, orEqual}
@@ -190,7 +190,7 @@ module _ (Γ : Typing) (R : Register) (kinds : kindsHold R ≡ true) where
   unfolding meansValue
   nothing-meant x e c v Kind.Page p m = go (isReference (reference v))
     where
-      go : (b : Bool) → cond b (holds x (leads R (meansReference c (reference v))) p) false ≡ false
+      go : (b : Bool) → cond b (holds x (leads R (meansReference c (composedReference (reference v)))) p) false ≡ false
       go true = nothing-held x e _ p m
       go false = refl
   nothing-meant x e c v (Kind.Scalar k) p m = none-of x e c p m (readConstant (Kind.Scalar k) v)
@@ -205,8 +205,8 @@ module _ (Γ : Typing) (R : Register) (kinds : kindsHold R ≡ true) where
   unfolding elaborateValue meansValue
   value-means x c v Kind.Page o = go (isReference (reference v))
     where
-      go : (b : Bool) → OnSome (Means R (λ p. cond b (holds x (leads R (meansReference c (reference v))) p) false)) (cond b (some (Core.select (Selector.subquery x (elaborateReference c (reference v))))) none)
-      go true = subquery-means R x _ _ o (reference-means R c (reference v))
+      go : (b : Bool) → OnSome (Means R (λ p. cond b (holds x (leads R (meansReference c (composedReference (reference v)))) p) false)) (cond b (some (Core.select (Selector.subquery x (elaborateReference c (composedReference (reference v)))))) none)
+      go true = subquery-means R x _ _ o (reference-means R c (composedReference (reference v)))
       go false = tt
   value-means x c v (Kind.Scalar k) o = constants x c (Kind.Scalar k) o (readConstant (Kind.Scalar k) v) (constant-kind (Kind.Scalar k) v)
   value-means x c v Kind.String o = constants x c Kind.String o (readConstant Kind.String v) (constant-kind Kind.String v)

@@ -45,12 +45,12 @@ abbrev pub owed : Place → ℕ
 owed line = 0
 owed inner = 4
 
--- The bytes of an entry's names and value, and the four by which `false` is longer than `0`. A val's property is counted at its prop.
+-- The bytes of an entry's names and value, the four by which `false` is longer than `0`, and the three of `" "` behind what is declared.
 abbrev pub weight : Entry → ℕ
-weight (prop x k) = length x
-weight (page n x) = length n + length x
+weight (prop x k) = length x + 3
+weight (page n x) = length n + length x + 3
 weight (cat x) = length x
-weight (val x v) = length v + 4
+weight (val x v) = length x + length v + 4
 weight close = 0
 
 -- An entry at a place of kind p.

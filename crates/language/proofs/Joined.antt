@@ -11,7 +11,8 @@ use lib.Seq.{getD-append-add}
 use Rattle.text.specs.Bytes.{Bytes, same, any, all}
 use Rattle.text.proofs.Laws.{same-eq, all-append}
 use Rattle.values.specs.declared.Kind.{Kind}
-use Rattle.values.specs.Names.{isName, isPropertyName, sameIdentifier}
+use Rattle.names.specs.Names.{isComposedName, isComposedPropertyName}
+use Rattle.values.specs.Names.{sameIdentifier}
 use Rattle.values.specs.Values.{Value, kindOf, mapOption}
 use Rattle.language.specs.Answer.{found}
 use Rattle.language.specs.Register.{Property, Held, Page, Register, kindAmong, kindsOf, hasKind, holds, kindsHold, distinct, sameProperty, samePage}
@@ -44,7 +45,7 @@ module _ (p q : Page) where
       rules-page (joinPage p q)
       (record {
         identifier = r .identifier;
-        categories = union-all same isName (p .categories) (q .categories) (r .categories) (s .categories);
+        categories = union-all same isComposedName (p .categories) (q .categories) (r .categories) (s .categories);
         categoriesOnce = union-distinct same-likeness (p .categories) (q .categories) (r .categoriesOnce) (s .categoriesOnce);
         values = union-all sameHeld (λ h. isStorable (h .value)) (p .values) (q .values) (r .values) (s .values);
         valuesOnce = union-distinct sameHeld-likeness (p .values) (q .values) (r .valuesOnce) (s .valuesOnce);
@@ -191,7 +192,7 @@ module _ (R S : Register) where
       let s = register-rules S h in
       rules-register (join R S)
       (record {
-        properties = union-all sameProperty (λ p. isPropertyName (p .name)) (R .properties) (S .properties) (r .properties) (s .properties);
+        properties = union-all sameProperty (λ p. isComposedPropertyName (p .name)) (R .properties) (S .properties) (r .properties) (s .properties);
         pages = joined-all isPage (r .pages) (s .pages) joined-page;
         propertiesOnce = union-distinct sameProperty-likeness (R .properties) (S .properties) (r .propertiesOnce) (s .propertiesOnce);
         pagesOnce = pages-once (r .pagesOnce) (s .pagesOnce);

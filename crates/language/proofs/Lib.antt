@@ -18,5 +18,6 @@ pub mod Holding
 pub mod Mixing
 pub mod Sets
 pub mod Agreement
+pub mod Spellings
 pub mod Cases
 pub mod Demand

@@ -15,7 +15,7 @@ use Rattle.values.proofs.Laws.{read-kind}
 use Rattle.values.proofs.Sameness.{kind-refl}
 use Rattle.language.specs.Answer.{refused, accepted, Check, _if_, judge, _>>=_, found}
 use Rattle.language.specs.Register.{Property, Held, Page, Register, kindAmong, hasKind, kindsHold, distinct, sameProperty, samePage, Sound}
-use Rattle.language.specs.RegisterText.{Entry, prop, page, cat, val, close, entries, breaksRule, sameDeclared, someTwice, properties, isUndeclared, valueOf, isUnfit, isPage, isInner, countOf, overLimits, sameHeld, withCategory, withValue, emptyPage, filled, pagesOf, registerOf, checks, readRegister}
+use Rattle.language.specs.RegisterText.{Entry, prop, page, cat, val, close, entries, breaksRule, composedEntries, sameDeclared, someTwice, properties, isUndeclared, valueOf, isUnfit, isPage, isInner, countOf, overLimits, sameHeld, withCategory, withValue, emptyPage, filled, pagesOf, registerOf, checks, readRegister}
 use Rattle.language.proofs.Options.{OnSome}
 use Rattle.language.proofs.Members.{or-false, both-true}
 use Rattle.language.proofs.Adding.{held-added, all-added}
@@ -148,39 +148,41 @@ entries-sound l once few =
       fewPages = rw (pages-count (properties l) l) (ltb-false 256 _ (u .1));
     }
 
--- What the checks of an accepted text found.
-pub record Passed (s : Bytes) (l : List Entry) : Type 0 where
+-- What the checks of an accepted text found: k are its entries as typed, l those with names composed.
+pub record Passed (s : Bytes) (k l : List Entry) : Type 0 where
   pub short : length s ≤ 32768
-  pub read : entries s ≡ some l
-  pub ruled : any breaksRule l ≡ false
+  pub read : entries s ≡ some k
+  pub ruled : any breaksRule k ≡ false
+  pub composed : composedEntries k ≡ l
   pub once : someTwice l ≡ false
   pub declared : any (isUndeclared (properties l)) l ≡ false
   pub fit : any (isUnfit (properties l)) l ≡ false
   pub few : overLimits l ≡ false
 
 -- What holds of the register of every text that passes holds of an accepted one.
-pub of-accepted : (P : Register → Type 0) (s : Bytes) (R : Register) → readRegister s ≡ accepted R → ((l : List Entry) → Passed s l → P (registerOf l)) → P R
+pub of-accepted : (P : Register → Type 0) (s : Bytes) (R : Register) → readRegister s ≡ accepted R → ((k l : List Entry) → Passed s k l → P (registerOf l)) → P R
 unfolding readRegister
 of-accepted P s R h f = long (ltb 32768 (length s)) refl h
   where
-    judged : (l : List Entry) → length s ≤ 32768 → entries s ≡ some l → judge (checks l) (registerOf l) ≡ accepted R → P R
-    judged l short read h =
-        let t3 = judge-passed 3 (any breaksRule l) _ (registerOf l) R h in
+    judged : (k : List Entry) → length s ≤ 32768 → entries s ≡ some k → judge (checks k) (registerOf (composedEntries k)) ≡ accepted R → P R
+    judged k short read h =
+        let l = composedEntries k in
+        let t3 = judge-passed 3 (any breaksRule k) _ (registerOf l) R h in
         let t4 = judge-passed 4 (someTwice l) _ (registerOf l) R (t3 .1) in
         let t5 = judge-passed 5 (any (isUndeclared (properties l)) l) _ (registerOf l) R (t4 .1) in
         let t6 = judge-passed 6 (any (isUnfit (properties l)) l) _ (registerOf l) R (t5 .1) in
         let t7 = judge-passed 7 (overLimits l) [] (registerOf l) R (t6 .1) in
         subst P (judge-all (registerOf l) R (t7 .1))
-        (f l (record { short = short; read = read; ruled = t3 .0; once = t4 .0; declared = t5 .0; fit = t6 .0; few = t7 .0 }))
+        (f k l (record { short = short; read = read; ruled = t3 .0; composed = refl; once = t4 .0; declared = t5 .0; fit = t6 .0; few = t7 .0 }))
 
-    taken : (o : Option (List Entry)) → length s ≤ 32768 → entries s ≡ o → found o (λ l. judge (checks l) (registerOf l)) (refused 2) ≡ accepted R → P R
+    taken : (o : Option (List Entry)) → length s ≤ 32768 → entries s ≡ o → found o (λ l. judge (checks l) (registerOf (composedEntries l))) (refused 2) ≡ accepted R → P R
     taken none short read h = absurd (let y : _≡_ {A = ℕ} 0 1 = cc in omega arith)
     taken (some l) short read h = judged l short read h
 
-    long : (b : Bool) → ltb 32768 (length s) ≡ b → cond b (refused 1) (found (entries s) (λ l. judge (checks l) (registerOf l)) (refused 2)) ≡ accepted R → P R
+    long : (b : Bool) → ltb 32768 (length s) ≡ b → cond b (refused 1) (found (entries s) (λ l. judge (checks l) (registerOf (composedEntries l))) (refused 2)) ≡ accepted R → P R
     long true e h = absurd (let y : _≡_ {A = ℕ} 0 1 = cc in omega arith)
     long false e h = taken (entries s) (ltb-false 32768 (length s) e) refl h
 
 -- with no page and no property twice, and every value of its property's kind
 pub accepted-sound : (s : Bytes) (R : Register) → readRegister s ≡ accepted R → Sound R
-accepted-sound s R h = of-accepted Sound s R h (λ l t. entries-sound l (t .once) (t .few))
+accepted-sound s R h = of-accepted Sound s R h (λ k l t. entries-sound l (t .once) (t .few))

@@ -6,7 +6,7 @@ use mathlib.Core.List.{[]}
 use mathlib.Core.Option.{Option, some, none}
 use Rattle.text.specs.Bytes.{Bytes}
 use Rattle.values.specs.declared.Kind.{Kind}
-use Rattle.values.specs.Names.{Reference, bare, qualified, reference, isReference}
+use Rattle.values.specs.Names.{Reference, bare, qualified, reference, isReference, composedReference}
 use Rattle.values.specs.Values.{Constant, kindOfConstant, mapOption, scalar, string, readScalar, readConstant}
 use Rattle.language.specs.Answer.{_>>=_}
 use Rattle.language.specs.Comparators.{isEqual, inAnyNamespace}
@@ -77,8 +77,8 @@ module _ (Γ : Typing) where
   unfolding elaborateValue wellTyped
   value-typed x c v Kind.Page h = go (isReference (reference v))
     where
-      go : (b : Bool) → OnSome Typed (cond b (some (Core.select (Selector.subquery x (elaborateReference c (reference v))))) none)
-      go true = both-true h (reference-typed c (reference v))
+      go : (b : Bool) → OnSome Typed (cond b (some (Core.select (Selector.subquery x (elaborateReference c (composedReference (reference v)))))) none)
+      go true = both-true h (reference-typed c (composedReference (reference v)))
       go false = tt
   value-typed x c v (Kind.Scalar k) h = constant-typed x c (Kind.Scalar k) h (readConstant (Kind.Scalar k) v) (constant-kind (Kind.Scalar k) v)
   value-typed x c v Kind.String h = constant-typed x c Kind.String h (readConstant Kind.String v) (constant-kind Kind.String v)

@@ -5,7 +5,7 @@ use mathlib.Core.Option.{Option, some, none}
 use Rattle.text.specs.Bytes.{Bytes, bytes, orderOf, same, any}
 use Rattle.text.specs.declared.Order.{Order}
 use Rattle.values.specs.declared.Kind.{Kind}
-use Rattle.values.specs.Names.{Reference, bare, qualified, reference, isReference}
+use Rattle.values.specs.Names.{Reference, bare, qualified, reference, isReference, composedReference}
 use Rattle.values.specs.Values.{Constant, Value, plain, link, orderConstants, readConstant}
 use Rattle.language.specs.Answer.{Answer, refused, accepted, found, onlyIf}
 use Rattle.language.specs.Comparators.{word, isEqual}
@@ -69,7 +69,7 @@ standsTo c v (link i) = false
 unfoldable pub meansValue : Register → Bytes → SurfaceComparator → Bytes → Option Kind → Page → Bool
 meansValue R x c v none p = false
 meansValue R x c v (some Kind.Page) p =
-    cond (isReference (reference v)) (holds x (leads R (meansReference c (reference v))) p) false
+    cond (isReference (reference v)) (holds x (leads R (meansReference c (composedReference (reference v)))) p) false
 meansValue R x c v (some (Kind.Scalar k)) p = found (readConstant (Kind.Scalar k) v) (λ w. holds x (standsTo c w) p) false
 meansValue R x c v (some Kind.String) p = found (readConstant Kind.String v) (λ w. holds x (standsTo c w) p) false
 

@@ -6,7 +6,7 @@ use mathlib.Core.Option.{Option, some, none}
 use lib.Dec.{ltb}
 use Rattle.text.specs.Bytes.{Bytes, any}
 use Rattle.values.specs.declared.Kind.{Kind}
-use Rattle.values.specs.Names.{Reference, bare, qualified, reference, isReference}
+use Rattle.values.specs.Names.{Reference, bare, qualified, reference, isReference, composedReference}
 use Rattle.values.specs.Values.{Constant, mapOption, readConstant}
 use Rattle.language.specs.Answer.{Answer, refused, accepted, _>>=_, found}
 use Rattle.language.specs.Comparators.{isEqual, strictly, orEqual, inAnyNamespace}
@@ -55,10 +55,10 @@ abbrev pub subqueryOn : Bytes → Core → Core
 subqueryOn x q = Core.select (Selector.subquery x q)
 
 -- "For page properties this paper decides: a piece, with any comparator, is one subquery over the core query its reference
--- has by 5.3.1." On the other kinds 5.3.3.
+-- has by 5.3.1.", its names composed. On the other kinds 5.3.3.
 unfoldable pub elaborateValue : Bytes → SurfaceComparator → Bytes → Kind → Option Core
 elaborateValue x c v Kind.Page =
-    cond (isReference (reference v)) (some (subqueryOn x (elaborateReference c (reference v)))) none
+    cond (isReference (reference v)) (some (subqueryOn x (elaborateReference c (composedReference (reference v))))) none
 elaborateValue x c v (Kind.Scalar k) = mapOption (elaborateConstant x c) (readConstant (Kind.Scalar k) v)
 elaborateValue x c v Kind.String = mapOption (elaborateConstant x c) (readConstant Kind.String v)
 

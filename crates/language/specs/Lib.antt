@@ -14,4 +14,5 @@ pub mod Sets
 pub mod Direct
 pub mod Agreement
 pub mod Calls
+pub mod Spellings
 pub mod Sample

@@ -5,10 +5,11 @@ use mathlib.Core.List.{List, [], _∷_}
 use lib.Dec.{ltb}
 use lib.ListN.{length}
 use Rattle.text.specs.Bytes.{Bytes, bytes, same, any}
-use Rattle.values.specs.Names.{Reference, bare, qualified, reference, isReference, isName, isPropertyName, isNamespace, isValue}
+use Rattle.names.specs.Names.{isName, isPropertyName, isNamespace}
+use Rattle.values.specs.Names.{Reference, bare, qualified, reference, isReference, isValue}
 use Rattle.language.specs.Answer.{Answer, refused, Check, _if_, judge, found}
 use Rattle.language.specs.Comparators.{isEqual}
-use Rattle.language.specs.Surface.{Chain, single, chain, Categories, Identifiers, Alternatives, Query}
+use Rattle.language.specs.Surface.{Chain, single, chain, Categories, Identifiers, Alternatives, Query, composedQuery}
 use Rattle.language.specs.RawQuery.{Piece, RawAlternatives, RawQuery, readWhole}
 
 -- "Without such a `::`, if the first piece has no comparator and the trimmed text before its first colon is `Category`"
@@ -154,8 +155,8 @@ unfoldable mutual
 abbrev pub checks : RawQuery → List Check
 checks q = 14 if ltb 8 (max (depth q) (longest q)) ∷ 15 if breaks q ∷ 16 if breaksValue q ∷ []
 
--- The surface query of a text, or the lowest of 12 to 16.
+-- The surface query of a text, its names composed, or the lowest of 12 to 16; 15 goes by names as typed.
 unfoldable pub readText : Bytes → Answer Query
 readText s =
     cond (ltb 1024 (length s)) (refused 12)
-    (found (readWhole s) (λ q. judge (checks q) (surface q)) (refused 13))
+    (found (readWhole s) (λ q. judge (checks q) (composedQuery (surface q))) (refused 13))

@@ -1,14 +1,15 @@
 -- The register text: bytes to a register, or the lowest of 1 to 7. Document 01, "The register text".
 use Prim.Native.Nat.{ℕ, zero, suc, _+_}
 use mathlib.Core.Bool.{Bool, true, false, cond, not, _&&_, _||_}
-use mathlib.Core.List.{List, [], _∷_, _++_}
+use mathlib.Core.List.{List, [], _∷_, _++_, map}
 use mathlib.Core.Option.{Option, some, none}
 use lib.Dec.{ltb}
 use lib.ListN.{length, drop}
 use Rattle.text.specs.Bytes.{Bytes, bytes, same, any, front, behind, after}
 use Rattle.text.specs.Class.{isQuotable}
 use Rattle.values.specs.declared.Kind.{Kind}
-use Rattle.values.specs.Names.{Identifier, sameIdentifier, isName, isPropertyName, isNamespace, isValue}
+use Rattle.names.specs.Names.{composedName, isName, isPropertyName, isNamespace}
+use Rattle.values.specs.Names.{Identifier, sameIdentifier, isValue}
 use Rattle.values.specs.Answers.{kindAt}
 use Rattle.values.specs.Values.{Value, kindWord, mapOption, readValue, sameValue}
 use Rattle.language.specs.Answer.{Answer, refused, accepted, Check, _if_, judge, _>>=_, found}
@@ -116,6 +117,18 @@ breaksRule (page n x) = not (isNamespace n && isName x)
 breaksRule (cat x) = not (isName x)
 breaksRule (val x v) = not (isPropertyName x && isValue v)
 breaksRule close = false
+
+-- Names are composed once they are read (document 02, "Accented names typed two ways"), and all below goes by composed names. What a val
+-- writes stays as typed: whether that is a name or a string is its property's affair.
+abbrev pub composedEntry : Entry → Entry
+composedEntry (prop x k) = prop (composedName x) k
+composedEntry (page n x) = page (composedName n) (composedName x)
+composedEntry (cat x) = cat (composedName x)
+composedEntry (val x v) = val (composedName x) v
+composedEntry close = close
+
+unfoldable pub composedEntries : List Entry → List Entry
+composedEntries l = map composedEntry l
 
 -- 4: "a property or a page (namespace and name) declared twice"
 abbrev pub sameDeclared : Entry → Entry → Bool
@@ -235,17 +248,20 @@ pagesOf ps (close ∷ l) = pagesOf ps l
 unfoldable pub registerOf : List Entry → Register
 registerOf l = record { properties = properties l; pages = pagesOf (properties l) l }
 
-abbrev pub checks : List Entry → List Check
-checks l =
-    3 if any breaksRule l
-    ∷ 4 if someTwice l
+abbrev pub checksComposed : List Entry → List Check
+checksComposed l =
+    4 if someTwice l
     ∷ 5 if any (isUndeclared (properties l)) l
     ∷ 6 if any (isUnfit (properties l)) l
     ∷ 7 if overLimits l
     ∷ []
 
+-- 3 goes by names as typed: "Length is counted as typed."
+abbrev pub checks : List Entry → List Check
+checks l = 3 if any breaksRule l ∷ checksComposed (composedEntries l)
+
 -- The register that a text gives, or the lowest of 1 to 7.
 unfoldable pub readRegister : Bytes → Answer Register
 readRegister s =
     cond (ltb 32768 (length s)) (refused 1)
-    (found (entries s) (λ l. judge (checks l) (registerOf l)) (refused 2))
+    (found (entries s) (λ l. judge (checks l) (registerOf (composedEntries l))) (refused 2))

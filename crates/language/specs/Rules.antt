@@ -1,4 +1,4 @@
--- What a register is. Request 9: "From now on a register is anything that keeps the rules behind 3 to 6 and is within the limits,
+-- What a register is; its names are composed. Request 9: "From now on a register is anything that keeps the rules behind 3 to 6 and is within the limits,
 -- whether or not one text gives it, and counts as accepted".
 use Prim.Native.Nat.{ℕ, _+_}
 use mathlib.Core.Bool.{Bool, true, false, _&&_}
@@ -6,14 +6,15 @@ use mathlib.Core.List.{List, [], _∷_}
 use lib.Dec.{leb}
 use lib.ListN.{length}
 use Rattle.text.specs.Bytes.{Bytes, same, all}
-use Rattle.values.specs.Names.{Identifier, isName, isPropertyName, isNamespace, isValue}
+use Rattle.names.specs.Names.{isComposedName, isComposedPropertyName, isComposedNamespace}
+use Rattle.values.specs.Names.{Identifier, isValue}
 use Rattle.values.specs.Values.{Constant, scalar, string, Value, plain, link, inRange}
 use Rattle.values.specs.Spelling.{spelling}
 use Rattle.language.specs.Register.{Property, Held, Page, Register, kindsHold, distinct, sameProperty, samePage}
 use Rattle.language.specs.RegisterText.{sameHeld}
 
 unfoldable pub isIdentifier : Identifier → Bool
-isIdentifier i = isNamespace (i .namespace) && isName (i .article)
+isIdentifier i = isComposedNamespace (i .namespace) && isComposedName (i .article)
 
 -- A value keeps its rule. A link does so at its shortest spelling.
 unfoldable pub isStorable : Value → Bool
@@ -25,7 +26,7 @@ isStorable (link i) = isIdentifier i && isValue (spelling (link i))
 unfoldable pub isPage : Page → Bool
 isPage p =
     isIdentifier (p .identifier)
-    && all isName (p .categories)
+    && all isComposedName (p .categories)
     && distinct same (p .categories)
     && all (λ h. isStorable (h .value)) (p .values)
     && distinct sameHeld (p .values)
@@ -60,7 +61,7 @@ isWithinLimits R =
 -- of its kind (6).
 unfoldable pub isRegister : Register → Bool
 isRegister R =
-    all (λ p. isPropertyName (p .name)) (R .properties)
+    all (λ p. isComposedPropertyName (p .name)) (R .properties)
     && all isPage (R .pages)
     && distinct sameProperty (R .properties)
     && distinct samePage (R .pages)

@@ -10,14 +10,19 @@ use lib.ListN.{getD}
 use borrow.Author.Tests.{ltb-true, le-leb, eqb-false}
 use Rattle.text.specs.Bytes.{Bytes, all, isBlank}
 use Rattle.text.specs.Class.{oneOf, isNameByte}
-use Rattle.values.specs.Names.{isSized, first, last, isName as isNameBefore, isPropertyName as isPropertyNameBefore, isNamespace as isNamespaceBefore}
+use Rattle.text.proofs.Laws.{same-refl}
 use Rattle.names.specs.Codes.{isPlain, isPair, before, read}
-use Rattle.names.specs.Names.{isMarkless, composed, composedCodes, isSome, hasNameShape, isName, isPropertyName, isNamespace}
+use Rattle.names.specs.Names.{isMarkless, composed, composedCodes, isSome, hasNameShape, isName, isForm, isComposedName, isSized, first, last}
 use Rattle.names.proofs.Reading.{plain-range, reading, reads-written, paired, read-plain, read-none}
 use Rattle.names.proofs.Composing.{no-mark, markless-composed}
 
 abbrev pub isAscii : Bytes → Bool
 isAscii s = all (λ b. ltb b 128) s
+
+-- Document 01's rule: "1 to 64 bytes, none below 32, not 127, none of `[ ] | < > : # { } _ "`. It does not begin with `!`, `~`, `+` or
+-- a blank and does not end with a blank."
+unfoldable pub isNameBefore : Bytes → Bool
+isNameBefore s = isSized s && all isNameByte s && not (oneOf "!~+" (first s)) && not (isBlank (first s)) && not (isBlank (last s))
 
 -- A text of plain code points.
 plain-read : (s : Bytes) → all isPlain s ≡ true → read s ≡ some s
@@ -107,10 +112,10 @@ ascii-name s h =
     go true = refl
     go false = refl
 
-pub ascii-property-name : (s : Bytes) → isAscii s ≡ true → isPropertyName s ≡ isPropertyNameBefore s
-unfolding isPropertyName isPropertyNameBefore
-ascii-property-name s h = rw (ascii-name s h)
-
-pub ascii-namespace : (s : Bytes) → isAscii s ≡ true → isNamespace s ≡ isNamespaceBefore s
-unfolding isNamespace isNamespaceBefore
-ascii-namespace s h = rw (ascii-name s h)
+pub ascii-composed-name : (s : Bytes) → isAscii s ≡ true → isComposedName s ≡ (hasNameShape s && all isPlain s)
+unfolding isComposedName isName
+ascii-composed-name s h = rw (ascii-composed s h, ← ascii-bytes s h) (go (all isPlain s))
+  where
+    go : (p : Bool) → (hasNameShape s && isSome (cond p (some s) none) && isForm s (cond p (some s) none)) ≡ (hasNameShape s && p)
+    go true = rw (same-refl s) (and-true (hasNameShape s && true))
+    go false = and-false (hasNameShape s && false) ∙ sym (and-false (hasNameShape s))

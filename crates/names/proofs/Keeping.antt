@@ -11,9 +11,8 @@ use borrow.Author.Tests.{eq-eqb, ne-eqb, lt-ltb}
 use Rattle.text.specs.Bytes.{Bytes, same as sameBytes, any, all, isBlank}
 use Rattle.text.proofs.Laws.{same-eq, same-refl}
 use Rattle.text.specs.Class.{oneOf, isOther}
-use Rattle.values.specs.Names.{first, last}
 use Rattle.names.specs.Codes.{pairCode, encode, write}
-use Rattle.names.specs.Names.{composed, isSome, hasNameShape, isName, isPropertyName, isForm, isComposedName}
+use Rattle.names.specs.Names.{composed, isSome, hasNameShape, isName, isPropertyName, isForm, isComposedName, first, last}
 use Rattle.names.specs.Steps.{lengthAfter, nameLength}
 use Rattle.names.proofs.Entries.{composition-is, ranges}
 use Rattle.names.proofs.Reading.{Reading, end, plain, pair, reading, plain-range, mark-range, wide-range, paired, wide-letter, encode-plain, encode-pair, encode-wide}
@@ -21,7 +20,7 @@ use Rattle.names.proofs.Composing.{Composing, composing, form, composed
 use Rattle.names.proofs.Naming.{Shaped, shaped, shape, composed-long}
 
 -- Every byte is kept but a letter's and its mark's, for which there are bytes from 128 up.
-data Kept : Bytes → Bytes → Type 0 where
+pub data Kept : Bytes → Bytes → Type 0 where
   nothing : Kept [] []
   same : {s t : Bytes} (a : ℕ) → Kept s t → Kept (a ∷ s) (a ∷ t)
   fewer : {s t : Bytes} (a b c x y : ℕ) → 128 ≤ x → 128 ≤ y → Kept s t → Kept (a ∷ b ∷ c ∷ s) (x ∷ y ∷ t)
@@ -45,7 +44,7 @@ keeps (pair a b h r) (Composing.marked c d e f q) =
     let i = composition-is c d e f in
     absurd (omega (arith, wide-range (pairCode a b) (paired a b h .wide), i .0, ranges e (i .2) .letter-most))
 
-composed-keeps : (s t : Bytes) → composed s ≡ some t → Kept s t
+pub composed-keeps : (s t : Bytes) → composed s ≡ some t → Kept s t
 composed-keeps s t h =
     let f = form s t h in
     rw (← f .is) (keeps (reading s (f .codes) (f .typed)) (composing (f .codes)))
@@ -63,7 +62,7 @@ last-is : (s : Bytes) → last s ≡ lastOr 0 s
 last-is [] = refl
 last-is (a ∷ s) = ap (λ (n : ℕ). getD (a ∷ s) n 0) (let e : suc (length s) - 1 ≡ length s = omega arith in e) ∙ last-at a s
 
-kept-length : {s t : Bytes} → Kept s t → length t ≤ length s
+pub kept-length : {s t : Bytes} → Kept s t → length t ≤ length s
 kept-length nothing = omega arith
 kept-length (same a k) = let h = kept-length k in omega arith
 kept-length (fewer a b c x y p q k) = let h = kept-length k in omega arith

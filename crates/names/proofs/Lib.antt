@@ -8,4 +8,5 @@ pub mod Walking
 pub mod Ascii
 pub mod Naming
 pub mod Keeping
+pub mod Composed
 pub mod Examples

@@ -11,12 +11,10 @@ use lib.ListN.{length, getD, length-append}
 use borrow.Author.Tests.{leb-true, le-leb, lt-leb, lt-ltb, not-true, not-false}
 use Rattle.text.specs.Bytes.{Bytes, all, isBlank}
 use Rattle.text.specs.Class.{oneOf}
-use Rattle.values.specs.Names.{isSized, first, last}
 use Rattle.names.specs.Codes.{isPlain, encode}
-use Rattle.names.specs.Names.{composed, isSome, hasNameShape, isName}
-use Rattle.names.specs.Steps.{letterAt, spelled, lengthAfter, nameLength}
-use Rattle.buffer.specs.Writing.{written}
-use Rattle.names.proofs.Walking.{composed-split, encode-size, spelled-composed}
+use Rattle.names.specs.Names.{composed, isSome, hasNameShape, isName, isSized, first, last}
+use Rattle.names.specs.Steps.{letterAt, lengthAfter, nameLength}
+use Rattle.names.proofs.Walking.{composed-split, encode-size}
 use Rattle.names.proofs.Ascii.{plain-composed}
 
 -- What the test of the shape answers.
@@ -81,7 +79,3 @@ length-name s n e = rw e (go (hasNameShape s) (composed s) refl refl)
     go true (some t) h k = lt-ltb 0 (0 + length t) (omega (arith, composed-long s t k (shaped s h .least)))
     go false none h k = refl
     go false (some t) h k = refl
-
--- What is written of a text of plain code points.
-pub put-plain : (h g : Bytes) (at : ℕ) (s : Bytes) (q : Bool) → q ≡ all isPlain s → q ≡ true → g ≡ written h at s → g ≡ written h at (spelled s)
-put-plain h g at s q f e k = k ∙ rw (spelled-composed s s (plain-composed s (sym f ∙ e)))

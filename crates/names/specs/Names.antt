@@ -1,14 +1,13 @@
 -- Names in two spellings. Document 02, "Accented names typed two ways"; Unicode Standard Annex 15.
-use Prim.Native.Nat.{ℕ}
+use Prim.Native.Nat.{ℕ, _-_}
 use mathlib.Core.Path.{_≡_}
 use mathlib.Core.Bool.{Bool, true, false, cond, not, _&&_, _||_}
 use mathlib.Core.List.{List, [], _∷_, _++_}
 use mathlib.Core.Option.{Option, some, none}
-use lib.Dec.{eqb}
-use lib.ListN.{length}
+use lib.Dec.{eqb, leb}
+use lib.ListN.{length, getD}
 use Rattle.text.specs.Bytes.{Bytes, same, all, isBlank}
 use Rattle.text.specs.Class.{oneOf, isOther}
-use Rattle.values.specs.Names.{isSized, first, last}
 use Rattle.names.specs.Table.{Entry, composition, decomposition}
 use Rattle.names.specs.Codes.{isMark, read, write}
 
@@ -39,9 +38,27 @@ composedCodes (some l) = cond (isMarkless (compose l)) (some (write (compose l))
 unfoldable pub composed : Bytes → Option Bytes
 composed s = composedCodes (read s)
 
+-- The composed form of a name; bytes that have none stay as they are.
+abbrev pub formOr : Bytes → Option Bytes → Bytes
+formOr s none = s
+formOr s (some t) = t
+
+unfoldable pub composedName : Bytes → Bytes
+composedName s = formOr s (composed s)
+
 abbrev pub isSome : {A : Type 0} → Option A → Bool
 isSome none = false
 isSome (some a) = true
+
+-- "1 to 64 bytes"
+abbrev pub isSized : Bytes → Bool
+isSized s = leb 1 (length s) && leb (length s) 64
+
+abbrev pub first : Bytes → ℕ
+first s = getD s 0 0
+
+abbrev pub last : Bytes → ℕ
+last s = getD s (length s - 1) 0
 
 -- "Length is counted as typed." The ends are as document 01 has them: "It does not begin with `!`, `~`, `+` or a blank and does not
 -- end with a blank."
@@ -66,6 +83,12 @@ isForm s (some t) = same s t
 
 unfoldable pub isComposedName : Bytes → Bool
 isComposedName s = isName s && isForm s (composed s)
+
+unfoldable pub isComposedPropertyName : Bytes → Bool
+isComposedPropertyName s = isComposedName s && all (isOther 46) s
+
+unfoldable pub isComposedNamespace : Bytes → Bool
+isComposedNamespace s = eqb (length s) 0 || isComposedName s
 
 -- Canonical equivalence: two texts decompose to the same code points. A letter of a name has one mark at most, so that no marks
 -- are to be put in order.

@@ -4,7 +4,7 @@ ghost use lib.ListN.{length, drop};
 ghost use Rattle.text.specs.Bytes.{all};
 ghost use Rattle.buffer.specs.Writing.{written};
 ghost use Rattle.names.specs.Codes.{isMark, isPlain, isWide, encode};
-ghost use Rattle.names.specs.Names.{composed, hasNameShape, isName, isPropertyName, isNamespace, isComposedName};
+ghost use Rattle.names.specs.Names.{composed, composedName, hasNameShape, isName, isPropertyName, isNamespace, isComposedName, isComposedPropertyName, isComposedNamespace};
 ghost use Rattle.names.specs.Steps.{pairOf, letterOf, letterAt, spelled, lengthAfter, nameLength};
 
 pub mod composed_codes; // composed_codes.rt: the composed letters of the table
@@ -183,6 +183,19 @@ pub fn is_name(s: &[u8]) -> bool
     0 < name_length(s)
 }
 
+// The same of a property name, and of a namespace.
+pub fn is_composed_property_name(s: &[u8]) -> bool
+    ensures { λ r. ⌜ r ≡ isComposedPropertyName (now (s .entry)) ⌝ }
+{
+    is_composed_name(s) & all_in(s, Class::NoDot)
+}
+
+pub fn is_composed_namespace(s: &[u8]) -> bool
+    ensures { λ r. ⌜ r ≡ isComposedNamespace (now (s .entry)) ⌝ }
+{
+    (s.len() == 0) | is_composed_name(s)
+}
+
 // Whether the bytes are a property name, and a namespace.
 pub fn is_property_name(s: &[u8]) -> bool
     ensures { λ r. ⌜ r ≡ isPropertyName (now (s .entry)) ⌝ }
@@ -232,11 +245,26 @@ fn put_letters(h: &mut [u8], at: usize, s: &[u8])
     }
 }
 
-// Writes the composed form of a name, as far as there is room; of other bytes what stands before the first that are no letter.
-pub fn put_name(h: &mut [u8], at: usize, s: &[u8])
-    ensures { λ _. ⌜ now (h .exit) ≡ written (now (h .entry)) at (spelled (now (s .entry))) ⌝ }
+// How long the composed form of a name is; bytes that have none stay as they are. ASCII is its own composed form.
+pub fn composed_size(s: &[u8]) -> usize
+    ensures { λ r. ⌜ r ≡ length (composedName (now (s .entry))) ⌝ }
 {
     if all_plain(s) {
+        return s.len();
+    }
+    let n = composed_length(s);
+    if n == 0 { s.len() } else { n }
+}
+
+// Writes it, as far as there is room.
+pub fn put_composed(h: &mut [u8], at: usize, s: &[u8])
+    ensures { λ _. ⌜ now (h .exit) ≡ written (now (h .entry)) at (composedName (now (s .entry))) ⌝ }
+{
+    if all_plain(s) {
+        put_bytes(h, at, s);
+        return;
+    }
+    if composed_length(s) == 0 {
         put_bytes(h, at, s);
     } else {
         put_letters(h, at, s);

@@ -10,8 +10,9 @@ use lib.Dec.{ltb, leb, eqb}
 use lib.ListN.{length, getD, take, drop, length-append}
 use lib.Seq.{take-at, sets-eq}
 use Rattle.text.specs.Bytes.{Bytes, bytes}
-use Rattle.values.specs.Names.{Identifier, isName, isNamespace}
-use Rattle.values.proofs.Spelled.{Named, name-keeps}
+use Rattle.names.specs.Names.{isComposedName, isComposedNamespace}
+use Rattle.values.specs.Names.{Identifier}
+use Rattle.names.proofs.Composed.{Named, composed-named}
 use Rattle.language.specs.Answer.{Answer, refused, accepted, andThen}
 use Rattle.language.specs.Register.{Page, Register}
 use Rattle.language.specs.RegisterText.{emptyPage, readRegister}
@@ -57,17 +58,17 @@ record Short (p : Page) : Type 0 where
   article : length (p .identifier .article) ≤ 64
 
 short-page : (p : Page) → isIdentifier (p .identifier) ≡ true → Short p
-unfolding isIdentifier isNamespace
+unfolding isIdentifier isComposedNamespace
 short-page p h =
-    let t = and-true (isNamespace (p .identifier .namespace)) (isName (p .identifier .article)) h in
-    record { namespace = spaced (p .identifier .namespace) (t .0); article = name-keeps (p .identifier .article) (t .1) .short }
+    let t = and-true (isComposedNamespace (p .identifier .namespace)) (isComposedName (p .identifier .article)) h in
+    record { namespace = spaced (p .identifier .namespace) (t .0); article = composed-named (p .identifier .article) (t .1) .short }
   where
-    spaced : (s : Bytes) → (eqb (length s) 0 || isName s) ≡ true → length s ≤ 64
+    spaced : (s : Bytes) → (eqb (length s) 0 || isComposedName s) ≡ true → length s ≤ 64
     spaced s h = go (eqb (length s) 0) refl h
       where
-        go : (b : Bool) → eqb (length s) 0 ≡ b → (b || isName s) ≡ true → length s ≤ 64
+        go : (b : Bool) → eqb (length s) 0 ≡ b → (b || isComposedName s) ≡ true → length s ≤ 64
         go true e h = omega (arith, eqb-true (length s) 0 e)
-        go false e h = name-keeps s h .short
+        go false e h = composed-named s h .short
 
 short-at : (R : Register) → isRegister R ≡ true → (i : ℕ) → i < length (R .pages) → Short (pageIn R i)
 unfolding pageIn

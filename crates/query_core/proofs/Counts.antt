@@ -9,9 +9,10 @@ use lib.ListN.{length, length-append}
 use borrow.Author.Tests.{eqb-true, leb-true}
 use Rattle.text.specs.Bytes.{Bytes, all}
 use Rattle.text.proofs.Laws.{all-append}
-use Rattle.values.specs.Names.{isName, isNamespace, isPropertyName}
+use Rattle.names.specs.Names.{isComposedName, isComposedNamespace, isComposedPropertyName}
 use Rattle.values.specs.Values.{scalar, string, Constant}
-use Rattle.values.proofs.Spelled.{name-keeps, value-short}
+use Rattle.names.proofs.Composed.{composed-named}
+use Rattle.values.proofs.Spelled.{value-short}
 use Rattle.language.specs.Core.{Selector, Core, nodes, nodesIn}
 use Rattle.language.proofs.Members.{and-true}
 use Rattle.query_core.specs.Postfix.{Node, post, postIn}
@@ -21,17 +22,17 @@ use Rattle.query_core.proofs.Postfix.{length-post}
 use Rattle.query_core.proofs.Laying.{strings-append}
 
 -- Names and string constants have at most 64 bytes.
-pub property-short : (x : Bytes) → isPropertyName x ≡ true → length x ≤ 64
-unfolding isPropertyName
-property-short x h = name-keeps x (and-true (isName x) _ h .0) .short
+pub property-short : (x : Bytes) → isComposedPropertyName x ≡ true → length x ≤ 64
+unfolding isComposedPropertyName
+property-short x h = composed-named x (and-true (isComposedName x) _ h .0) .short
 
-pub namespace-short : (x : Bytes) → isNamespace x ≡ true → length x ≤ 64
-unfolding isNamespace
+pub namespace-short : (x : Bytes) → isComposedNamespace x ≡ true → length x ≤ 64
+unfolding isComposedNamespace
 namespace-short x h = go (eqb (length x) 0) refl h
   where
-    go : (b : Bool) → eqb (length x) 0 ≡ b → b || isName x ≡ true → length x ≤ 64
+    go : (b : Bool) → eqb (length x) 0 ≡ b → b || isComposedName x ≡ true → length x ≤ 64
     go true e k = omega (arith, eqb-true (length x) 0 e)
-    go false e k = name-keeps x k .short
+    go false e k = composed-named x k .short
 
 pub constant-short : (v : Constant) → isConstant v ≡ true → length (constantString v) ≤ 64
 constant-short (scalar k n) h = omega arith
@@ -66,15 +67,15 @@ mutual
   unfolding post nodes stringOf isNode
 
   few-in : (s : Selector) → all isNode (postIn s) ≡ true → length (strings (postIn s)) ≤ 64 * (nodesIn s + 1)
-  few-in (Selector.category x) h = omega (arith, one-string (Node.category x), name-keeps x (one-keeps (Node.category x) h) .short)
+  few-in (Selector.category x) h = omega (arith, one-string (Node.category x), composed-named x (one-keeps (Node.category x) h) .short)
   few-in (Selector.namespace x) h = omega (arith, one-string (Node.namespace x), namespace-short x (one-keeps (Node.namespace x) h))
   few-in (Selector.existence x) h = omega (arith, one-string (Node.existence x), property-short x (one-keeps (Node.existence x) h))
   few-in (Selector.subquery x q) h =
       let k = both-keep (post q) (Node.subquery x ∷ []) h in
       omega (arith, strings-count (post q) (Node.subquery x ∷ []), one-string (Node.subquery x), property-short x (one-keeps (Node.subquery x) (k .1)), few-strings q (k .0))
-  few-in (Selector.article c x) h = omega (arith, one-string (Node.article c x), name-keeps x (one-keeps (Node.article c x) h) .short)
+  few-in (Selector.article c x) h = omega (arith, one-string (Node.article c x), composed-named x (one-keeps (Node.article c x) h) .short)
   few-in (Selector.value x c v) h =
-      let k = and-true (isPropertyName x) (isConstant v) (one-keeps (Node.value x c v) h) in
+      let k = and-true (isComposedPropertyName x) (isConstant v) (one-keeps (Node.value x c v) h) in
       omega (arith, one-string (Node.value x c v), length-append x (constantString v), property-short x (k .0), constant-short v (k .1))
 
   pub few-strings : (q : Core) → all isNode (post q) ≡ true → length (strings (post q)) ≤ 64 * (nodes q + 1)

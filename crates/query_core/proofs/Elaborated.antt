@@ -10,25 +10,25 @@ use lib.Dec.{ltb}
 use Rattle.text.specs.Bytes.{Bytes, all, any}
 use Rattle.text.proofs.Laws.{all-append}
 use Rattle.values.specs.declared.Kind.{Kind}
-use Rattle.values.specs.Names.{Reference, bare, qualified, reference, isName, isNamespace, isPropertyName, isReference, isValue}
+use Rattle.names.specs.Names.{isComposedName, isComposedNamespace, isComposedPropertyName}
+use Rattle.values.specs.Names.{Reference, bare, qualified, reference, isReference, composedReference, isComposedReference, isValue}
+use Rattle.values.proofs.Spelled.{composed-is-reference}
 use Rattle.values.specs.Values.{Constant, scalar, mapOption, readScalar, readConstant}
 use Rattle.values.proofs.EachKind.{read-in-range}
 use Rattle.language.specs.Answer.{refused, accepted, found, _>>=_}
 use Rattle.language.specs.Comparators.{isEqual, inAnyNamespace}
 use Rattle.language.specs.Register.{Typing}
 use Rattle.language.specs.Surface.{Chain, single, chain, Categories, Identifiers, Alternatives, Query, propertiesOf}
-use Rattle.language.specs.QueryText.{breaksNames}
 use Rattle.language.specs.Core.{Core, nodes}
 use Rattle.language.specs.Core as Core
 use Rattle.language.specs.Elaboration.{compared, articleStands, within, elaborateReference, elaborateIdentifiers, elaborateCategories, elaborateConstant, elaborateValue, inside, joined, along, elaborateIn, elaborate, isUndeclared, fit}
 use Rattle.language.specs.declared.Comparator.{Comparator}
 use Rattle.language.specs.declared.SurfaceComparator.{SurfaceComparator}
 use Rattle.language.proofs.AllComparators.{of-cond, of-compared}
-use Rattle.language.proofs.Members.{and-true, both-true, or-false}
+use Rattle.language.proofs.Members.{and-true, both-true}
 use Rattle.query_core.specs.Postfix.{Node, post}
 use Rattle.query_core.specs.Form.{isConstant, isNode, isCore}
-use Rattle.query_tree_spelling.specs.Spelled.{isOneCategory, isOneIdentifier, isOneAlternative, spelledCategories, spelledIdentifiers, readsAsCategory, spelledValue, spelledChain, spelledIn, isSpelled}
-use Rattle.query_tree_spelling.proofs.Texts.{not-not}
+use Rattle.query_tree_spelling.specs.Spelled.{isOneCategory, isOneIdentifier, isOneAlternative, spelledCategories, spelledIdentifiers, readsAsCategory, spelledValue, spelledNames, spelledChain, spelledIn, isSpelled}
 
 -- A core query whose names and constants keep the rules.
 unfoldable pub Keeps : Core → Type 0
@@ -53,7 +53,7 @@ and-keeps : (a b : Core) → Keeps a → Keeps b → Keeps (Core.conjunction a b
 unfolding Keeps post isNode
 and-keeps a b h k = behind-keeps (post a ++ post b) Node.conjunction (all-append isNode (post a) (post b) ∙ both-true h k) refl
 
-subquery-keeps : (x : Bytes) (c : Core) → isPropertyName x ≡ true → Keeps c → Keeps (Core.select (Core.subquery x c))
+subquery-keeps : (x : Bytes) (c : Core) → isComposedPropertyName x ≡ true → Keeps c → Keeps (Core.select (Core.subquery x c))
 unfolding Keeps post isNode
 subquery-keeps x c h k = behind-keeps (post c) (Node.subquery x) k h
 
@@ -61,42 +61,42 @@ compared-keeps : (f : Comparator → Core) (c : SurfaceComparator) → ((d : Com
 compared-keeps f c h = of-compared Keeps f c or-keeps h
 
 -- One selector.
-article-keeps : (x : Bytes) (d : Comparator) → isName x ≡ true → Keeps (Core.select (Core.article d x))
+article-keeps : (x : Bytes) (d : Comparator) → isComposedName x ≡ true → Keeps (Core.select (Core.article d x))
 unfolding Keeps post isNode
 article-keeps x d h = one-keeps (Node.article d x) h
 
-namespace-keeps : (n : Bytes) → isNamespace n ≡ true → Keeps (Core.select (Core.namespace n))
+namespace-keeps : (n : Bytes) → isComposedNamespace n ≡ true → Keeps (Core.select (Core.namespace n))
 unfolding Keeps post isNode
 namespace-keeps n h = one-keeps (Node.namespace n) h
 
-category-keeps : (x : Bytes) → isName x ≡ true → Keeps (Core.select (Core.category x))
+category-keeps : (x : Bytes) → isComposedName x ≡ true → Keeps (Core.select (Core.category x))
 unfolding Keeps post isNode
 category-keeps x h = one-keeps (Node.category x) h
 
-existence-keeps : (x : Bytes) → isPropertyName x ≡ true → Keeps (Core.select (Core.existence x))
+existence-keeps : (x : Bytes) → isComposedPropertyName x ≡ true → Keeps (Core.select (Core.existence x))
 unfolding Keeps post isNode
 existence-keeps x h = one-keeps (Node.existence x) h
 
-value-keeps : (x : Bytes) (d : Comparator) (v : Constant) → isPropertyName x ≡ true → isConstant v ≡ true → Keeps (Core.select (Core.value x d v))
+value-keeps : (x : Bytes) (d : Comparator) (v : Constant) → isComposedPropertyName x ≡ true → isConstant v ≡ true → Keeps (Core.select (Core.value x d v))
 unfolding Keeps post isNode
 value-keeps x d v h k = one-keeps (Node.value x d v) (both-true h k)
 
 -- References.
-stands-keeps : (x : Bytes) (c : SurfaceComparator) → isName x ≡ true → Keeps (compared (λ d. Core.select (Core.article d x)) c)
+stands-keeps : (x : Bytes) (c : SurfaceComparator) → isComposedName x ≡ true → Keeps (compared (λ d. Core.select (Core.article d x)) c)
 stands-keeps x c h = compared-keeps (λ d. Core.select (Core.article d x)) c (λ d. article-keeps x d h)
 
-within-keeps : (n x : Bytes) (c : SurfaceComparator) → isNamespace n ≡ true → isName x ≡ true → Keeps (Core.conjunction (Core.select (Core.namespace n)) (compared (λ d. Core.select (Core.article d x)) c))
+within-keeps : (n x : Bytes) (c : SurfaceComparator) → isComposedNamespace n ≡ true → isComposedName x ≡ true → Keeps (Core.conjunction (Core.select (Core.namespace n)) (compared (λ d. Core.select (Core.article d x)) c))
 within-keeps n x c h k = and-keeps (Core.select (Core.namespace n)) (compared (λ d. Core.select (Core.article d x)) c) (namespace-keeps n h) (stands-keeps x c k)
 
-main-name : isNamespace [] ≡ true
-unfolding isNamespace
+main-name : isComposedNamespace [] ≡ true
+unfolding isComposedNamespace
 main-name = refl
 
-reference-keeps : (c : SurfaceComparator) (r : Reference) → isReference r ≡ true → Keeps (elaborateReference c r)
+reference-keeps : (c : SurfaceComparator) (r : Reference) → isComposedReference r ≡ true → Keeps (elaborateReference c r)
 unfolding elaborateReference
 reference-keeps c (bare x) h = of-cond Keeps (isEqual c) (within [] (articleStands x c)) (articleStands x c) (within-keeps [] x c main-name h) (stands-keeps x c h)
 reference-keeps c (qualified n x) h =
-    let k = and-true (isNamespace n) (isName x) h in
+    let k = and-true (isComposedNamespace n) (isComposedName x) h in
     of-cond Keeps (inAnyNamespace c) (articleStands x c) (within n (articleStands x c)) (stands-keeps x c (k .1)) (within-keeps n x c (k .0) (k .1))
 
 -- Constants that are read.
@@ -113,18 +113,21 @@ read-keeps (Kind.Scalar k) v h = go (readScalar k v) refl
     go (some n) e = read-in-range k v n e
 read-keeps Kind.String v h = h
 
-constant-keeps : (x : Bytes) (c : SurfaceComparator) (o : Option Constant) → isPropertyName x ≡ true → ReadKeeps o → KeepsSome (mapOption (elaborateConstant x c) o)
+constant-keeps : (x : Bytes) (c : SurfaceComparator) (o : Option Constant) → isComposedPropertyName x ≡ true → ReadKeeps o → KeepsSome (mapOption (elaborateConstant x c) o)
 unfolding elaborateConstant
 constant-keeps x c none h k = tt
 constant-keeps x c (some v) h k = compared-keeps (λ d. Core.select (Core.value x d v)) c (λ d. value-keeps x d v h k)
 
-piece-keeps : (x : Bytes) (c : SurfaceComparator) (v : Bytes) (k : Kind) → isPropertyName x ≡ true → isValue v ≡ true → KeepsSome (elaborateValue x c v k)
+piece-keeps : (x : Bytes) (c : SurfaceComparator) (v : Bytes) (k : Kind) → isComposedPropertyName x ≡ true → isValue v ≡ true → KeepsSome (elaborateValue x c v k)
 unfolding elaborateValue
 piece-keeps x c v Kind.Page h j = go (isReference (reference v)) refl
   where
-    go : (b : Bool) → isReference (reference v) ≡ b → KeepsSome (cond b (some (Core.select (Core.subquery x (elaborateReference c (reference v))))) none)
+    r : Reference
+    r = composedReference (reference v)
+
+    go : (b : Bool) → isReference (reference v) ≡ b → KeepsSome (cond b (some (Core.select (Core.subquery x (elaborateReference c r)))) none)
     go false e = tt
-    go true e = subquery-keeps x (elaborateReference c (reference v)) h (reference-keeps c (reference v) e)
+    go true e = subquery-keeps x (elaborateReference c r) h (reference-keeps c r (composed-is-reference (reference v) e))
 piece-keeps x c v (Kind.Scalar k) h j = constant-keeps x c (readConstant (Kind.Scalar k) v) h (read-keeps (Kind.Scalar k) v j)
 piece-keeps x c v Kind.String h j = constant-keeps x c (readConstant Kind.String v) h (read-keeps Kind.String v j)
 
@@ -135,7 +138,7 @@ joined-keeps f law none b h k = tt
 joined-keeps f law (some a) none h k = tt
 joined-keeps f law (some a) (some b) h k = law a b h k
 
-inside-keeps : (x : Bytes) (k : Option Kind) (o : Option Core) → isPropertyName x ≡ true → KeepsSome o → KeepsSome (inside x k o)
+inside-keeps : (x : Bytes) (k : Option Kind) (o : Option Core) → isComposedPropertyName x ≡ true → KeepsSome o → KeepsSome (inside x k o)
 unfolding inside
 inside-keeps x none o h j = tt
 inside-keeps x (some Kind.Page) none h j = tt
@@ -163,25 +166,18 @@ identifiers-keep (Identifiers.either a b) h =
     let k = and-true (spelledIdentifiers a) (isOneIdentifier b && spelledIdentifiers b) h in
     or-keeps (elaborateIdentifiers a) (elaborateIdentifiers b) (identifiers-keep a (k .0)) (identifiers-keep b (and-true (isOneIdentifier b) (spelledIdentifiers b) (k .1) .1))
 
-is-name : (x : Bytes) → not (isPropertyName x) ≡ false → isPropertyName x ≡ true
-is-name x h = go (isPropertyName x) h
-  where
-    go : (b : Bool) → not b ≡ false → b ≡ true
-    go true e = refl
-    go false e = sym e
-
-along-keeps : (Γ : Typing) (p : Chain) (f : Bytes → Option Core) → breaksNames p ≡ false → ((x : Bytes) → isPropertyName x ≡ true → KeepsSome (f x)) → KeepsSome (along Γ p f)
-unfolding along breaksNames
-along-keeps Γ (single x) f h k = k x (is-name x h)
+along-keeps : (Γ : Typing) (p : Chain) (f : Bytes → Option Core) → spelledNames p ≡ true → ((x : Bytes) → isComposedPropertyName x ≡ true → KeepsSome (f x)) → KeepsSome (along Γ p f)
+unfolding along spelledNames
+along-keeps Γ (single x) f h k = k x h
 along-keeps Γ (chain x p) f h k =
-    let e = or-false (not (isPropertyName x)) (breaksNames p) h in
-    inside-keeps x (Γ x) (along Γ p f) (is-name x (e .0)) (along-keeps Γ p f (e .1) k)
+    let e = and-true (isComposedPropertyName x) (spelledNames p) h in
+    inside-keeps x (Γ x) (along Γ p f) (e .0) (along-keeps Γ p f (e .1) k)
 
 module _ (Γ : Typing) where
   mutual
     unfolding elaborate isSpelled spelledValue spelledChain
 
-    in-keeps : (a : Alternatives) (x : Bytes) → isPropertyName x ≡ true → spelledIn a ≡ true → KeepsSome (elaborateIn a Γ x)
+    in-keeps : (a : Alternatives) (x : Bytes) → isComposedPropertyName x ≡ true → spelledIn a ≡ true → KeepsSome (elaborateIn a Γ x)
     in-keeps Alternatives.existence x n h = existence-keeps x n
     in-keeps (Alternatives.value c v) x n h = kind-keeps (Γ x) (elaborateValue x c v) (λ k. piece-keeps x c v k n (and-true (isValue v) _ h .0))
     in-keeps (Alternatives.subquery q) x n h = inside-keeps x (Γ x) (elaborate q Γ) n (query-keeps q h)
@@ -194,7 +190,7 @@ module _ (Γ : Typing) where
     query-keeps (Query.identifier i) h = identifiers-keep i (and-true (spelledIdentifiers i) (not (readsAsCategory i)) h .0)
     query-keeps (Query.property p a) h =
         let k = and-true (spelledChain p) (spelledIn a) h in
-        along-keeps Γ p (λ x. elaborateIn a Γ x) (not-not (breaksNames p) (and-true (not (breaksNames p)) _ (k .0) .0)) (λ x n. in-keeps a x n (k .1))
+        along-keeps Γ p (λ x. elaborateIn a Γ x) (and-true (spelledNames p) _ (k .0) .0) (λ x n. in-keeps a x n (k .1))
     query-keeps (Query.disjunction a b) h =
         let k = and-true (isSpelled a) (isSpelled b) h in
         joined-keeps Core.disjunction or-keeps (elaborate a Γ) (elaborate b Γ) (query-keeps a (k .0)) (query-keeps b (k .1))

@@ -15,12 +15,12 @@ use Rattle.buffer.proofs.Numbers.{two-there}
 use Rattle.buffer.proofs.Parts.{part-before}
 use Rattle.buffer.proofs.Joined.{part-middle, part-first, part-second}
 use Rattle.buffer.proofs.Regions.{length-padded, part-region}
-use Rattle.values.specs.Names.{isPropertyName}
+use Rattle.names.specs.Names.{isComposedPropertyName}
 use Rattle.values.specs.Values.{Constant, scalar, string, kindCode, kindCount}
 use Rattle.values.specs.declared.Kind.{Kind}
 use Rattle.values.proofs.AllKinds.{range-small}
 use Rattle.values.proofs.EachKind.{kind-coded, code-below}
-use Rattle.values.proofs.Spelled.{name-keeps}
+use Rattle.names.proofs.Composed.{composed-named}
 use Rattle.language.specs.Core.{Core, nodes}
 use Rattle.language.specs.declared.Comparator.{Comparator}
 use Rattle.language.proofs.Members.{and-true}
@@ -58,12 +58,12 @@ module _ (at : ℕ) (low : at ≤ 16448) where
   unfolding isNode
   slot-fits Node.conjunction h = record { first = (omega arith, omega arith); second = (omega arith, omega arith); number = omega arith }
   slot-fits Node.disjunction h = record { first = (omega arith, omega arith); second = (omega arith, omega arith); number = omega arith }
-  slot-fits (Node.category x) h = first-fits 2 (length x) (name-keeps x h .short)
+  slot-fits (Node.category x) h = first-fits 2 (length x) (composed-named x h .short)
   slot-fits (Node.namespace x) h = first-fits 3 (length x) (namespace-short x h)
   slot-fits (Node.existence x) h = first-fits 4 (length x) (property-short x h)
   slot-fits (Node.subquery x) h = first-fits 5 (length x) (property-short x h)
-  slot-fits (Node.article c x) h = record { first = (omega arith, omega arith); second = one-fits (length x) (name-keeps x h .short); number = omega arith }
-  slot-fits (Node.value x c v) h = let k = and-true (isPropertyName x) (isConstant v) h in value-fits x c v (property-short x (k .0)) (k .1)
+  slot-fits (Node.article c x) h = record { first = (omega arith, omega arith); second = one-fits (length x) (composed-named x h .short); number = omega arith }
+  slot-fits (Node.value x c v) h = let k = and-true (isComposedPropertyName x) (isConstant v) h in value-fits x c v (property-short x (k .0)) (k .1)
 
 -- A node comes back from its slot and its string.
 code-back : (c : Comparator) → comparatorFrom (comparatorCode c) ≡ some c
@@ -83,7 +83,7 @@ module _ (s : Bytes) (at : ℕ) where
   constant-back x c (scalar k n) h e = kind-back (Kind.Scalar k) n _ ∙ rw h
   constant-back x c (string y) h e = kind-back Kind.String 0 _ ∙ rw (e, h)
 
-  value-back : (x : Bytes) (c : Comparator) (v : Constant) → isPropertyName x ≡ true → part s at (length x) ≡ x → constantOf s (valueSlot at x c v) ≡ some v → nodeOf s (valueSlot at x c v .tag) (valueSlot at x c v) ≡ some (Node.value x c v)
+  value-back : (x : Bytes) (c : Comparator) (v : Constant) → isComposedPropertyName x ≡ true → part s at (length x) ≡ x → constantOf s (valueSlot at x c v) ≡ some v → nodeOf s (valueSlot at x c v .tag) (valueSlot at x c v) ≡ some (Node.value x c v)
   unfolding nodeOf nodeFrom
   value-back x c (scalar j n) h e k = rw (e, h, code-back c, k)
   value-back x c (string y) h e k = rw (e, h, code-back c, k)
@@ -98,7 +98,7 @@ module _ (s : Bytes) (at : ℕ) where
   node-back (Node.subquery x) h e = rw (e, h)
   node-back (Node.article c x) h e = rw (e, h, code-back c)
   node-back (Node.value x c v) h e =
-      let k = and-true (isPropertyName x) (isConstant v) h in
+      let k = and-true (isComposedPropertyName x) (isConstant v) h in
       value-back x c v (k .0) (part-first s at x (constantString v) e) (constant-back x c v (k .1) (part-second s at x (constantString v) e))
 
 -- Bytes that hold nodes.

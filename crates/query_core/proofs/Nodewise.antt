@@ -6,7 +6,7 @@ use mathlib.Core.Option.{Option, some, none}
 use borrow.Author.Tests.{eqb-true}
 use lib.Dec.{eqb}
 use Rattle.text.specs.Bytes.{Bytes}
-use Rattle.values.specs.Names.{isName, isPropertyName, isNamespace}
+use Rattle.names.specs.Names.{isComposedName, isComposedPropertyName, isComposedNamespace}
 use Rattle.values.specs.Values.{Constant}
 use Rattle.language.specs.Answer.{_>>=_, onlyIf}
 use Rattle.language.specs.declared.Comparator.{Comparator}
@@ -41,20 +41,20 @@ module _ (P : Node → Type 0) (Q : Constant → Type 0) (tag c : ℕ) (v : Opti
 
   pub on-node : (tag ≡ 0 → P Node.conjunction)
       → (tag ≡ 1 → P Node.disjunction)
-      → (tag ≡ 2 → isName x ≡ true → P (Node.category x))
-      → (tag ≡ 3 → isNamespace x ≡ true → P (Node.namespace x))
-      → (tag ≡ 4 → isPropertyName x ≡ true → P (Node.existence x))
-      → (tag ≡ 5 → isPropertyName x ≡ true → P (Node.subquery x))
-      → (tag ≡ 6 → isName y ≡ true → (d : Comparator) → P (Node.article d y))
-      → (tag ≡ 7 → isPropertyName x ≡ true → (d : Comparator) (w : Constant) → Q w → P (Node.value x d w))
+      → (tag ≡ 2 → isComposedName x ≡ true → P (Node.category x))
+      → (tag ≡ 3 → isComposedNamespace x ≡ true → P (Node.namespace x))
+      → (tag ≡ 4 → isComposedPropertyName x ≡ true → P (Node.existence x))
+      → (tag ≡ 5 → isComposedPropertyName x ≡ true → P (Node.subquery x))
+      → (tag ≡ 6 → isComposedName y ≡ true → (d : Comparator) → P (Node.article d y))
+      → (tag ≡ 7 → isComposedPropertyName x ≡ true → (d : Comparator) (w : Constant) → Q w → P (Node.value x d w))
       → OnSome P (nodeFrom tag c v x y)
   unfolding nodeFrom
   on-node p0 p1 p2 p3 p4 p5 p6 p7 =
       tag-is 0 (some Node.conjunction) _ p0
       (tag-is 1 (some Node.disjunction) _ p1
-      (tag-is 2 _ _ (λ e. on-only P (isName x) (some (Node.category x)) (p2 e))
-      (tag-is 3 _ _ (λ e. on-only P (isNamespace x) (some (Node.namespace x)) (p3 e))
-      (tag-is 4 _ _ (λ e. on-only P (isPropertyName x) (some (Node.existence x)) (p4 e))
-      (tag-is 5 _ _ (λ e. on-only P (isPropertyName x) (some (Node.subquery x)) (p5 e))
-      (tag-is 6 _ _ (λ e. on-only P (isName y) _ (λ h. compared (λ d. some (Node.article d y)) (p6 e h)))
-      (tag-is 7 _ none (λ e. on-only P (isPropertyName x) _ (λ h. compared (λ d. v >>= λ w. some (Node.value x d w)) (λ d. on-bind Q P v (λ w. some (Node.value x d w)) constant (p7 e h d)))) tt)))))))
+      (tag-is 2 _ _ (λ e. on-only P (isComposedName x) (some (Node.category x)) (p2 e))
+      (tag-is 3 _ _ (λ e. on-only P (isComposedNamespace x) (some (Node.namespace x)) (p3 e))
+      (tag-is 4 _ _ (λ e. on-only P (isComposedPropertyName x) (some (Node.existence x)) (p4 e))
+      (tag-is 5 _ _ (λ e. on-only P (isComposedPropertyName x) (some (Node.subquery x)) (p5 e))
+      (tag-is 6 _ _ (λ e. on-only P (isComposedName y) _ (λ h. compared (λ d. some (Node.article d y)) (p6 e h)))
+      (tag-is 7 _ none (λ e. on-only P (isComposedPropertyName x) _ (λ h. compared (λ d. v >>= λ w. some (Node.value x d w)) (λ d. on-bind Q P v (λ w. some (Node.value x d w)) constant (p7 e h d)))) tt)))))))

@@ -11,7 +11,8 @@ use borrow.Author.Tests.{ne-eqb, lt-ltb, le-ltb}
 use Rattle.text.specs.Bytes.{Bytes, part}
 use Rattle.text.specs.Parts.{partOf}
 use Rattle.text.specs.declared.Span.{Span}
-use Rattle.values.specs.Names.{isName, isPropertyName, isNamespace, isValue}
+use Rattle.names.specs.Names.{isComposedName, isComposedPropertyName, isComposedNamespace}
+use Rattle.values.specs.Names.{isValue}
 use Rattle.values.specs.Values.{kindCount, kindFrom, inRange}
 use Rattle.values.specs.declared.Kind.{Kind}
 use Rattle.values.specs.declared.Scalar.{Scalar}
@@ -87,9 +88,9 @@ selected-reads s r o false y e f g = record { is = rw g e; keeps = rw g }
 module _ (s b : Bytes) (k : ℕ) (q : ComparatorRead) (w : k ≡ getD b 1 0) (e : q ≡ comparatorRead (comparatorFrom k)) where
   pub article-none : q ≡ ComparatorRead.Nothing → ReadsNode s (nodeOf s 6 (slotFrom b)) NodeRead.Nothing
   unfolding nodeOf nodeFrom slotFrom
-  article-none f = record { is = rw (← w, no-comparator q (comparatorFrom k) e f) (only-none (isName (partOf s (slotFrom b .second)))); keeps = refl }
+  article-none f = record { is = rw (← w, no-comparator q (comparatorFrom k) e f) (only-none (isComposedName (partOf s (slotFrom b .second)))); keeps = refl }
 
-  pub article-reads : (c : Comparator) (x : Span) (t : Bytes) (fit : Bool) (r : NodeRead) → q ≡ ComparatorRead.Is c → x ≡ slotFrom b .second → t ≡ partOf s x → fit ≡ isName t → r ≡ selected fit (Selector.Article c x) → ReadsNode s (nodeOf s 6 (slotFrom b)) r
+  pub article-reads : (c : Comparator) (x : Span) (t : Bytes) (fit : Bool) (r : NodeRead) → q ≡ ComparatorRead.Is c → x ≡ slotFrom b .second → t ≡ partOf s x → fit ≡ isComposedName t → r ≡ selected fit (Selector.Article c x) → ReadsNode s (nodeOf s 6 (slotFrom b)) r
   unfolding nodeOf nodeFrom slotFrom
   article-reads c x t fit r f l p j g =
       selected-reads s r _ fit _ (rw (← w, read-comparator q (comparatorFrom k) e c f, j, p, l)) (λ h. rw (← p, ← j) h) g
@@ -98,16 +99,16 @@ module _ (s b : Bytes) (k : ℕ) (q : ComparatorRead) (w : k ≡ getD b 1 0) (e 
 module _ (s : Bytes) (x : Slot) (q : ComparatorRead) (e : q ≡ comparatorRead (comparatorFrom (x .comparator))) where
   pub value-none : q ≡ ComparatorRead.Nothing → ReadsNode s (nodeOf s 7 x) NodeRead.Nothing
   unfolding nodeOf nodeFrom
-  value-none f = record { is = rw (no-comparator q (comparatorFrom (x .comparator)) e f) (only-none (isPropertyName (partOf s (x .first)))); keeps = refl }
+  value-none f = record { is = rw (no-comparator q (comparatorFrom (x .comparator)) e f) (only-none (isComposedPropertyName (partOf s (x .first)))); keeps = refl }
 
   module _ (c : Comparator) (f : q ≡ ComparatorRead.Is c) where
     module _ (v : ConstantRead) (u : ConstantReads s x v) where
       pub constant-missing : v ≡ ConstantRead.Nothing → ReadsNode s (nodeOf s 7 x) NodeRead.Nothing
       unfolding nodeOf nodeFrom
       constant-missing g =
-          record { is = rw (read-comparator q (comparatorFrom (x .comparator)) e c f, u .is, g) (only-none (isPropertyName (partOf s (x .first)))); keeps = refl }
+          record { is = rw (read-comparator q (comparatorFrom (x .comparator)) e c f, u .is, g) (only-none (isComposedPropertyName (partOf s (x .first)))); keeps = refl }
 
-      pub value-reads : (k : Constant) (t : Bytes) (b : Bool) (r : NodeRead) → v ≡ ConstantRead.Is k → t ≡ partOf s (x .first) → b ≡ isPropertyName t → r ≡ selected b (Selector.Value (x .first) c k) → ReadsNode s (nodeOf s 7 x) r
+      pub value-reads : (k : Constant) (t : Bytes) (b : Bool) (r : NodeRead) → v ≡ ConstantRead.Is k → t ≡ partOf s (x .first) → b ≡ isComposedPropertyName t → r ≡ selected b (Selector.Value (x .first) c k) → ReadsNode s (nodeOf s 7 x) r
       unfolding nodeOf nodeFrom
       value-reads k t b r g p w l =
           selected-reads s r _ b _ (rw (read-comparator q (comparatorFrom (x .comparator)) e c f, u .is, g, w, p)) (λ h. rw (← p, ← w, h) (rw g at (u .keeps))) l
@@ -123,19 +124,19 @@ module _ (s b : Bytes) (r : NodeRead) (tag : ℕ) where
   or-reads e g = record { is = rw (e, g); keeps = rw g }
 
   module _ (x : Span) (w : x ≡ slotFrom b .first) (t : Bytes) (fit : Bool) (p : t ≡ partOf s x) where
-    pub category-reads : tag ≡ 2 → fit ≡ isName t → r ≡ selected fit (Selector.Category x) → ReadsNode s (nodeOf s tag (slotFrom b)) r
+    pub category-reads : tag ≡ 2 → fit ≡ isComposedName t → r ≡ selected fit (Selector.Category x) → ReadsNode s (nodeOf s tag (slotFrom b)) r
     unfolding nodeOf nodeFrom
     category-reads e k g = selected-reads s r _ fit _ (rw (e, k, p, w)) (λ h. rw (← p, ← k) h) g
 
-    pub namespace-reads : tag ≡ 3 → fit ≡ isNamespace t → r ≡ selected fit (Selector.Namespace x) → ReadsNode s (nodeOf s tag (slotFrom b)) r
+    pub namespace-reads : tag ≡ 3 → fit ≡ isComposedNamespace t → r ≡ selected fit (Selector.Namespace x) → ReadsNode s (nodeOf s tag (slotFrom b)) r
     unfolding nodeOf nodeFrom
     namespace-reads e k g = selected-reads s r _ fit _ (rw (e, k, p, w)) (λ h. rw (← p, ← k) h) g
 
-    pub existence-reads : tag ≡ 4 → fit ≡ isPropertyName t → r ≡ selected fit (Selector.Existence x) → ReadsNode s (nodeOf s tag (slotFrom b)) r
+    pub existence-reads : tag ≡ 4 → fit ≡ isComposedPropertyName t → r ≡ selected fit (Selector.Existence x) → ReadsNode s (nodeOf s tag (slotFrom b)) r
     unfolding nodeOf nodeFrom
     existence-reads e k g = selected-reads s r _ fit _ (rw (e, k, p, w)) (λ h. rw (← p, ← k) h) g
 
-    pub subquery-reads : tag ≡ 5 → fit ≡ isPropertyName t → r ≡ selected fit (Selector.Subquery x) → ReadsNode s (nodeOf s tag (slotFrom b)) r
+    pub subquery-reads : tag ≡ 5 → fit ≡ isComposedPropertyName t → r ≡ selected fit (Selector.Subquery x) → ReadsNode s (nodeOf s tag (slotFrom b)) r
     unfolding nodeOf nodeFrom
     subquery-reads e k g = selected-reads s r _ fit _ (rw (e, k, p, w)) (λ h. rw (← p, ← k) h) g
 

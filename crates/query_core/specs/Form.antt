@@ -8,7 +8,8 @@ use lib.ListN.{length}
 use Rattle.text.specs.Bytes.{Bytes, all}
 use Rattle.text.specs.declared.Span.{Span}
 use Rattle.buffer.specs.Numbers.{twoBytes, eightBytes, padded}
-use Rattle.values.specs.Names.{isName, isPropertyName, isNamespace, isValue}
+use Rattle.names.specs.Names.{isComposedName, isComposedPropertyName, isComposedNamespace}
+use Rattle.values.specs.Names.{isValue}
 use Rattle.values.specs.Values.{Constant, scalar, string, kindCode, inRange}
 use Rattle.values.specs.declared.Kind.{Kind}
 use Rattle.values.specs.declared.Scalar.{Scalar}
@@ -104,12 +105,12 @@ isConstant (string s) = isValue s
 unfoldable pub isNode : Node → Bool
 isNode Node.conjunction = true
 isNode Node.disjunction = true
-isNode (Node.category x) = isName x
-isNode (Node.namespace x) = isNamespace x
-isNode (Node.existence x) = isPropertyName x
-isNode (Node.subquery x) = isPropertyName x
-isNode (Node.article c x) = isName x
-isNode (Node.value x c v) = isPropertyName x && isConstant v
+isNode (Node.category x) = isComposedName x
+isNode (Node.namespace x) = isComposedNamespace x
+isNode (Node.existence x) = isComposedPropertyName x
+isNode (Node.subquery x) = isComposedPropertyName x
+isNode (Node.article c x) = isComposedName x
+isNode (Node.value x c v) = isComposedPropertyName x && isConstant v
 
 -- "1 to 256 nodes", whose names and constants keep the rules.
 unfoldable pub isCore : Core → Bool

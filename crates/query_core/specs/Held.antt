@@ -9,7 +9,8 @@ use lib.ListN.{length, getD}
 use Rattle.text.specs.Bytes.{Bytes, part}
 use Rattle.text.specs.Parts.{partOf}
 use Rattle.buffer.specs.Numbers.{twoAt, eightAt}
-use Rattle.values.specs.Names.{isName, isPropertyName, isNamespace, isValue}
+use Rattle.names.specs.Names.{isComposedName, isComposedPropertyName, isComposedNamespace}
+use Rattle.values.specs.Names.{isValue}
 use Rattle.values.specs.Values.{Constant, scalar, string, kindCount, kindFrom, inRange}
 use Rattle.values.specs.declared.Kind.{Kind}
 use Rattle.language.specs.Answer.{_>>=_, onlyIf}
@@ -66,12 +67,12 @@ unfoldable pub nodeFrom : ℕ → ℕ → Option Constant → Bytes → Bytes �
 nodeFrom tag c v x y =
     cond (eqb tag 0) (some Node.conjunction)
     (cond (eqb tag 1) (some Node.disjunction)
-    (cond (eqb tag 2) (onlyIf (isName x) (some (Node.category x)))
-    (cond (eqb tag 3) (onlyIf (isNamespace x) (some (Node.namespace x)))
-    (cond (eqb tag 4) (onlyIf (isPropertyName x) (some (Node.existence x)))
-    (cond (eqb tag 5) (onlyIf (isPropertyName x) (some (Node.subquery x)))
-    (cond (eqb tag 6) (onlyIf (isName y) (comparatorFrom c >>= λ d. some (Node.article d y)))
-    (cond (eqb tag 7) (onlyIf (isPropertyName x) (comparatorFrom c >>= λ d. v >>= λ w. some (Node.value x d w))) none)))))))
+    (cond (eqb tag 2) (onlyIf (isComposedName x) (some (Node.category x)))
+    (cond (eqb tag 3) (onlyIf (isComposedNamespace x) (some (Node.namespace x)))
+    (cond (eqb tag 4) (onlyIf (isComposedPropertyName x) (some (Node.existence x)))
+    (cond (eqb tag 5) (onlyIf (isComposedPropertyName x) (some (Node.subquery x)))
+    (cond (eqb tag 6) (onlyIf (isComposedName y) (comparatorFrom c >>= λ d. some (Node.article d y)))
+    (cond (eqb tag 7) (onlyIf (isComposedPropertyName x) (comparatorFrom c >>= λ d. v >>= λ w. some (Node.value x d w))) none)))))))
 
 -- The constant of a slot, and the node that it is by a tag; their strings lie in s.
 unfoldable pub constantOf : Bytes → Slot → Option Constant

@@ -4,7 +4,8 @@ use mathlib.Core.Bool.{Bool, true, false, _&&_}
 use mathlib.Core.Option.{Option, some, none}
 use Rattle.text.specs.Bytes.{Bytes}
 use Rattle.text.specs.Parts.{partOf}
-use Rattle.values.specs.Names.{isName, isPropertyName, isNamespace, isValue}
+use Rattle.names.specs.Names.{isComposedName, isComposedPropertyName, isComposedNamespace}
+use Rattle.values.specs.Names.{isValue}
 use Rattle.values.specs.Values.{scalar, string, inRange, Constant as CoreConstant}
 use Rattle.language.specs.declared.Comparator.{Comparator}
 use Rattle.query_core.specs.declared.Constant.{Constant}
@@ -45,12 +46,12 @@ keepsConstant s (Constant.Scalar k n) = inRange k n
 keepsConstant s (Constant.String p) = isValue (partOf s p)
 
 abbrev pub keepsSelector : Bytes → Selector → Bool
-keepsSelector s (Selector.Category p) = isName (partOf s p)
-keepsSelector s (Selector.Namespace p) = isNamespace (partOf s p)
-keepsSelector s (Selector.Existence p) = isPropertyName (partOf s p)
-keepsSelector s (Selector.Subquery p) = isPropertyName (partOf s p)
-keepsSelector s (Selector.Article c p) = isName (partOf s p)
-keepsSelector s (Selector.Value p c k) = isPropertyName (partOf s p) && keepsConstant s k
+keepsSelector s (Selector.Category p) = isComposedName (partOf s p)
+keepsSelector s (Selector.Namespace p) = isComposedNamespace (partOf s p)
+keepsSelector s (Selector.Existence p) = isComposedPropertyName (partOf s p)
+keepsSelector s (Selector.Subquery p) = isComposedPropertyName (partOf s p)
+keepsSelector s (Selector.Article c p) = isComposedName (partOf s p)
+keepsSelector s (Selector.Value p c k) = isComposedPropertyName (partOf s p) && keepsConstant s k
 
 abbrev pub keepsJoined : Bytes → Connective → Selector → Bool
 keepsJoined s Connective.And x = true

@@ -11,6 +11,9 @@ use crate::layout;
 use buffer::eight_at;
 use buffer::two_at;
 use language::Comparator;
+use names::is_composed_name;
+use names::is_composed_namespace;
+use names::is_composed_property_name;
 use tables::widen;
 use text::Span;
 use text::byte_at;
@@ -18,9 +21,6 @@ use text::part;
 use values::KIND_COUNT;
 use values::Kind;
 use values::in_range;
-use values::is_name;
-use values::is_namespace;
-use values::is_property_name;
 use values::is_value;
 use values::kind_from;
 ghost use mathlib.Core.Path.{_≡_};
@@ -133,7 +133,7 @@ fn article_from(heap: &[u8], b: &[u8]) -> NodeRead
         return NodeRead::Nothing;
     };
     let p = second_of(b);
-    let fit = is_name(part(heap, p.start, p.len));
+    let fit = is_composed_name(part(heap, p.start, p.len));
     selected_if(fit, Selector::Article(c, p))
 }
 
@@ -150,7 +150,7 @@ fn value_from(heap: &[u8], x: Slot) -> NodeRead
         return NodeRead::Nothing;
     };
     let p = x.first;
-    let fit = is_property_name(part(heap, p.start, p.len));
+    let fit = is_composed_property_name(part(heap, p.start, p.len));
     selected_if(fit, Selector::Value(p, c, k))
 }
 
@@ -174,26 +174,29 @@ fn node_from(heap: &[u8], tag: u8, b: &[u8]) -> NodeRead
         layout::OR => joined(Connective::Or),
         layout::CATEGORY => {
             let p = first_of(b);
-            selected_if(is_name(part(heap, p.start, p.len)), Selector::Category(p))
+            selected_if(
+                is_composed_name(part(heap, p.start, p.len)),
+                Selector::Category(p),
+            )
         }
         layout::NAMESPACE => {
             let p = first_of(b);
             selected_if(
-                is_namespace(part(heap, p.start, p.len)),
+                is_composed_namespace(part(heap, p.start, p.len)),
                 Selector::Namespace(p),
             )
         }
         layout::EXISTENCE => {
             let p = first_of(b);
             selected_if(
-                is_property_name(part(heap, p.start, p.len)),
+                is_composed_property_name(part(heap, p.start, p.len)),
                 Selector::Existence(p),
             )
         }
         layout::SUBQUERY => {
             let p = first_of(b);
             selected_if(
-                is_property_name(part(heap, p.start, p.len)),
+                is_composed_property_name(part(heap, p.start, p.len)),
                 Selector::Subquery(p),
             )
         }

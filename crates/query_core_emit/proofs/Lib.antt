@@ -1,3 +1,4 @@
 pub mod Adding
+pub mod Composing
 pub mod Constants
 pub mod References

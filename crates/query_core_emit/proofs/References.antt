@@ -10,7 +10,7 @@ use Rattle.text.specs.declared.Span.{Span}
 use Rattle.values.specs.declared.Kind.{Kind}
 use Rattle.values.specs.declared.Scalar.{Scalar}
 use Rattle.values.specs.declared.Split.{Split}
-use Rattle.values.specs.Names.{reference, isReference}
+use Rattle.values.specs.Names.{reference, isReference, composedReference}
 use Rattle.values.specs.Values.{mapOption, readConstant}
 use Rattle.values.specs.Answers.{splitOf}
 use Rattle.language.specs.Comparators.{isEqual, strictly, orEqual, inAnyNamespace}
@@ -133,12 +133,13 @@ module _ (s : Bytes) (x p : Span) (c : SurfaceComparator) (h : Bytes) (at : Plac
     unfolding Emits elaborateValue
     link-unfit g = rw (← e, ← f, not-true q g)
 
-    pub link-emits : (r : Split) (h₁ h₂ : Bytes) (p₁ p₂ : Place) → not q ≡ false → SplitsAt s p r → Adds (post (elaborateReference c (splitOf s r))) h at h₁ p₁ → Adds (selectorBy s (Selector.Subquery x) ∷ []) h₁ p₁ h₂ p₂ → Valued Kind.Page (Emitted.At p₂) h₂
+    pub link-emits : (r : Split) (h₁ h₂ : Bytes) (p₁ p₂ : Place) → not q ≡ false → SplitsAt s p r → (isReference (splitOf s r) ≡ true → Adds (post (elaborateReference c (composedReference (splitOf s r)))) h at h₁ p₁) → Adds (selectorBy s (Selector.Subquery x) ∷ []) h₁ p₁ h₂ p₂ → Valued Kind.Page (Emitted.At p₂) h₂
     unfolding Emits elaborateValue post
     link-emits r h₁ h₂ p₁ p₂ g d a b =
         let yes : isReference (reference (partOf s p)) ≡ true = rw (← e, ← f) (not-false q g) in
-        let there : Adds (post (elaborateReference c (reference (partOf s p)))) h at h₁ p₁ = rw (← d .is) a in
-        (Core.select (Core.subquery (partOf s x) (elaborateReference c (reference (partOf s p)))), rw yes, adds-then (post (elaborateReference c (reference (partOf s p)))) (Node.subquery (partOf s x) ∷ []) there b)
+        let meant = elaborateReference c (composedReference (reference (partOf s p))) in
+        let there : Adds (post meant) h at h₁ p₁ = rw (← d .is) (a (ap isReference (d .is) ∙ yes)) in
+        (Core.select (Core.subquery (partOf s x) meant), rw yes, adds-then (post meant) (Node.subquery (partOf s x) ∷ []) there b)
 
   -- a constant of a kind
   module _ (kind : Kind) (r : ConstantRead) (e : r ≡ constantIn s p kind) where

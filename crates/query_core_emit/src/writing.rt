@@ -1,8 +1,10 @@
 // Nodes into a held query, each behind those that are there. Names and strings lie in s.
 ghost use mathlib.Core.List.{[], _∷_};
 ghost use mathlib.Core.Path.{_≡_};
+ghost use mathlib.Core.Bool.{true};
 ghost use Rattle.text.specs.Parts.{partOf};
 ghost use Rattle.values.specs.declared.Kind.the-variants.{Page};
+ghost use Rattle.values.specs.Names.{isReference, composedReference};
 ghost use Rattle.values.specs.Answers.{splitOf};
 ghost use Rattle.values.specs.Values.{mapOption, readConstant};
 ghost use Rattle.language.specs.Core.{Core};
@@ -21,6 +23,8 @@ use language::in_any_namespace;
 use language::is_equal;
 use language::or_equal;
 use language::strict;
+use names::composed_size;
+use names::put_composed;
 use query_core::Connective;
 use query_core::ConstantRead;
 use query_core::Node;
@@ -151,6 +155,33 @@ pub fn put_reference(
     }
 }
 
+// A reference as typed, its names composed: they are put from a table of their own.
+fn put_typed(s: &[u8], held: &mut [u8], at: Place, c: SurfaceComparator, split: Split) -> Place
+    ensures { λ r. ⌜ (isReference (splitOf (now (s .entry)) split) ≡ true → Adds (post (elaborateReference c (composedReference (splitOf (now (s .entry)) split)))) (now (held .entry)) at (now (held .exit)) r) ⌝ }
+{
+    let n = split.namespace;
+    let a = split.article;
+    let x = part(s, n.start, n.len);
+    let y = part(s, a.start, a.len);
+    let mut names = [0u8; 128];
+    put_composed(&mut names, 0, x);
+    put_composed(&mut names, 64, y);
+    let namespace = Span {
+        start: 0,
+        len: composed_size(x),
+    };
+    let article = Span {
+        start: 64,
+        len: composed_size(y),
+    };
+    let typed = Split {
+        qualified: split.qualified,
+        namespace,
+        article,
+    };
+    put_reference(&names, held, at, c, typed)
+}
+
 // The piece at p of a page property: one subquery over its reference.
 fn put_link(
     s: &[u8],
@@ -166,7 +197,7 @@ fn put_link(
         return Emitted::Unfit;
     }
     let split = split_at(s, p);
-    let one = put_reference(s, held, at, c, split);
+    let one = put_typed(s, held, at, c, split);
     let two = put_select(s, held, one, Selector::Subquery(name));
     Emitted::At(two)
 }

@@ -4,7 +4,7 @@ ghost use Rattle.register_form.specs.Form.{registerIn};
 ghost use Rattle.query_core_fit.specs.Answers.{FitsTree};
 use buffer::two_at;
 use descent::fit_query;
-use names::some_undeclared;
+use properties::some_undeclared;
 use query_core::Place;
 use query_core::count_of;
 use query_core::finish;
@@ -15,7 +15,7 @@ use text::Span;
 
 pub mod descent; // descent.rt: a tree from its last node down
 pub mod leaves; // leaves.rt: what a single node asks for and puts
-pub mod names; // names.rt: the properties that a tree names
+pub mod properties; // properties.rt: the properties that a tree names
 
 // What a node asks for: its two sides (and whether they are joined by OR), the query that it leads to, the alternatives or the rest
 // of the chain that it names, or nothing.

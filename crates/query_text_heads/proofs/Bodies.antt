@@ -15,7 +15,8 @@ use Rattle.text.specs.Bytes.{Bytes, bytes, any, same, after, span, part}
 use Rattle.text.specs.Class.{isOther}
 use Rattle.text.specs.Parts.{partOf, Trimmed}
 use Rattle.text.specs.declared.Span.{Span}
-use Rattle.values.specs.Names.{Reference, bare, qualified, isName, isPropertyName, isValue, reference}
+use Rattle.names.specs.Names.{isName, isPropertyName}
+use Rattle.values.specs.Names.{Reference, bare, qualified, isValue, reference}
 use Rattle.values.specs.Answers.{splitOf}
 use Rattle.values.specs.declared.Split.{Split}
 use Rattle.language.specs.Answer.{_>>=_, found, onlyIf}

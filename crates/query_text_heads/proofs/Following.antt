@@ -1,13 +1,14 @@
 -- Laws of effects one after the other.
 use Prim.Native.Nat.{ℕ, _-_}
-use mathlib.Core.Path.{_≡_, refl, ap, sym, _∙_}
+use mathlib.Core.Path.{_≡_, refl, ap, sym, subst, _∙_}
 use mathlib.Core.Bool.{Bool, _||_, false, or-assoc, or-false}
-use mathlib.Core.List.{[], _∷_}
+use mathlib.Core.List.{List, [], _∷_, map-append}
 use lib.ListN.{length}
 use Rattle.text.specs.Bytes.{Bytes}
-use Rattle.query_tree.specs.Nodes.{Node}
+use Rattle.query_tree.specs.Nodes.{Node, joinBy, composedNode, composedNodes}
 use Rattle.query_tree.specs.Reading.{nodeBy}
 use Rattle.query_tree.specs.declared.TreeNode.{TreeNode}
+use Rattle.query_tree.proofs.Composing.{joined-composed}
 use Rattle.query_tree_write.specs.declared.Place.{Place}
 use Rattle.query_tree_write.specs.Laying.{Adds}
 use Rattle.query_tree_write.proofs.Laws.{adds-none, adds-then, adds-joined}
@@ -33,20 +34,32 @@ module _ (t t′ t″ : Bytes) (n n′ n″ : Seen) (e f : Effect) where
   unfolding _then_
   after-then a b =
       record {
-        adds = adds-then t t′ t″ (n .place) (n′ .place) (n″ .place) (e .nodes) (f .nodes) (a .adds) (b .adds);
+        adds =
+            subst (λ (l : List Node). Adds l t (n .place) t″ (n″ .place)) (sym (map-append composedNode (e .nodes) (f .nodes)))
+            (adds-then t t′ t″ (n .place) (n′ .place) (n″ .place) (composedNodes (e .nodes)) (composedNodes (f .nodes)) (a .adds) (b .adds));
         deep = both (n .deep) (e .deep) (f .deep) (a .deep) (b .deep);
         name = both (n .name) (e .name) (f .name) (a .name) (b .name);
         value = both (n .value) (e .value) (f .value) (a .value) (b .value);
       }
 
+-- A connective has no names.
+pub connective-plain : (kind : Connective) (k : ℕ) → composedNode (connective kind k) ≡ connective kind k
+unfolding composedNode
+connective-plain Connective.And k = refl
+connective-plain Connective.Or k = refl
+connective-plain Connective.Bar k = refl
+
 -- Two effects and a connective: its number is how many nodes the second has.
-module _ (t t₁ t₂ t₃ : Bytes) (n n₁ n₂ n₃ : Seen) (e f : Effect) (g : ℕ → Node) where
+module _ (t t₁ t₂ t₃ : Bytes) (n n₁ n₂ n₃ : Seen) (e f : Effect) (g : ℕ → Node) (plain : (k : ℕ) → composedNode (g k) ≡ g k) where
   pub joined : After t n e t₁ n₁ → After t₁ n₁ f t₂ n₂ → After t₂ n₂ (one (g (n₂ .place .count - n₁ .place .count))) t₃ n₃ → After t n (e then f then one (g (length (f .nodes)))) t₃ n₃
   unfolding one _then_
   joined a b c =
       let h = after-then t t₂ t₃ n n₂ n₃ (e then f) (one (g (n₂ .place .count - n₁ .place .count))) (after-then t t₁ t₂ n n₁ n₂ e f a b) c in
       record {
-        adds = adds-joined t t₁ t₂ (n .place) (n₁ .place) (n₂ .place) (e .nodes) (f .nodes) g t₃ (n₃ .place) (a .adds) (b .adds) (c .adds);
+        adds =
+            subst (λ (l : List Node). Adds l t (n .place) t₃ (n₃ .place)) (sym (joined-composed g plain (e .nodes) (f .nodes)))
+            (adds-joined t t₁ t₂ (n .place) (n₁ .place) (n₂ .place) (composedNodes (e .nodes)) (composedNodes (f .nodes)) g t₃ (n₃ .place) (a .adds) (b .adds)
+            (subst (λ (x : Node). Adds (x ∷ []) t₂ (n₂ .place) t₃ (n₃ .place)) (plain _) (c .adds)));
         deep = h .deep;
         name = h .name;
         value = h .value;
@@ -58,7 +71,7 @@ unfolding one met _then_ noded
 after-noded t t′ n n′ r x d m v a e = rw e (after-then t t′ t′ n n′ (flagged n′ d m v) (one x) (met d m v) a (after-met t′ n′ d m v))
 
 -- A node that is put.
-pub added : (t t′ : Bytes) (n : Seen) (p : Place) (x : Node) → Adds (x ∷ []) t (n .place) t′ p → After t n (one x) t′ (record { place = p; deep = n .deep; name = n .name; value = n .value })
+pub added : (t t′ : Bytes) (n : Seen) (p : Place) (x : Node) → Adds (composedNode x ∷ []) t (n .place) t′ p → After t n (one x) t′ (record { place = p; deep = n .deep; name = n .name; value = n .value })
 unfolding one
 added t t′ n p x a = record { adds = a; deep = sym (or-false (n .deep)); name = sym (or-false (n .name)); value = sym (or-false (n .value)) }
 

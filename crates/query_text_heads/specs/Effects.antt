@@ -7,7 +7,7 @@ use mathlib.Core.Option.{Option, some, none}
 use lib.ListN.{length}
 use Rattle.text.specs.Bytes.{Bytes}
 use Rattle.query_text_pieces.specs.Places.{from}
-use Rattle.query_tree.specs.Nodes.{Node}
+use Rattle.query_tree.specs.Nodes.{Node, composedNodes}
 use Rattle.query_tree.specs.declared.TreeNode.{TreeNode}
 use Rattle.query_tree_write.specs.Laying.{Adds}
 use Rattle.query_text_heads.specs.declared.Seen.{Seen}
@@ -40,9 +40,9 @@ e then f = record { nodes = e .nodes ++ f .nodes; deep = e .deep || f .deep; nam
 unfoldable pub flagged : Seen → Bool → Bool → Bool → Seen
 flagged n d m v = record { place = n .place; deep = n .deep || d; name = n .name || m; value = n .value || v }
 
--- The tree and what was seen before, an effect, the tree and what was seen after it.
+-- The tree and what was seen before, an effect, the tree and what was seen after it. Nodes are put with their names composed.
 pub record After (t : Bytes) (n : Seen) (e : Effect) (t′ : Bytes) (n′ : Seen) : Type 0 where
-  pub adds : Adds (e .nodes) t (n .place) t′ (n′ .place)
+  pub adds : Adds (composedNodes (e .nodes)) t (n .place) t′ (n′ .place)
   pub deep : n′ .deep ≡ (n .deep || e .deep)
   pub name : n′ .name ≡ (n .name || e .name)
   pub value : n′ .value ≡ (n .value || e .value)

@@ -2,7 +2,7 @@
 ghost use mathlib.Core.Path.{_≡_};
 ghost use mathlib.Core.Bool.{not, false, _&&_};
 ghost use Rattle.text.specs.Parts.{partOf};
-ghost use Rattle.values.specs.Names.{isName};
+ghost use Rattle.names.specs.Names.{isName};
 ghost use Rattle.language.specs.RawQuery.{RawAlternatives, plainBody};
 ghost use Rattle.language.specs.QueryText.{breaksReference};
 ghost use Rattle.query_text_pieces.specs.Places.{from, pieceOf, headOf, SplitsAt};
@@ -17,6 +17,8 @@ use crate::adding::flag;
 use crate::again;
 use language::SurfaceComparator;
 use language::is_equal;
+use names::is_name;
+use names::is_property_name;
 use query_text_pieces::First;
 use query_text_pieces::Found;
 use query_text_pieces::Read;
@@ -34,8 +36,6 @@ use text::same_bytes;
 use text::scan;
 use text::trimmed;
 use values::Split;
-use values::is_name;
-use values::is_property_name;
 use values::is_value;
 
 // One level or one name more, at most 9.

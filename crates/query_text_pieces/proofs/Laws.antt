@@ -14,7 +14,8 @@ use Rattle.text.specs.Class.{isFree, isOther}
 use Rattle.text.specs.Parts.{partOf, Trimmed}
 use Rattle.text.specs.declared.Span.{Span}
 use Rattle.text.proofs.Laws.{starts-fits, span-le}
-use Rattle.values.specs.Names.{reference, qualified, bare, isName, isNamespace, isReference}
+use Rattle.names.specs.Names.{isName, isNamespace}
+use Rattle.values.specs.Names.{reference, qualified, bare, isReference}
 use Rattle.values.specs.Values.{mapOption}
 use Rattle.values.specs.Answers.{splitOf, Splits}
 use Rattle.values.specs.declared.Split.{Split}

@@ -13,6 +13,8 @@ use language::SurfaceComparator;
 use language::comparator_at;
 use language::is_equal;
 use language::word_length;
+use names::is_name;
+use names::is_namespace;
 use text::Class;
 use text::Span;
 use text::part;
@@ -22,8 +24,6 @@ use text::trimmed;
 use text::widen;
 use text::word_at;
 use values::Split;
-use values::is_name;
-use values::is_namespace;
 use values::split_reference;
 
 // A place that was looked for, or none.

@@ -19,8 +19,10 @@ use Rattle.language.specs.RawQuery.{RawQuery, readQuery, readWhole}
 use Rattle.language.specs.QueryText.{depth, longest, surface, checks, readText}
 use Rattle.query_text_pieces.specs.Places.{from}
 use Rattle.query_tree_spelling.proofs.Some.{accepted-has-text}
-use Rattle.query_tree.specs.Nodes.{tree}
-use Rattle.query_tree.specs.Form.{treeOf}
+use Rattle.language.specs.Surface.{composedQuery}
+use Rattle.query_tree.specs.Nodes.{tree, composedNodes}
+use Rattle.query_tree.specs.Form.{treeOf, nodeBytes}
+use Rattle.query_tree.proofs.Composing.{tree-composed}
 use Rattle.query_tree.proofs.Held.{text-fits}
 use Rattle.query_tree_write.specs.Laying.{Fits}
 use Rattle.query_tree_write.proofs.Laws.{fits-laid, laid-none, finished}
@@ -73,7 +75,7 @@ module _ (s : Bytes) (short : length s ≤ 1024) where
   unfolding readText
   no-reading e = rw (le-ltb 1024 (length s) short, e)
 
-  a-reading : (q : RawQuery) → readWhole s ≡ some q → readText s ≡ judge (checks q) (surface q)
+  a-reading : (q : RawQuery) → readWhole s ≡ some q → readText s ≡ judge (checks q) (composedQuery (surface q))
   unfolding readText
   a-reading q e = rw (le-ltb 1024 (length s) short, e)
 
@@ -106,11 +108,12 @@ module _ (s : Bytes) (short : length s ≤ 1024) where
           let a = a-reading q (read-whole q l (z .1)) in
           let deep : n′ .deep ≡ ltb 8 (max (depth q) (longest q)) = z .2 .deep ∙ rw zero-add in
           record {
-            number = rw (a, u, deep, z .2 .name, z .2 .value) (judged _ _ _ (surface q));
+            number = rw (a, u, deep, z .2 .name, z .2 .value) (judged _ _ _ (composedQuery (surface q)));
             tree = λ p h i.
-                let j : surface q ≡ p = judge-accepted _ _ _ (surface q) p (sym a ∙ h) in
-                let f : Fits (tree (surface q)) = rw j (fits-laid (tree p) (text-fits p (accepted-has-text s p h))) in
+                let j : composedQuery (surface q) ≡ p = judge-accepted _ _ _ (composedQuery (surface q)) p (sym a ∙ h) in
+                let k : composedNodes (tree (surface q)) ≡ tree p = sym (tree-composed (surface q)) ∙ ap tree j in
+                let f : Fits (composedNodes (tree (surface q))) = rw k (fits-laid (tree p) (text-fits p (accepted-has-text s p h))) in
                 let d = z .2 .adds .laid [] f (rw i laid-none) in
-                w ∙ finished t′ (n′ .place) (tree (surface q)) d ∙ ap treeOf j;
+                w ∙ finished t′ (n′ .place) (composedNodes (tree (surface q))) d ∙ ap nodeBytes k;
             long = ap length w ∙ length-written t′ 0 _ ∙ z .2 .adds .long;
           }

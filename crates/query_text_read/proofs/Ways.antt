@@ -22,7 +22,7 @@ use Rattle.query_text_heads.specs.Trees.{deeper, effect, effectIn, chainEffect,
 use Rattle.query_text_heads.specs.declared.Connective.{Connective}
 use Rattle.query_text_heads.specs.declared.Seen.{Seen}
 use Rattle.query_text_heads.specs.declared.Outcome.{Outcome}
-use Rattle.query_text_heads.proofs.Following.{after-then, joined}
+use Rattle.query_text_heads.proofs.Following.{after-then, joined, connective-plain}
 use Rattle.query_text_heads.proofs.Readings.{reads-on, reads-no}
 use Rattle.query_text_read.proofs.Falls.{head-after}
 use Rattle.query_text_read.proofs.Trees.{effect-or, effect-and, effect-group, effect-either, effect-inner, effect-property}
@@ -43,7 +43,7 @@ module _ {A : Type 0} (e : A → Effect) (f : A → Bytes → Option (A × Bytes
     unfolding restOf ReadsPart ReadsOn
     on-joined both s at i next t t₁ t₂ t₃ n n₁ n₂ x y r p g h k c l a t₀ n₀ before =
         let b = rw k at h in
-        let m = joined t₀ t t₁ t₂ n₀ n n₁ n₂ (e a) (e (b .0)) (connective kind) before (b .2) c in
+        let m = joined t₀ t t₁ t₂ n₀ n n₁ n₂ (e a) (e (b .0)) (connective kind) (connective-plain kind) before (b .2) c in
         rw (eq (from s at) a, ← p, g, b .1) (l (j a (b .0)) t₀ n₀ (rw (both a (b .0)) m))
 
     on-stopped : Stopped

@@ -8,28 +8,27 @@ use lib.Dec.{leb}
 use lib.ListN.{length, length-append}
 use borrow.Author.Tests.{leb-true}
 use Rattle.text.specs.Bytes.{Bytes, all}
-use Rattle.values.specs.Names.{Reference, bare, qualified, isReference, isName, isPropertyName, isValue}
+use Rattle.names.specs.Names.{isComposedName, isComposedPropertyName}
+use Rattle.names.proofs.Composed.{composed-named, property-composed}
+use Rattle.values.specs.Names.{Reference, bare, qualified, isComposedReference, isValue}
 use Rattle.language.specs.Surface.{Chain, single, chain, Categories, Identifiers, Alternatives, Query}
-use Rattle.language.specs.QueryText.{namesIn, breaksNames}
+use Rattle.language.specs.QueryText.{namesIn}
 use Rattle.language.proofs.Members.{and-true, or-false}
 use Rattle.language.specs.declared.SurfaceComparator.{SurfaceComparator}
-use Rattle.query_tree_spelling.specs.Spelled.{isOneCategory, isOneIdentifier, isOneAlternative, isDisjunction, isJoined, spelledCategories, spelledIdentifiers, spelledValue, spelledChain, spelledIn, isSpelled, costCategories, costReference, costIdentifiers, costChain, wrapped, costIn, cost, deep, hasText}
-use Rattle.query_tree_spelling.proofs.Texts.{not-not}
-use Rattle.query_tree_spelling.proofs.Cleaning.{no-name}
+use Rattle.query_tree_spelling.specs.Spelled.{isOneCategory, isOneIdentifier, isOneAlternative, isDisjunction, isJoined, spelledCategories, spelledIdentifiers, spelledValue, spelledNames, spelledChain, spelledIn, isSpelled, costCategories, costReference, costIdentifiers, costChain, wrapped, costIn, cost, deep, hasText}
 use Rattle.query_tree.specs.Nodes.{Node, joinBy, treeCategories, treeIdentifiers, treeChain, treeIn, tree, stringOf, strings}
 use Rattle.query_tree.proofs.Items.{joined-count}
 
 -- Names and values have bytes.
-some-name : (x : Bytes) → isName x ≡ true → 1 ≤ length x
-some-name [] h = absurd (no-name h)
-some-name (b ∷ x) h = omega arith
+some-name : (x : Bytes) → isComposedName x ≡ true → 1 ≤ length x
+some-name x h = composed-named x h .filled
 
 some-value : (c : SurfaceComparator) (v : Bytes) → spelledValue c v ≡ true → 1 ≤ length v
 unfolding spelledValue isValue all
 some-value c [] h = absurd (false≢true h)
 some-value c (b ∷ v) h = omega arith
 
-some-reference : (r : Reference) → isReference r ≡ true → 1 ≤ costReference r
+some-reference : (r : Reference) → isComposedReference r ≡ true → 1 ≤ costReference r
 unfolding costReference
 some-reference (bare x) h = some-name x h
 some-reference (qualified n x) h = omega arith
@@ -49,16 +48,12 @@ identifiers-few (Identifiers.either a b) h =
     let k = and-true (spelledIdentifiers a) (isOneIdentifier b && spelledIdentifiers b) h in
     omega (arith, joined-count Node.bar (treeIdentifiers a) (treeIdentifiers b), identifiers-few a (k .0), identifiers-few b (and-true (isOneIdentifier b) (spelledIdentifiers b) (k .1) .1))
 
-chain-few : (p : Chain) (l : List Node) (n : ℕ) → breaksNames p ≡ false → 3 * length l ≤ n → 3 * length (treeChain p l) ≤ n + 2 * costChain p + 3
-unfolding treeChain costChain breaksNames isPropertyName
+chain-few : (p : Chain) (l : List Node) (n : ℕ) → spelledNames p ≡ true → 3 * length l ≤ n → 3 * length (treeChain p l) ≤ n + 2 * costChain p + 3
+unfolding treeChain costChain spelledNames
 chain-few (single x) l n h k = omega (arith, k, length-append l (Node.property x ∷ []))
 chain-few (chain x p) l n h k =
-    let e = or-false (not (isPropertyName x)) (breaksNames p) h in
-    omega (arith, length-append (treeChain p l) (Node.link x ∷ []), chain-few p l n (e .1) k, some-name x (name-of (isName x) _ (e .0)))
-  where
-    name-of : (a b : Bool) → not (a && b) ≡ false → a ≡ true
-    name-of true b h = refl
-    name-of false b h = sym h
+    let e = and-true (isComposedPropertyName x) (spelledNames p) h in
+    omega (arith, length-append (treeChain p l) (Node.link x ∷ []), chain-few p l n (e .1) k, some-name x (property-composed x (e .0)))
 
 more : (t : Bool) (n : ℕ) → n ≤ wrapped t n
 more true n = omega arith
@@ -80,7 +75,7 @@ mutual
   few (Query.identifier i) h = omega (arith, identifiers-few i (and-true (spelledIdentifiers i) _ h .0))
   few (Query.property p a) h =
       let k = and-true (spelledChain p) (spelledIn a) h in
-      let n = not-not (breaksNames p) (and-true (not (breaksNames p)) (leb (namesIn p) 8) (k .0) .0) in
+      let n = and-true (spelledNames p) (leb (namesIn p) 8) (k .0) .0 in
       omega (arith, chain-few p (treeIn a) (2 * costIn a + 1) n (in-few a (k .1)))
   few (Query.disjunction a b) h =
       let k = and-true (isSpelled a) (isSpelled b) h in

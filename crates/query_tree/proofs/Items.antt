@@ -9,12 +9,12 @@ use lib.Dec.{leb, eqb}
 use lib.ListN.{length, length-append}
 use borrow.Author.Tests.{le-leb, leb-true, lt-leb, leb-false}
 use Rattle.text.specs.Bytes.{Bytes}
-use Rattle.values.specs.Names.{isPropertyName}
+use Rattle.names.specs.Names.{isComposedPropertyName}
 use Rattle.values.specs.Values.{mapOption}
 use Rattle.language.specs.Answer.{_>>=_, onlyIf}
 use Rattle.language.specs.Surface.{Chain, single, chain, Categories, Identifiers, Alternatives, Query}
-use Rattle.language.specs.QueryText.{namesIn, breaksNames}
-use Rattle.query_tree_spelling.specs.Spelled.{isOneCategory, isOneIdentifier, isOneAlternative, isDisjunction, isJoined, spelledCategories, spelledIdentifiers, readsAsCategory, spelledChain, spelledIn, isSpelled, costCategories, costIdentifiers, costChain, wrapped, under, costIn, cost, deepIn, deep, hasText}
+use Rattle.language.specs.QueryText.{namesIn}
+use Rattle.query_tree_spelling.specs.Spelled.{isOneCategory, isOneIdentifier, isOneAlternative, isDisjunction, isJoined, spelledCategories, spelledIdentifiers, readsAsCategory, spelledNames, spelledChain, spelledIn, isSpelled, costCategories, costIdentifiers, costChain, wrapped, under, costIn, cost, deepIn, deep, hasText}
 use Rattle.query_tree.specs.Nodes.{Node, joinBy, treeCategories, treeIdentifiers, treeChain, treeIn, tree}
 use Rattle.query_tree.specs.Pass.{isQuery, isOr, isTwo, fullBytes, isGood, upToBytes, upToLevels, itemOf, leafItem, subqueryItem, propertyItem, linkItem, barItem, orItem, andItem, onOne, onTwo, itemStep, isWhole}
 use Rattle.query_tree.specs.declared.Shape.{Shape}
@@ -196,13 +196,9 @@ subquery-item at (Part.query q) =
     deeper n m e = omega (arith, e)
 subquery-item at (Part.alternatives a) = refl
 
-not-twice : (a : Bool) → not (not a) && true ≡ a
-not-twice true = refl
-not-twice false = refl
-
-name-kept : (x : Bytes) → spelledChain (single x) ≡ isPropertyName x
-unfolding spelledChain breaksNames namesIn
-name-kept x = not-twice (isPropertyName x)
+name-kept : (x : Bytes) → spelledChain (single x) ≡ isComposedPropertyName x
+unfolding spelledChain spelledNames namesIn
+name-kept x = and-yes (isComposedPropertyName x)
 
 property-item : (x : Bytes) (at : ℕ) (a : Part) → propertyItem x (item at a) ≡ mapOption (item at) (propertyPart x a)
 unfolding propertyItem propertyPart item namesIn costChain
@@ -213,10 +209,10 @@ property-item x at (Part.query (Query.disjunction a b)) = refl
 property-item x at (Part.query (Query.conjunction a b)) = refl
 property-item x at (Part.alternatives a) = ap some (same-item Shape.Property at true false refl (ap (λ (t : Bool). t && spelledIn a) (sym (name-kept x))) (sum-stops (6 + length x) (6 + length x) (upToBytes (costIn a)) (costIn a) refl (omega arith)) (omega arith))
 
-link-kept : (b k t u s : Bool) → (t ≡ true → u ≡ true) → b && (t && ((not k && u) && s)) ≡ (not (not b || k) && t) && s
-link-kept true true true u s h = refl
+link-kept : (b k t u s : Bool) → (t ≡ true → u ≡ true) → b && (t && ((k && u) && s)) ≡ ((b && k) && t) && s
+link-kept true true true u s h = rw (h refl)
 link-kept true true false u s h = refl
-link-kept true false true u s h = rw (h refl)
+link-kept true false true u s h = refl
 link-kept true false false u s h = refl
 link-kept false k t u s h = refl
 
@@ -229,13 +225,13 @@ names-stop n = go (leb (suc n) 8) refl
     go false e = lt-leb (suc (upToLevels n)) 8 (omega (arith, leb-false (suc n) 8 e))
 
 link-item : (x : Bytes) (at : ℕ) (a : Part) → linkItem x (item at a) ≡ mapOption (item at) (linkPart x a)
-unfolding linkItem linkPart item namesIn costChain spelledChain breaksNames
+unfolding linkItem linkPart item namesIn costChain spelledChain spelledNames
 link-item x at (Part.query (Query.category c)) = refl
 link-item x at (Part.query (Query.identifier i)) = refl
 link-item x at (Part.query (Query.property p a)) =
     ap some (same-item Shape.Property at true false (omega arith)
-    (ap (λ (t : Bool). isPropertyName x && (t && ((not (breaksNames p) && leb (namesIn p) 8) && spelledIn a))) (names-stop (namesIn p))
-    ∙ link-kept (isPropertyName x) (breaksNames p) (leb (suc (namesIn p)) 8) (leb (namesIn p) 8) (spelledIn a) (λ e. le-leb (namesIn p) 8 (omega (arith, leb-true (suc (namesIn p)) 8 e))))
+    (ap (λ (t : Bool). isComposedPropertyName x && (t && ((spelledNames p && leb (namesIn p) 8) && spelledIn a))) (names-stop (namesIn p))
+    ∙ link-kept (isComposedPropertyName x) (spelledNames p) (leb (suc (namesIn p)) 8) (leb (namesIn p) 8) (spelledIn a) (λ e. le-leb (namesIn p) 8 (omega (arith, leb-true (suc (namesIn p)) 8 e))))
     (omega arith) (omega arith))
 link-item x at (Part.query (Query.disjunction a b)) = refl
 link-item x at (Part.query (Query.conjunction a b)) = refl

@@ -1,4 +1,5 @@
 pub mod Builds
+pub mod Composing
 pub mod Items
 pub mod Heights
 pub mod Trees

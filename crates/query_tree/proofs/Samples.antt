@@ -5,14 +5,17 @@ use mathlib.Core.Bool.{Bool, true, false, not, _&&_}
 use mathlib.Core.List.{List, [], _∷_}
 use Rattle.text.specs.Bytes.{Bytes, bytes, any, all, same, span, trimEnd, trim, starts, after}
 use Rattle.text.specs.Class.{isFree, isNameByte, isValueByte}
-use Rattle.values.specs.Names.{Reference, bare, qualified, isName, isPropertyName, isNamespace, isValue, reference}
+use Rattle.names.specs.Table.{table, find, composition}
+use Rattle.names.specs.Codes.{isMark, isPlain, isWide, pairCode, isPair, read, encode, write}
+use Rattle.names.specs.Names.{compose, composed, composedName, hasNameShape, isName, isPropertyName, isNamespace, isComposedName, isComposedPropertyName, isComposedNamespace}
+use Rattle.values.specs.Names.{Reference, bare, qualified, isValue, reference}
 use Rattle.language.specs.Answer.{Answer, refused, accepted, judge}
-use Rattle.language.specs.Surface.{Query}
+use Rattle.language.specs.Surface.{Query, composedChain, composedCategories, composedIdentifiers, composedQuery}
 use Rattle.language.specs.Comparators.{firstTyped}
 use Rattle.language.specs.RawQuery.{token, comparator, pieceAt, headLength, splitDots, trimNames, piecesWithin, readPieces, plainBody, closedInner, closedGroup, closedBody, nextTerm, queryWithin, readQuery, readWhole}
 use Rattle.language.specs.QueryText.{namesIn, depth, longest, breaksNames, breaks, breaksValue, categoriesFrom, identifiersFrom, surface, readText}
 use Rattle.language.specs.declared.SurfaceComparator.{SurfaceComparator}
-use Rattle.query_tree_spelling.specs.Spelled.{spelledCategories, spelledIdentifiers, readsAsCategory, spelledValue, spelledChain, isSpelled, costCategories, costReference, costIdentifiers, costChain, cost, deep, hasText}
+use Rattle.query_tree_spelling.specs.Spelled.{spelledCategories, spelledIdentifiers, readsAsCategory, spelledValue, spelledNames, spelledChain, isSpelled, costCategories, costReference, costIdentifiers, costChain, cost, deep, hasText}
 use Rattle.query_tree_spelling.specs.Spelling.{plain, compared, referenceText, rawCategories, rawIdentifiers, raw, unreadPiece, unreadPieces, unreadChain, unread, spell}
 use Rattle.query_tree.specs.Nodes.{Node, treeCategories, treeIdentifiers, treeChain, tree}
 use Rattle.query_tree.specs.Pass.{leafItem, subqueryItem, propertyItem, linkItem, barItem, orItem, andItem, itemRun, isTree}
@@ -41,7 +44,7 @@ abbrev Each : Type 0
 Each = all (λ p. spelledAs (readText (p .0)) (p .1)) texts ≡ true
 
 pub spelled : Each
-unfolding any all same span trimEnd trim starts after isFree isNameByte isValueByte isName isPropertyName isNamespace isValue reference judge token firstTyped comparator pieceAt headLength splitDots trimNames piecesWithin readPieces plainBody closedInner closedGroup closedBody nextTerm queryWithin readQuery readWhole namesIn depth longest breaksNames breaks breaksValue categoriesFrom identifiersFrom surface readText spelledCategories spelledIdentifiers readsAsCategory spelledValue spelledChain isSpelled costCategories costReference costIdentifiers costChain cost deep hasText plain compared referenceText rawCategories rawIdentifiers raw unreadPiece unreadPieces unreadChain unread spell treeCategories treeIdentifiers treeChain tree leafItem subqueryItem propertyItem linkItem barItem orItem andItem itemRun isTree
+unfolding any all same span trimEnd trim starts after isFree isNameByte isValueByte table find composition isMark isPlain isWide pairCode isPair read encode write compose composed composedName hasNameShape isName isPropertyName isNamespace isComposedName isComposedPropertyName isComposedNamespace isValue reference judge token firstTyped comparator pieceAt headLength splitDots trimNames piecesWithin readPieces plainBody closedInner closedGroup closedBody nextTerm queryWithin readQuery readWhole namesIn depth longest breaksNames breaks breaksValue categoriesFrom identifiersFrom surface composedChain composedCategories composedIdentifiers composedQuery readText spelledCategories spelledIdentifiers readsAsCategory spelledValue spelledNames spelledChain isSpelled costCategories costReference costIdentifiers costChain cost deep hasText plain compared referenceText rawCategories rawIdentifiers raw unreadPiece unreadPieces unreadChain unread spell treeCategories treeIdentifiers treeChain tree leafItem subqueryItem propertyItem linkItem barItem orItem andItem itemRun isTree
 spelled = refl
 
 -- No tree: nothing; alternatives without a property; a `||` on its right; two shapes; a count that is wrong; `Category:x` that would be
@@ -64,5 +67,5 @@ others =
     ∷ []
 
 pub no-tree : any isTree others ≡ false
-unfolding any all same span trimEnd trim starts after isFree isNameByte isValueByte isName isPropertyName isNamespace isValue spelledValue costReference leafItem subqueryItem propertyItem linkItem barItem orItem andItem itemRun isTree
+unfolding any all same span trimEnd trim starts after isFree isNameByte isValueByte table find composition isMark isPlain isWide pairCode isPair read encode write compose composed composedName hasNameShape isName isPropertyName isNamespace isComposedName isComposedPropertyName isComposedNamespace isValue spelledValue costReference leafItem subqueryItem propertyItem linkItem barItem orItem andItem itemRun isTree
 no-tree = refl

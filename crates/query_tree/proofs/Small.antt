@@ -9,12 +9,14 @@ use lib.ListN.{length, length-append}
 use borrow.Author.Tests.{le-leb, eqb-true}
 use Rattle.text.specs.Bytes.{Bytes, all}
 use Rattle.text.proofs.Laws.{all-append}
-use Rattle.values.specs.Names.{Reference, bare, qualified, isReference, isName, isNamespace, isPropertyName, isValue}
+use Rattle.names.specs.Names.{isComposedName, isComposedPropertyName, isComposedNamespace}
+use Rattle.names.proofs.Composed.{composed-named, property-composed}
+use Rattle.values.specs.Names.{Reference, bare, qualified, isComposedReference, isValue}
 use Rattle.language.specs.Surface.{Chain, single, chain, Categories, Identifiers, Alternatives, Query}
-use Rattle.language.specs.QueryText.{namesIn, breaksNames}
+use Rattle.language.specs.QueryText.{namesIn}
 use Rattle.language.proofs.Members.{and-true, both-true, or-false}
 use Rattle.language.specs.declared.SurfaceComparator.{SurfaceComparator}
-use Rattle.query_tree_spelling.specs.Spelled.{isOneCategory, isOneIdentifier, isOneAlternative, spelledCategories, spelledIdentifiers, spelledValue, spelledChain, spelledIn, isSpelled}
+use Rattle.query_tree_spelling.specs.Spelled.{isOneCategory, isOneIdentifier, isOneAlternative, spelledCategories, spelledIdentifiers, spelledValue, spelledNames, spelledChain, spelledIn, isSpelled}
 use Rattle.query_tree_spelling.proofs.Texts.{not-not}
 use Rattle.query_tree.specs.Nodes.{Node, joinBy, treeCategories, treeIdentifiers, treeChain, treeIn, tree}
 use Rattle.query_tree.proofs.Items.{joined-count}
@@ -44,26 +46,25 @@ isSmall (Node.link x) = isShort x
 front-true : (a b : Bool) → a && b ≡ true → a ≡ true
 front-true a b h = and-true a b h .0
 
-short-name : (x : Bytes) → isName x ≡ true → isShort x ≡ true
-unfolding isName isShort
-short-name x h = and-true (leb 1 (length x)) (leb (length x) 64) (front-true _ _ (front-true _ _ (front-true _ _ (front-true _ _ h)))) .1
+short-name : (x : Bytes) → isComposedName x ≡ true → isShort x ≡ true
+unfolding isShort
+short-name x h = le-leb (length x) 64 (composed-named x h .short)
 
 short-value : (x : Bytes) → isValue x ≡ true → isShort x ≡ true
 unfolding isValue isShort
 short-value x h = and-true (leb 1 (length x)) (leb (length x) 64) (front-true _ _ (front-true _ _ (front-true _ _ (front-true _ _ h)))) .1
 
-short-namespace : (x : Bytes) → isNamespace x ≡ true → isShort x ≡ true
-unfolding isNamespace isShort
-short-namespace x h = go (eqb (length x) 0) (isName x) refl refl h
+short-namespace : (x : Bytes) → isComposedNamespace x ≡ true → isShort x ≡ true
+unfolding isComposedNamespace isShort
+short-namespace x h = go (eqb (length x) 0) (isComposedName x) refl refl h
   where
-    go : (a b : Bool) → eqb (length x) 0 ≡ a → isName x ≡ b → a || b ≡ true → leb (length x) 64 ≡ true
+    go : (a b : Bool) → eqb (length x) 0 ≡ a → isComposedName x ≡ b → a || b ≡ true → leb (length x) 64 ≡ true
     go true b e f k = le-leb (length x) 64 (omega (arith, eqb-true (length x) 0 e))
     go false true e f k = short-name x f
     go false false e f k = absurd (false≢true k)
 
-short-property : (x : Bytes) → isPropertyName x ≡ true → isShort x ≡ true
-unfolding isPropertyName
-short-property x h = short-name x (front-true _ _ h)
+short-property : (x : Bytes) → isComposedPropertyName x ≡ true → isShort x ≡ true
+short-property x h = short-name x (property-composed x h)
 
 -- Lists of small nodes.
 unfoldable pub AllSmall : List Node → Type 0
@@ -90,9 +91,9 @@ categories-small (Categories.either a c) h b =
     let k = and-true (spelledCategories a) (isOneCategory c && spelledCategories c) h in
     joined-small Node.bar (treeCategories a) (treeCategories c) refl b (categories-small a (k .0)) (categories-small c (and-true (isOneCategory c) (spelledCategories c) (k .1) .1))
 
-reference-small : (r : Reference) → isReference r ≡ true → shortReference r ≡ true
+reference-small : (r : Reference) → isComposedReference r ≡ true → shortReference r ≡ true
 reference-small (bare x) h = short-name x h
-reference-small (qualified n x) h = let k = and-true (isNamespace n) (isName x) h in both-true (short-namespace n (k .0)) (short-name x (k .1))
+reference-small (qualified n x) h = let k = and-true (isComposedNamespace n) (isComposedName x) h in both-true (short-namespace n (k .0)) (short-name x (k .1))
 
 identifiers-small : (i : Identifiers) → spelledIdentifiers i ≡ true → length (treeIdentifiers i) ≤ 681 → AllSmall (treeIdentifiers i)
 unfolding treeIdentifiers spelledIdentifiers
@@ -102,16 +103,12 @@ identifiers-small (Identifiers.either a c) h b =
     let k = and-true (spelledIdentifiers a) (isOneIdentifier c && spelledIdentifiers c) h in
     joined-small Node.bar (treeIdentifiers a) (treeIdentifiers c) refl b (identifiers-small a (k .0)) (identifiers-small c (and-true (isOneIdentifier c) (spelledIdentifiers c) (k .1) .1))
 
-is-true : (a : Bool) → not a ≡ false → a ≡ true
-is-true true h = refl
-is-true false h = sym h
-
-chain-small : (p : Chain) (l : List Node) → breaksNames p ≡ false → AllSmall l → AllSmall (treeChain p l)
-unfolding treeChain breaksNames
-chain-small (single x) l h k = behind-small l (Node.property x) k (short-property x (is-true (isPropertyName x) h))
+chain-small : (p : Chain) (l : List Node) → spelledNames p ≡ true → AllSmall l → AllSmall (treeChain p l)
+unfolding treeChain spelledNames
+chain-small (single x) l h k = behind-small l (Node.property x) k (short-property x h)
 chain-small (chain x p) l h k =
-    let e = or-false (not (isPropertyName x)) (breaksNames p) h in
-    behind-small (treeChain p l) (Node.link x) (chain-small p l (e .1) k) (short-property x (is-true (isPropertyName x) (e .0)))
+    let e = and-true (isComposedPropertyName x) (spelledNames p) h in
+    behind-small (treeChain p l) (Node.link x) (chain-small p l (e .1) k) (short-property x (e .0))
 
 -- How many nodes the alternatives of a chain have.
 chain-more : (p : Chain) (l : List Node) → length l ≤ length (treeChain p l)
@@ -135,7 +132,7 @@ mutual
   spelled-small (Query.identifier i) h b = identifiers-small i (front-true _ _ h) b
   spelled-small (Query.property p a) h b =
       let k = and-true (spelledChain p) (spelledIn a) h in
-      chain-small p (treeIn a) (not-not (breaksNames p) (front-true _ _ (k .0))) (in-small a (k .1) (omega (arith, b, chain-more p (treeIn a))))
+      chain-small p (treeIn a) (front-true _ _ (k .0)) (in-small a (k .1) (omega (arith, b, chain-more p (treeIn a))))
   spelled-small (Query.disjunction a c) h b =
       let k = and-true (isSpelled a) (isSpelled c) h in
       joined-small Node.or (tree a) (tree c) refl b (spelled-small a (k .0)) (spelled-small c (k .1))

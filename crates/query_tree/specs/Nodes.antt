@@ -1,10 +1,11 @@
 -- A surface query as postfix nodes, each behind what it is made of. Two queries never share a tree: `||` is not OR, a name of a chain
 -- is not a subquery's property, `:D1` is not `D1`.
 use Prim.Native.Nat.{ℕ}
-use mathlib.Core.List.{List, [], _∷_, _++_}
+use mathlib.Core.List.{List, [], _∷_, _++_, map}
 use lib.ListN.{length}
 use Rattle.text.specs.Bytes.{Bytes}
-use Rattle.values.specs.Names.{Reference, bare, qualified}
+use Rattle.names.specs.Names.{composedName}
+use Rattle.values.specs.Names.{Reference, bare, qualified, composedReference}
 use Rattle.language.specs.Surface.{Chain, single, chain, Categories, Identifiers, Alternatives, Query}
 use Rattle.language.specs.declared.SurfaceComparator.{SurfaceComparator}
 
@@ -53,6 +54,23 @@ unfoldable mutual
   tree (Query.property p a) = treeChain p (treeIn a)
   tree (Query.disjunction a b) = joinBy Node.or (tree a) (tree b)
   tree (Query.conjunction a b) = joinBy Node.and (tree a) (tree b)
+
+-- A node with its names composed; what a property piece writes stays as typed.
+unfoldable pub composedNode : Node → Node
+composedNode (Node.and n) = Node.and n
+composedNode (Node.or n) = Node.or n
+composedNode (Node.bar n) = Node.bar n
+composedNode (Node.category x) = Node.category (composedName x)
+composedNode (Node.namespace n) = Node.namespace (composedName n)
+composedNode (Node.reference c r) = Node.reference c (composedReference r)
+composedNode Node.existence = Node.existence
+composedNode (Node.value c v) = Node.value c v
+composedNode Node.subquery = Node.subquery
+composedNode (Node.property x) = Node.property (composedName x)
+composedNode (Node.link x) = Node.link (composedName x)
+
+abbrev pub composedNodes : List Node → List Node
+composedNodes l = map composedNode l
 
 -- The names and values of nodes, one behind the other: a reference's namespace before its article name.
 abbrev pub referenceString : Reference → Bytes

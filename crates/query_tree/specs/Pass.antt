@@ -8,7 +8,8 @@ use mathlib.Core.Option.{Option, some, none}
 use lib.Dec.{leb, eqb}
 use lib.ListN.{length}
 use Rattle.text.specs.Bytes.{Bytes, bytes, same}
-use Rattle.values.specs.Names.{Reference, isName, isPropertyName, isNamespace, isReference}
+use Rattle.names.specs.Names.{isComposedName, isComposedPropertyName, isComposedNamespace}
+use Rattle.values.specs.Names.{Reference, isComposedReference}
 use Rattle.language.specs.Comparators.{word, isEqual}
 use Rattle.language.specs.Answer.{_>>=_, found, onlyIf}
 use Rattle.language.specs.QueryText.{isCategoryOf}
@@ -116,10 +117,10 @@ unfoldable pub subqueryItem : Item → Option Item
 subqueryItem i = onlyIf (isQuery (i .shape)) (some (itemOf Shape.Alternatives (i .from) 0 true false (isGood i) (7 + fullBytes i) (suc (i .depth))))
 
 unfoldable pub propertyItem : Bytes → Item → Option Item
-propertyItem x i = onlyIf (isAlternatives (i .shape)) (some (itemOf Shape.Property (i .from) 1 true false (isPropertyName x && i .kept) (6 + length x + i .bytes) (i .depth)))
+propertyItem x i = onlyIf (isAlternatives (i .shape)) (some (itemOf Shape.Property (i .from) 1 true false (isComposedPropertyName x && i .kept) (6 + length x + i .bytes) (i .depth)))
 
 unfoldable pub linkItem : Bytes → Item → Option Item
-linkItem x i = onlyIf (isProperty (i .shape)) (some (itemOf Shape.Property (i .from) (suc (i .names)) true false (isPropertyName x && (leb (suc (i .names)) 8 && i .kept)) (i .bytes + suc (length x)) (i .depth)))
+linkItem x i = onlyIf (isProperty (i .shape)) (some (itemOf Shape.Property (i .from) (suc (i .names)) true false (isComposedPropertyName x && (leb (suc (i .names)) 8 && i .kept)) (i .bytes + suc (length x)) (i .depth)))
 
 -- Two with what joins them, node `at`, which tells how many nodes the second has.
 unfoldable pub barItem : ℕ → ℕ → Item → Item → Option Item
@@ -152,9 +153,9 @@ abbrev pub itemStep : ℕ → Node → List Item → Option (List Item)
 itemStep at (Node.and n) st = onTwo (andItem at n) st
 itemStep at (Node.or n) st = onTwo (orItem at n) st
 itemStep at (Node.bar n) st = onTwo (barItem at n) st
-itemStep at (Node.category x) st = some (leafItem Shape.Categories at false (isName x) (length x) ∷ st)
-itemStep at (Node.namespace n) st = some (leafItem Shape.Identifiers at (same n (bytes "Category")) (isNamespace n) (length n + 2) ∷ st)
-itemStep at (Node.reference c r) st = some (leafItem Shape.Identifiers at (isEqual c && isCategoryOf r) (isReference r) (length (word c) + costReference r) ∷ st)
+itemStep at (Node.category x) st = some (leafItem Shape.Categories at false (isComposedName x) (length x) ∷ st)
+itemStep at (Node.namespace n) st = some (leafItem Shape.Identifiers at (same n (bytes "Category")) (isComposedNamespace n) (length n + 2) ∷ st)
+itemStep at (Node.reference c r) st = some (leafItem Shape.Identifiers at (isEqual c && isCategoryOf r) (isComposedReference r) (length (word c) + costReference r) ∷ st)
 itemStep at Node.existence st = some (leafItem Shape.Alternatives at false true 1 ∷ st)
 itemStep at (Node.value c v) st = some (leafItem Shape.Alternatives at false (spelledValue c v) (length (word c) + length v) ∷ st)
 itemStep at Node.subquery st = onOne subqueryItem st

@@ -12,9 +12,12 @@ use Rattle.text.specs.Bytes.{Bytes, bytes, any, same, span, trim}
 use Rattle.text.specs.Class.{isOther}
 use Rattle.text.proofs.Laws.{same-eq}
 use Rattle.text.proofs.Trim.{trim-le}
-use Rattle.values.specs.Names.{Reference, bare, qualified, reference, isReference, isName, isNamespace, isValue, first}
+use Rattle.names.specs.Names.{composedName, isName, isNamespace, first}
+use Rattle.names.proofs.Composed.{composed-le, composed-is-name, composed-is-namespace}
+use Rattle.values.specs.Names.{Reference, bare, qualified, reference, isReference, composedReference, isValue}
+use Rattle.values.proofs.Spelled.{composed-is-reference}
 use Rattle.language.specs.Answer.{Answer, refused, accepted, judge, found}
-use Rattle.language.specs.Surface.{Chain, single, chain, Categories, Identifiers, Alternatives, Query}
+use Rattle.language.specs.Surface.{Chain, single, chain, Categories, Identifiers, Alternatives, Query, composedChain, composedCategories, composedIdentifiers, composedIn, composedQuery}
 use Rattle.language.specs.RawQuery.{Piece, RawQuery, RawAlternatives, readWhole}
 use Rattle.language.specs.QueryText.{isPlain, isCategory, isCategoryOf, articleOf, isPlusOf, isNamespacePiece, namespaceOf, isExistence, namesIn, depthIn, depth, longestIn, longest, breaksNames, breaksCategory, breaksReference, breaksPieces, breaksIn, breaks, breaksValueIn, breaksValue, categoriesFrom, identifierOf, identifiersFrom, piecesQuery, surfaceIn, surface, checks, readText}
 use Rattle.language.proofs.Members.{and-true, or-false, both-true, both-false}
@@ -22,6 +25,7 @@ use Rattle.language.proofs.Options.{OnSome}
 use Rattle.query_tree_spelling.specs.Spelled.{isOneCategory, isOneIdentifier, isOneAlternative, isDisjunction, isJoined, spelledCategories, spelledIdentifiers, readsAsCategory, spelledValue, spelledChain, spelledIn, isSpelled, costCategories, costReference, costIdentifiers, costChain, wrapped, under, costIn, cost, deepIn, deep, hasText}
 use Rattle.query_tree_spelling.proofs.Texts.{not-not}
 use Rattle.query_tree_spelling.proofs.Reading.{isRawDisjunction, isRawJoined, isRawEither}
+use Rattle.query_tree_spelling.proofs.Composed.{names-composed, names-count, chain-cost, reference-cost, category-kept}
 use Rattle.query_tree_spelling.proofs.Spells.{sizePiece, sizePieces}
 use Rattle.query_tree_spelling.proofs.Laying.{sizeIn, size, LaidIn, Laid, whole-takes}
 
@@ -51,37 +55,41 @@ unfolding costReference
 article-takes (bare x) h = absurd (false≢true h)
 article-takes (qualified n x) h = omega (arith, ap length (same-eq n (bytes "Category") h))
 
-categories-spelled : (c : Categories) (l : List Piece) → spelledCategories c ≡ true → any breaksCategory l ≡ false → spelledCategories (categoriesFrom c l) ≡ true
-unfolding categoriesFrom spelledCategories any
+categories-spelled : (c : Categories) (l : List Piece) → spelledCategories (composedCategories c) ≡ true → any breaksCategory l ≡ false → spelledCategories (composedCategories (categoriesFrom c l)) ≡ true
+unfolding categoriesFrom composedCategories spelledCategories any
 categories-spelled c [] h e = h
 categories-spelled c (p ∷ l) h e =
     let k = or-false (breaksCategory p) (any breaksCategory l) e in
     let j = and-true (isPlain p) (isName (p .text)) (not-yes (isPlain p && isName (p .text)) (k .0)) in
-    categories-spelled (Categories.either c (Categories.one (p .text))) l (both-true h (j .1)) (k .1)
+    categories-spelled (Categories.either c (Categories.one (p .text))) l (both-true h (composed-is-name (p .text) (j .1))) (k .1)
 
-categories-cost : (c : Categories) (l : List Piece) → costCategories (categoriesFrom c l) ≤ costCategories c + sizePieces l
-unfolding categoriesFrom costCategories sizePieces sizePiece
+categories-cost : (c : Categories) (l : List Piece) → costCategories (composedCategories (categoriesFrom c l)) ≤ costCategories (composedCategories c) + sizePieces l
+unfolding categoriesFrom composedCategories costCategories sizePieces sizePiece
 categories-cost c [] = omega arith
-categories-cost c (p ∷ l) = omega (arith, categories-cost (Categories.either c (Categories.one (p .text))) l)
+categories-cost c (p ∷ l) = omega (arith, composed-le (p .text), categories-cost (Categories.either c (Categories.one (p .text))) l)
 
 -- Identifiers.
 record Leaf (p : Piece) : Type 0 where
-  is : spelledIdentifiers (identifierOf p) ≡ true
-  one : isOneIdentifier (identifierOf p) ≡ true
-  costs : costIdentifiers (identifierOf p) ≤ sizePiece p
-  leads : isCategory p ≡ false → readsAsCategory (identifierOf p) ≡ false
+  is : spelledIdentifiers (composedIdentifiers (identifierOf p)) ≡ true
+  one : isOneIdentifier (composedIdentifiers (identifierOf p)) ≡ true
+  costs : costIdentifiers (composedIdentifiers (identifierOf p)) ≤ sizePiece p
+  leads : isCategory p ≡ false → readsAsCategory (composedIdentifiers (identifierOf p)) ≡ false
 
 plus-takes : (r : Reference) → isPlusOf r ≡ true → length (namespaceOf r) + 2 ≤ costReference r
 unfolding costReference
 plus-takes (bare x) h = absurd (false≢true h)
 plus-takes (qualified n x) h = omega (arith, ap length (same-eq x (bytes "+") h))
 
-plus-leads : (r : Reference) → isPlusOf r ≡ true → isCategoryOf r ≡ same (namespaceOf r) (bytes "Category")
+plus-leads : (r : Reference) → isPlusOf r ≡ true → same (composedName (namespaceOf r)) (bytes "Category") ≡ isCategoryOf r
 plus-leads (bare x) h = absurd (false≢true h)
-plus-leads (qualified n x) h = refl
+plus-leads (qualified n x) h = category-kept n
+
+category-composed : (r : Reference) → isCategoryOf (composedReference r) ≡ isCategoryOf r
+category-composed (bare x) = refl
+category-composed (qualified n x) = category-kept n
 
 leaf : (p : Piece) → breaksReference p ≡ false → Leaf p
-unfolding spelledIdentifiers costIdentifiers readsAsCategory sizePiece
+unfolding spelledIdentifiers composedIdentifiers costIdentifiers readsAsCategory sizePiece
 leaf p = go (isNamespacePiece p) refl
   where
     r : Reference
@@ -91,19 +99,19 @@ leaf p = go (isNamespacePiece p) refl
     plus e h i =
         let k = and-true (isPlain p) (isPlusOf r) e in
         record {
-          is = ap spelledIdentifiers i ∙ not-yes (isNamespace (namespaceOf r)) h;
-          one = ap isOneIdentifier i;
-          costs = omega (arith, ap costIdentifiers i, plus-takes r (k .1), reference-takes (p .text));
-          leads = λ c. ap readsAsCategory i ∙ sym (plus-leads r (k .1)) ∙ (rw (k .0) at c);
+          is = rw i (composed-is-namespace (namespaceOf r) (not-yes (isNamespace (namespaceOf r)) h));
+          one = rw i;
+          costs = rw i (omega (arith, composed-le (namespaceOf r), plus-takes r (k .1), reference-takes (p .text)));
+          leads = λ c. rw i (plus-leads r (k .1) ∙ (rw (k .0) at c));
         }
 
     other : isNamespacePiece p ≡ false → not (isReference r) ≡ false → identifierOf p ≡ Identifiers.reference (p .comparator) r → Leaf p
     other e h i =
         record {
-          is = ap spelledIdentifiers i ∙ not-yes (isReference r) h;
-          one = ap isOneIdentifier i;
-          costs = omega (arith, ap costIdentifiers i, reference-takes (p .text));
-          leads = λ c. ap readsAsCategory i ∙ c;
+          is = rw i (composed-is-reference r (not-yes (isReference r) h));
+          one = rw i;
+          costs = rw i (omega (arith, reference-cost r, reference-takes (p .text)));
+          leads = λ c. rw (i, category-composed r) c;
         }
 
     go : (t : Bool) → isNamespacePiece p ≡ t → breaksReference p ≡ false → Leaf p
@@ -111,12 +119,12 @@ leaf p = go (isNamespacePiece p) refl
     go false e h = other e (rw e at h) (rw e)
 
 record Some (i j : Identifiers) (n : ℕ) : Type 0 where
-  is : spelledIdentifiers j ≡ true
-  costs : costIdentifiers j ≤ costIdentifiers i + n
-  leads : readsAsCategory j ≡ readsAsCategory i
+  is : spelledIdentifiers (composedIdentifiers j) ≡ true
+  costs : costIdentifiers (composedIdentifiers j) ≤ costIdentifiers (composedIdentifiers i) + n
+  leads : readsAsCategory (composedIdentifiers j) ≡ readsAsCategory (composedIdentifiers i)
 
-identifiers-some : (i : Identifiers) (l : List Piece) → spelledIdentifiers i ≡ true → any breaksReference l ≡ false → Some i (identifiersFrom i l) (sizePieces l)
-unfolding identifiersFrom spelledIdentifiers costIdentifiers readsAsCategory sizePieces any
+identifiers-some : (i : Identifiers) (l : List Piece) → spelledIdentifiers (composedIdentifiers i) ≡ true → any breaksReference l ≡ false → Some i (identifiersFrom i l) (sizePieces l)
+unfolding identifiersFrom composedIdentifiers spelledIdentifiers costIdentifiers readsAsCategory sizePieces any
 identifiers-some i [] h e = record { is = h; costs = omega arith; leads = refl }
 identifiers-some i (p ∷ l) h e =
     let k = or-false (breaksReference p) (any breaksReference l) e in
@@ -124,23 +132,30 @@ identifiers-some i (p ∷ l) h e =
     let t = identifiers-some (Identifiers.either i (identifierOf p)) l (both-true h (both-true (f .one) (f .is))) (k .1) in
     record { is = t .is; costs = omega (arith, t .costs, f .costs); leads = t .leads }
 
--- What is said of a surface query that was read.
+-- The surface query of what was read, its names composed.
+abbrev pub made : RawQuery → Query
+made r = composedQuery (surface r)
+
+abbrev pub madeIn : RawAlternatives → Alternatives
+madeIn r = composedIn (surfaceIn r)
+
+-- What is said of it.
 pub record Cheap (r : RawQuery) : Type 0 where
-  pub is : isSpelled (surface r) ≡ true
-  pub costs : cost (surface r) ≤ size r
-  pub deepness : deep (surface r) ≤ depth r
-  pub operandCosts : isRawDisjunction r ≡ false → wrapped (isDisjunction (surface r)) (cost (surface r)) ≤ size r
-  pub operandDeepness : isRawDisjunction r ≡ false → under (isDisjunction (surface r)) (deep (surface r)) ≤ depth r
-  pub termCosts : isRawJoined r ≡ false → wrapped (isJoined (surface r)) (cost (surface r)) ≤ size r
-  pub termDeepness : isRawJoined r ≡ false → under (isJoined (surface r)) (deep (surface r)) ≤ depth r
+  pub is : isSpelled (made r) ≡ true
+  pub costs : cost (made r) ≤ size r
+  pub deepness : deep (made r) ≤ depth r
+  pub operandCosts : isRawDisjunction r ≡ false → wrapped (isDisjunction (made r)) (cost (made r)) ≤ size r
+  pub operandDeepness : isRawDisjunction r ≡ false → under (isDisjunction (made r)) (deep (made r)) ≤ depth r
+  pub termCosts : isRawJoined r ≡ false → wrapped (isJoined (made r)) (cost (made r)) ≤ size r
+  pub termDeepness : isRawJoined r ≡ false → under (isJoined (made r)) (deep (made r)) ≤ depth r
 
 pub record CheapIn (r : RawAlternatives) : Type 0 where
-  pub is : spelledIn (surfaceIn r) ≡ true
-  pub costs : costIn (surfaceIn r) ≤ sizeIn r
-  pub deepness : deepIn (surfaceIn r) ≤ depthIn r
+  pub is : spelledIn (madeIn r) ≡ true
+  pub costs : costIn (madeIn r) ≤ sizeIn r
+  pub deepness : deepIn (madeIn r) ≤ depthIn r
 
 -- A query that is no disjunction and no conjunction.
-single-cheap : (r : RawQuery) → isDisjunction (surface r) ≡ false → isJoined (surface r) ≡ false → isSpelled (surface r) ≡ true → cost (surface r) ≤ size r → deep (surface r) ≤ depth r → Cheap r
+single-cheap : (r : RawQuery) → isDisjunction (made r) ≡ false → isJoined (made r) ≡ false → isSpelled (made r) ≡ true → cost (made r) ≤ size r → deep (made r) ≤ depth r → Cheap r
 single-cheap r d j h c e =
     record { is = h; costs = c; deepness = e; operandCosts = λ x. rw d c; operandDeepness = λ x. rw d e; termCosts = λ x. rw j c; termDeepness = λ x. rw j e }
 
@@ -152,20 +167,20 @@ record Bracket (q : Query) (n : ℕ) : Type 0 where
   noDisjunction : isDisjunction q ≡ false
   noJoin : isJoined q ≡ false
 
-bracket : (p : Piece) (l : List Piece) → breaksPieces p l ≡ false → Bracket (piecesQuery p l) (4 + sizePiece p + sizePieces l)
-unfolding isSpelled cost deep spelledCategories costCategories sizePiece any
+bracket : (p : Piece) (l : List Piece) → breaksPieces p l ≡ false → Bracket (composedQuery (piecesQuery p l)) (4 + sizePiece p + sizePieces l)
+unfolding composedQuery composedCategories isSpelled cost deep spelledCategories costCategories sizePiece any
 bracket p l = go (isCategory p) refl
   where
     x : Bytes
     x = articleOf (reference (p .text))
 
-    go : (t : Bool) → isCategory p ≡ t → cond t (not (isName x) || any breaksCategory l) (any breaksReference (p ∷ l)) ≡ false → Bracket (cond t (Query.category (categoriesFrom (Categories.one x) l)) (Query.identifier (identifiersFrom (identifierOf p) l))) (4 + sizePiece p + sizePieces l)
+    go : (t : Bool) → isCategory p ≡ t → cond t (not (isName x) || any breaksCategory l) (any breaksReference (p ∷ l)) ≡ false → Bracket (composedQuery (cond t (Query.category (categoriesFrom (Categories.one x) l)) (Query.identifier (identifiersFrom (identifierOf p) l)))) (4 + sizePiece p + sizePieces l)
     go true e h =
         let k = or-false (not (isName x)) (any breaksCategory l) h in
         let c = and-true (isPlain p) (isCategoryOf (reference (p .text))) e in
         record {
-          is = categories-spelled (Categories.one x) l (not-yes (isName x) (k .0)) (k .1);
-          costs = omega (arith, categories-cost (Categories.one x) l, article-takes (reference (p .text)) (c .1), reference-takes (p .text));
+          is = categories-spelled (Categories.one x) l (composed-is-name x (not-yes (isName x) (k .0))) (k .1);
+          costs = omega (arith, categories-cost (Categories.one x) l, composed-le x, article-takes (reference (p .text)) (c .1), reference-takes (p .text));
           deepness = omega arith;
           noDisjunction = refl;
           noJoin = refl;
@@ -191,18 +206,18 @@ under-le true c n h = omega arith
 under-le false c n h = omega arith
 
 -- One alternative.
-one-surface : (r : RawAlternatives) → isRawEither r ≡ false → isOneAlternative (surfaceIn r) ≡ true
-unfolding surface
+one-surface : (r : RawAlternatives) → isRawEither r ≡ false → isOneAlternative (madeIn r) ≡ true
+unfolding surface composedQuery
 one-surface (RawAlternatives.piece p) h = go (isExistence p)
   where
-    go : (t : Bool) → isOneAlternative (cond t Alternatives.existence (Alternatives.value (p .comparator) (p .text))) ≡ true
+    go : (t : Bool) → isOneAlternative (composedIn (cond t Alternatives.existence (Alternatives.value (p .comparator) (p .text)))) ≡ true
     go true = refl
     go false = refl
 one-surface (RawAlternatives.subquery q) h = refl
 one-surface (RawAlternatives.either a b) h = absurd (true≢false h)
 
 piece-cheap : (p : Piece) → isPlain p && eqb (first (p .text)) 33 ≡ false → not (isValue (p .text)) ≡ false → CheapIn (RawAlternatives.piece p)
-unfolding surface isSpelled cost deep depth size sizePiece spelledValue
+unfolding surface composedQuery isSpelled cost deep depth size sizePiece spelledValue
 piece-cheap p h v = go (isExistence p) refl
   where
     value : Alternatives
@@ -214,20 +229,20 @@ piece-cheap p h v = go (isExistence p) refl
 
     go : (t : Bool) → isExistence p ≡ t → CheapIn (RawAlternatives.piece p)
     go true e =
-        let k : surfaceIn (RawAlternatives.piece p) ≡ Alternatives.existence = rw e in
+        let k : madeIn (RawAlternatives.piece p) ≡ Alternatives.existence = rw e in
         let m = and-true (isPlain p) (same (p .text) (bytes "+")) e in
         record { is = rw k; costs = rw k (omega (arith, ap length (same-eq (p .text) (bytes "+") (m .1)))); deepness = rw k (omega arith) }
     go false e =
-        let k : surfaceIn (RawAlternatives.piece p) ≡ value = rw e in
+        let k : madeIn (RawAlternatives.piece p) ≡ value = rw e in
         let m = joined (isPlain p) (eqb (first (p .text)) 33) (same (p .text) (bytes "+")) h e in
         record { is = rw k (both-true (not-yes (isValue (p .text)) v) (yes-not m)); costs = rw k (omega arith); deepness = rw k (omega arith) }
 
-head-spelled : (c : Chain) → breaksNames c ≡ false → namesIn c ≤ 8 → spelledChain c ≡ true
+head-spelled : (c : Chain) → breaksNames c ≡ false → namesIn c ≤ 8 → spelledChain (composedChain c) ≡ true
 unfolding spelledChain
-head-spelled c h k = both-true (yes-not h) (le-leb (namesIn c) 8 k)
+head-spelled c h k = both-true (names-composed c h) (rw (names-count c) (le-leb (namesIn c) 8 k))
 
 mutual
-  unfolding surface isSpelled cost deep depth longest breaks breaksValue size
+  unfolding surface composedQuery isSpelled cost deep depth longest breaks breaksValue size
 
   pub cheap-in : (r : RawAlternatives) → LaidIn r → breaksIn r ≡ false → breaksValueIn r ≡ false → longestIn r ≤ 8 → CheapIn r
   cheap-in (RawAlternatives.piece p) h n v l = piece-cheap p h v
@@ -248,17 +263,17 @@ mutual
   cheap (RawQuery.property c a) h n v k =
       let m = or-false (breaksNames c) (breaksIn a) n in
       let t = cheap-in a h (m .1) v (omega (arith, k)) in
-      single-cheap (RawQuery.property c a) refl refl (both-true (head-spelled c (m .0) (omega (arith, k))) (t .is)) (omega (arith, t .costs)) (t .deepness)
+      single-cheap (RawQuery.property c a) refl refl (both-true (head-spelled c (m .0) (omega (arith, k))) (t .is)) (omega (arith, t .costs, chain-cost c)) (t .deepness)
   cheap (RawQuery.group q) h n v k =
       let t = cheap q h n v k in
       record {
         is = t .is;
         costs = omega (arith, t .costs);
         deepness = omega (arith, t .deepness);
-        operandCosts = λ e. wrapped-le (isDisjunction (surface q)) (cost (surface q)) (size q) (t .costs);
-        operandDeepness = λ e. under-le (isDisjunction (surface q)) (deep (surface q)) (depth q) (t .deepness);
-        termCosts = λ e. wrapped-le (isJoined (surface q)) (cost (surface q)) (size q) (t .costs);
-        termDeepness = λ e. under-le (isJoined (surface q)) (deep (surface q)) (depth q) (t .deepness);
+        operandCosts = λ e. wrapped-le (isDisjunction (made q)) (cost (made q)) (size q) (t .costs);
+        operandDeepness = λ e. under-le (isDisjunction (made q)) (deep (made q)) (depth q) (t .deepness);
+        termCosts = λ e. wrapped-le (isJoined (made q)) (cost (made q)) (size q) (t .costs);
+        termDeepness = λ e. under-le (isJoined (made q)) (deep (made q)) (depth q) (t .deepness);
       }
   cheap (RawQuery.disjunction a b) h n v k =
       let m = or-false (breaks a) (breaks b) n in
@@ -279,7 +294,7 @@ mutual
       let w = or-false (breaksValue a) (breaksValue b) v in
       let t = cheap a (h .0) (m .0) (w .0) (omega (arith, k)) in
       let u = cheap b (h .1) (m .1) (w .1) (omega (arith, k)) in
-      let q = surface (RawQuery.conjunction a b) in
+      let q = made (RawQuery.conjunction a b) in
       let c : cost q ≤ size a + size b = omega (arith, t .operandCosts (h .2), u .termCosts (h .3)) in
       let d : deep q ≤ max (depth a) (depth b) = omega (arith, t .operandDeepness (h .2), u .termDeepness (h .3)) in
       record {

@@ -12,7 +12,9 @@ use borrow.Author.Tests.{eqb-true, lt-ltb, le-ltb}
 use Rattle.text.specs.Bytes.{Bytes, bytes, any, all, same, isBlank, span, front, behind, trimEnd, trim, starts}
 use Rattle.text.specs.Class.{oneOf, isFree, isNameByte, isValueByte, isOther}
 use Rattle.text.proofs.Laws.{all-append, all-span}
-use Rattle.values.specs.Names.{Reference, bare, qualified, reference, isReference, isSized, first, last, isName, isPropertyName, isNamespace, isValue}
+use Rattle.names.specs.Names.{isSized, first, last, isName, isPropertyName, isNamespace}
+use Rattle.names.proofs.Composed.{name-keeps}
+use Rattle.values.specs.Names.{Reference, bare, qualified, reference, isReference, isValue}
 use Rattle.language.specs.Comparators.{word, isEqual}
 use Rattle.language.specs.Surface.{Chain, single, chain}
 use Rattle.language.specs.RawQuery.{Piece, headLength, splitDots, trimNames, prefixed}
@@ -33,18 +35,12 @@ pub record Named (b : ℕ) (t : Bytes) : Type 0 where
   pub ends : trimEnd (b ∷ t) ≡ b ∷ t
 
 pub no-name : isName [] ≡ true → ⊥
-unfolding isName all
-no-name h = false≢true h
+no-name h = omega (arith, name-keeps [] h .filled)
 
 pub named : (b : ℕ) (t : Bytes) → isName (b ∷ t) ≡ true → Named b t
-unfolding isName
 named b t h =
-    let s = b ∷ t in
-    let e0 = and-true (isSized s && all isNameByte s && not (oneOf "!~+" b) && not (isBlank b)) (not (isBlank (last s))) h in
-    let e1 = and-true (isSized s && all isNameByte s && not (oneOf "!~+" b)) (not (isBlank b)) (e0 .0) in
-    let e2 = and-true (isSized s && all isNameByte s) (not (oneOf "!~+" b)) (e1 .0) in
-    let e3 = and-true (isSized s) (all isNameByte s) (e2 .0) in
-    record { bytes = e3 .1; noMark = not-not (oneOf "!~+" b) (e2 .1); noBlank = not-not (isBlank b) (e1 .1); ends = trimEnd-none s (not-not (isBlank (last s)) (e0 .1)) }
+    let n = name-keeps (b ∷ t) h in
+    record { bytes = n .among; noMark = n .unmarked; noBlank = n .begun; ends = trimEnd-none (b ∷ t) (n .ended) }
 
 pub no-bang : (b : ℕ) → oneOf "!~+" b ≡ false → (eqb b 33 ≡ false) × (eqb b 43 ≡ false)
 unfolding any

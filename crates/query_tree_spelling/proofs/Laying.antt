@@ -13,7 +13,7 @@ use Rattle.text.specs.Bytes.{Bytes, bytes, all, isBlank, span, front, behind, t
 use Rattle.text.specs.Class.{isFree}
 use Rattle.text.proofs.Laws.{span-le}
 use Rattle.text.proofs.Trim.{trim-le}
-use Rattle.values.specs.Names.{first}
+use Rattle.names.specs.Names.{first}
 use Rattle.language.specs.Answer.{_>>=_, onlyIf}
 use Rattle.language.specs.Comparators.{word, typed, firstTyped, isEqual}
 use Rattle.language.specs.Surface.{Chain, single, chain}

@@ -20,7 +20,7 @@ use Rattle.query_tree_spelling.specs.Spelled.{isSpelled, cost, deep, has
 use Rattle.query_tree_spelling.specs.Spelling.{spell}
 use Rattle.query_tree_spelling.proofs.Spells.{spell-length, round-trip}
 use Rattle.query_tree_spelling.proofs.Laying.{size, Laid, whole-takes}
-use Rattle.query_tree_spelling.proofs.Cheapest.{cheap}
+use Rattle.query_tree_spelling.proofs.Cheapest.{made, cheap}
 
 -- What an accepted text says of its surface query.
 pub record Spelled (s : Bytes) (q : Query) : Type 0 where
@@ -40,9 +40,9 @@ pub accepted-spelled : (s : Bytes) (q : Query) → readText s ≡ accepted q →
 unfolding readText
 accepted-spelled s q = long (ltb 1024 (length s)) refl
   where
-    good : (r : RawQuery) → Laid r × (size r ≤ length s) → length s ≤ 1024 → judge (checks r) (surface r) ≡ accepted q → Spelled s q
+    good : (r : RawQuery) → Laid r × (size r ≤ length s) → length s ≤ 1024 → judge (checks r) (made r) ≡ accepted q → Spelled s q
     good r l f h =
-        let j = judged (ltb 8 (max (depth r) (longest r))) (breaks r) (breaksValue r) (surface r) q h in
+        let j = judged (ltb 8 (max (depth r) (longest r))) (breaks r) (breaksValue r) (made r) q h in
         let m = ltb-false 8 (max (depth r) (longest r)) (j .0) in
         let t = cheap r (l .0) (j .1) (j .2) (omega (arith, m)) in
         subst (Spelled s) (j .3) (record { is = t .is; costs = omega (arith, t .costs, l .1); fits = f; deepness = omega (arith, t .deepness, m) })
@@ -50,11 +50,11 @@ accepted-spelled s q = long (ltb 1024 (length s)) refl
     no : (n : ℕ) → refused n ≡ accepted q → ⊥
     no n h = false≢true (let e : false ≡ true = cc in e)
 
-    whole : (o : Option RawQuery) → OnSome (λ r. Laid r × (size r ≤ length s)) o → length s ≤ 1024 → found o (λ r. judge (checks r) (surface r)) (refused 13) ≡ accepted q → Spelled s q
+    whole : (o : Option RawQuery) → OnSome (λ r. Laid r × (size r ≤ length s)) o → length s ≤ 1024 → found o (λ r. judge (checks r) (made r)) (refused 13) ≡ accepted q → Spelled s q
     whole none l f h = absurd (no 13 h)
     whole (some r) l f h = good r l f h
 
-    long : (t : Bool) → ltb 1024 (length s) ≡ t → cond t (refused 12) (found (readWhole s) (λ r. judge (checks r) (surface r)) (refused 13)) ≡ accepted q → Spelled s q
+    long : (t : Bool) → ltb 1024 (length s) ≡ t → cond t (refused 12) (found (readWhole s) (λ r. judge (checks r) (made r)) (refused 13)) ≡ accepted q → Spelled s q
     long true e h = absurd (no 12 h)
     long false e h = whole (readWhole s) (whole-takes s) (ltb-false 1024 (length s) e) h
 

@@ -11,7 +11,12 @@ use borrow.Author.Tests.{leb-true, le-ltb}
 use Rattle.text.specs.Bytes.{Bytes, bytes, any, all, same, trimEnd}
 use Rattle.text.specs.Class.{oneOf, isFree, isNameByte, isOther}
 use Rattle.text.proofs.Laws.{same-refl}
-use Rattle.values.specs.Names.{Reference, bare, qualified, reference, isReference, isName, isNamespace, isValue}
+use Rattle.names.specs.Codes.{isPlain as isPlainCode}
+use Rattle.names.specs.Names.{hasNameShape, first, isName, isNamespace, isComposedName, isComposedNamespace}
+use Rattle.names.proofs.Ascii.{plain-composed}
+use Rattle.names.proofs.Composed.{composed-typed, namespace-typed}
+use Rattle.values.specs.Names.{Reference, bare, qualified, reference, isReference, isValue}
+use Rattle.values.proofs.Spelled.{reference-typed}
 use Rattle.language.specs.Answer.{Answer, refused, accepted, judge, found}
 use Rattle.language.specs.Comparators.{word, isEqual}
 use Rattle.language.specs.Surface.{Chain, single, chain, Categories, Identifiers, Alternatives, Query}
@@ -19,10 +24,11 @@ use Rattle.language.specs.RawQuery.{Piece, RawQuery, RawAlternatives, readWhole
 use Rattle.language.specs.QueryText.{isPlain, isCategory, isCategoryOf, articleOf, isPlusOf, isNamespacePiece, namespaceOf, isExistence, namesIn, depthIn, depth, longestIn, longest, breaksNames, breaksCategory, breaksReference, breaksPieces, breaksIn, breaks, breaksValueIn, breaksValue, categoriesFrom, identifierOf, identifiersFrom, piecesQuery, surfaceIn, surface, checks, readText}
 use Rattle.language.proofs.Members.{and-true, or-false, both-true, both-false}
 use Rattle.language.specs.declared.SurfaceComparator.{SurfaceComparator}
-use Rattle.query_tree_spelling.specs.Spelled.{isOneCategory, isOneIdentifier, isOneAlternative, isDisjunction, isJoined, spelledCategories, spelledIdentifiers, readsAsCategory, spelledValue, spelledChain, spelledIn, isSpelled, costCategories, costReference, costIdentifiers, costChain, wrapped, under, costIn, cost, deepIn, deep, hasText}
+use Rattle.query_tree_spelling.specs.Spelled.{isOneCategory, isOneIdentifier, isOneAlternative, isDisjunction, isJoined, spelledCategories, spelledIdentifiers, readsAsCategory, spelledValue, spelledNames, spelledChain, spelledIn, isSpelled, costCategories, costReference, costIdentifiers, costChain, wrapped, under, costIn, cost, deepIn, deep, hasText}
 use Rattle.query_tree_spelling.specs.Spelling.{plain, compared, referenceText, categoryPiece, identifierPiece, rawCategories, rawIdentifiers, groupIf, rawIn, raw, unreadPiece, unreadPieces, unreadChain, unreadIn, unread, spell}
 use Rattle.query_tree_spelling.proofs.Texts.{not-not, name-free}
 use Rattle.query_tree_spelling.proofs.Reading.{CleanText, Clean, AllClean, CleanHead, CleanFirst, isRawDisjunction, isRawJoined, isRawEither, ProperIn, Proper, whole-reads}
+use Rattle.query_tree_spelling.proofs.Composed.{names-typed, query-fixed}
 use Rattle.query_tree_spelling.proofs.Cleaning.{no-name, named, name-clean, name-trims, name-no-colon, name-no-plus, namespace-no-colon, colon-clean, plain-first, colon-first, reads-qualified, reads-bare, reads-reference, reads-plus, value-clean, head-clean}
 
 -- What is said of a raw query: the surface query that it is, its depth d, its length n.
@@ -68,8 +74,8 @@ bracket-spells p l q e f g h k = record { is = e; names = f; values = refl; deep
 
 -- Categories.
 category-word : isNamespace (bytes "Category") ≡ true
-unfolding isNamespace isName all isNameByte any
-category-word = refl
+unfolding isNamespace isName hasNameShape isPlainCode all isNameByte any
+category-word = rw (plain-composed (bytes "Category") refl)
 
 pub respell : {q : Query} {r : RawQuery} {d n m : ℕ} → n ≡ m → Spells q r d n → Spells q r d m
 respell {q = q} {r = r} {d = d} e t = subst (λ (k : ℕ). Spells q r d k) e t
@@ -88,10 +94,11 @@ category-first (b ∷ t) h l k e =
 
 pub categories-spell : (c : Categories) (l : List Piece) → spelledCategories c ≡ true → AllClean l → any breaksCategory l ≡ false → Spells (Query.category (categoriesFrom c l)) (rawCategories c l) 0 (13 + costCategories c + sizePieces l)
 unfolding spelledCategories rawCategories costCategories categoriesFrom plain sizePieces sizePiece any
-categories-spell (Categories.one x) l h k e = category-first x h l k e
+categories-spell (Categories.one x) l h k e = category-first x (composed-typed x h) l k e
 categories-spell (Categories.either a (Categories.one y)) l h k e =
-    let f = and-true (spelledCategories a) (isName y) h in
-    respell (omega arith) (categories-spell a (plain y ∷ l) (f .0) (name-clean SurfaceComparator.Equal y (f .1), k) (rw (f .1) e))
+    let f = and-true (spelledCategories a) (isComposedName y) h in
+    let n = composed-typed y (f .1) in
+    respell (omega arith) (categories-spell a (plain y ∷ l) (f .0) (name-clean SurfaceComparator.Equal y n, k) (rw n e))
 categories-spell (Categories.either a (Categories.either b c)) l h k e = absurd (false≢true (and-true (spelledCategories a) false h .1))
 
 -- Identifiers: what is said of one alternative.
@@ -156,8 +163,8 @@ leaf-reference c r h =
 
 leaf : (i : Identifiers) → isOneIdentifier i ≡ true → spelledIdentifiers i ≡ true → Leaf i
 unfolding spelledIdentifiers
-leaf (Identifiers.namespace n) e h = leaf-namespace n h
-leaf (Identifiers.reference c r) e h = leaf-reference c r h
+leaf (Identifiers.namespace n) e h = leaf-namespace n (namespace-typed n h)
+leaf (Identifiers.reference c r) e h = leaf-reference c r (reference-typed r h)
 leaf (Identifiers.either a b) e h = absurd (false≢true e)
 
 first-spells : (i : Identifiers) (l : List Piece) → Leaf i → readsAsCategory i ≡ false → AllClean l → any breaksReference l ≡ false → Spells (Query.identifier (identifiersFrom i l)) (RawQuery.pieces (identifierPiece i) l) 0 (4 + costIdentifiers i + sizePieces l)
@@ -173,8 +180,8 @@ first-spells i l f h k e =
 
 pub identifiers-spell : (i : Identifiers) (l : List Piece) → spelledIdentifiers i ≡ true → readsAsCategory i ≡ false → AllClean l → any breaksReference l ≡ false → Spells (Query.identifier (identifiersFrom i l)) (rawIdentifiers i l) 0 (4 + costIdentifiers i + sizePieces l)
 unfolding spelledIdentifiers readsAsCategory rawIdentifiers costIdentifiers identifiersFrom sizePieces any
-identifiers-spell (Identifiers.namespace n) l h g k e = first-spells (Identifiers.namespace n) l (leaf-namespace n h) g k e
-identifiers-spell (Identifiers.reference c r) l h g k e = first-spells (Identifiers.reference c r) l (leaf-reference c r h) g k e
+identifiers-spell (Identifiers.namespace n) l h g k e = first-spells (Identifiers.namespace n) l (leaf-namespace n (namespace-typed n h)) g k e
+identifiers-spell (Identifiers.reference c r) l h g k e = first-spells (Identifiers.reference c r) l (leaf-reference c r (reference-typed r h)) g k e
 identifiers-spell (Identifiers.either a b) l h g k e =
     let f = and-true (spelledIdentifiers a) (isOneIdentifier b && spelledIdentifiers b) h in
     let j = and-true (isOneIdentifier b) (spelledIdentifiers b) (f .1) in
@@ -227,8 +234,8 @@ value-spells : (c : SurfaceComparator) (v : Bytes) → spelledValue c v ≡ true
 unfolding surface breaks breaksValue depth longest unread compared sizePiece spelledValue
 value-spells c v h =
     let k = and-true (isValue v) _ h in
-    let e = not-not (isEqual c && (eqb (Rattle.values.specs.Names.first v) 33 || same v (bytes "+"))) (k .1) in
-    let m : isExistence (compared c v) ≡ false = go (isEqual c) (eqb (Rattle.values.specs.Names.first v) 33) (same v (bytes "+")) e in
+    let e = not-not (isEqual c && (eqb (first v) 33 || same v (bytes "+"))) (k .1) in
+    let m : isExistence (compared c v) ≡ false = go (isEqual c) (eqb (first v) 33) (same v (bytes "+")) e in
     record { is = rw m; names = refl; values = rw (k .0); deepness = refl; chains = omega arith; proper = value-clean c v h; size = piece-length (compared c v) }
   where
     go : (a b d : Bool) → a && (b || d) ≡ false → a && d ≡ false
@@ -237,7 +244,7 @@ value-spells c v h =
 
 chain-spelled : (p : Chain) → spelledChain p ≡ true → (breaksNames p ≡ false) × (namesIn p ≤ 8)
 unfolding spelledChain
-chain-spelled p h = let k = and-true (not (breaksNames p)) (leb (namesIn p) 8) h in (not-not (breaksNames p) (k .0), leb-true (namesIn p) 8 (k .1))
+chain-spelled p h = let k = and-true (spelledNames p) (leb (namesIn p) 8) h in (names-typed p (k .0), leb-true (namesIn p) 8 (k .1))
 
 chain-length : (p : Chain) → length (unreadChain p) ≡ costChain p
 unfolding unreadChain costChain
@@ -335,4 +342,4 @@ round-trip q h =
     let t = spells q (k .0) in
     let l : length (unread (raw q) []) ≤ 1024 = omega (arith, t .size [], leb-true (cost q) 1024 (j .0)) in
     let m : max (depth (raw q)) (longest (raw q)) ≤ 8 = omega (arith, t .deepness, t .chains, leb-true (deep q) 8 (j .1)) in
-    rw (le-ltb 1024 (length (unread (raw q) [])) l, whole-reads (raw q) (t .proper), le-ltb 8 (max (depth (raw q)) (longest (raw q))) m, t .names, t .values, t .is)
+    rw (le-ltb 1024 (length (unread (raw q) [])) l, whole-reads (raw q) (t .proper), le-ltb 8 (max (depth (raw q)) (longest (raw q))) m, t .names, t .values, t .is, query-fixed q (k .0))

@@ -12,7 +12,8 @@ use borrow.Author.Tests.{eqb-true, not-true, leb-true}
 use Rattle.text.specs.Bytes.{Bytes, bytes, any, all, same, isBlank, span, front, behind, trimEnd, unlessLast, trim, starts}
 use Rattle.text.specs.Class.{oneOf, isFree, isNameByte, isValueByte, isOther}
 use Rattle.text.proofs.Laws.{any-append, all-append}
-use Rattle.values.specs.Names.{isSized, first, last, isName, isPropertyName, isValue}
+use Rattle.names.specs.Names.{isSized, first, last, isName, isPropertyName}
+use Rattle.values.specs.Names.{isValue}
 use Rattle.values.specs.Values.{mapOption}
 use Rattle.language.specs.Comparators.{word, isEqual}
 use Rattle.language.specs.RawQuery.{comparator, headLength, endsHead}

@@ -8,7 +8,7 @@ use native.Mathlib.Omega.{arith}
 use lib.Dec.{leb}
 use lib.ListN.{length}
 use Rattle.text.specs.Bytes.{Bytes}
-use Rattle.values.specs.Names.{isPropertyName}
+use Rattle.names.specs.Names.{isComposedPropertyName}
 use Rattle.language.specs.Answer.{onlyIf}
 use Rattle.query_tree.specs.declared.Shape.{Shape}
 use Rattle.query_tree.specs.declared.Item.{Item}
@@ -30,18 +30,18 @@ pub leaf-sized : (s : Shape) (at : ℕ) (l k : Bool) (a b : ℕ) → upToBytes a
 unfolding leafItem
 leaf-sized s at l k a b e = ap (sized s at 0 true l k 0) e
 
-pub property-is : (x : Bytes) (i : Item) (n : ℕ) → n ≡ upToBytes (length x) → onlyIf (isAlternatives (i .shape)) (some (itemOf Shape.Property (i .from) 1 true false (isPropertyName x && i .kept) (6 + n + i .bytes) (i .depth))) ≡ propertyItem x i
+pub property-is : (x : Bytes) (i : Item) (n : ℕ) → n ≡ upToBytes (length x) → onlyIf (isAlternatives (i .shape)) (some (itemOf Shape.Property (i .from) 1 true false (isComposedPropertyName x && i .kept) (6 + n + i .bytes) (i .depth))) ≡ propertyItem x i
 unfolding propertyItem
 property-is x i n e =
     let z : upToBytes (6 + n + i .bytes) ≡ upToBytes (6 + length x + i .bytes) = omega (arith, e) in
-    ap (λ (b : ℕ). onlyIf (isAlternatives (i .shape)) (some (sized Shape.Property (i .from) 1 true false (isPropertyName x && i .kept) (upToLevels (i .depth)) b))) z
+    ap (λ (b : ℕ). onlyIf (isAlternatives (i .shape)) (some (sized Shape.Property (i .from) 1 true false (isComposedPropertyName x && i .kept) (upToLevels (i .depth)) b))) z
 
-pub link-is : (x : Bytes) (i : Item) (n : ℕ) → n ≡ upToBytes (length x) → onlyIf (isProperty (i .shape)) (some (itemOf Shape.Property (i .from) (i .names + 1) true false (isPropertyName x && (leb (i .names + 1) 8 && i .kept)) (i .bytes + (n + 1)) (i .depth))) ≡ linkItem x i
+pub link-is : (x : Bytes) (i : Item) (n : ℕ) → n ≡ upToBytes (length x) → onlyIf (isProperty (i .shape)) (some (itemOf Shape.Property (i .from) (i .names + 1) true false (isComposedPropertyName x && (leb (i .names + 1) 8 && i .kept)) (i .bytes + (n + 1)) (i .depth))) ≡ linkItem x i
 unfolding linkItem
 link-is x i n e =
     let z : upToBytes (i .bytes + (n + 1)) ≡ upToBytes (i .bytes + suc (length x)) = omega (arith, e) in
     rw (add-one (i .names))
-    (ap (λ (b : ℕ). onlyIf (isProperty (i .shape)) (some (sized Shape.Property (i .from) (upToLevels (suc (i .names))) true false (isPropertyName x && (leb (suc (i .names)) 8 && i .kept)) (upToLevels (i .depth)) b))) z)
+    (ap (λ (b : ℕ). onlyIf (isProperty (i .shape)) (some (sized Shape.Property (i .from) (upToLevels (suc (i .names))) true false (isComposedPropertyName x && (leb (suc (i .names)) 8 && i .kept)) (upToLevels (i .depth)) b))) z)
 
 -- A sum with a length that is cut as one with the whole length.
 pub plus-cut : (k n : ℕ) → upToBytes (k + upToBytes n) ≡ upToBytes (k + n)

@@ -6,7 +6,8 @@ use mathlib.Core.Option.{Option, some, none}
 use lib.ListN.{length, getD}
 use Rattle.text.specs.Bytes.{Bytes, bytes, same}
 use Rattle.text.specs.Table.{tabulate}
-use Rattle.values.specs.Names.{isName, isNamespace, isReference}
+use Rattle.names.specs.Names.{isComposedName, isComposedNamespace}
+use Rattle.values.specs.Names.{isComposedReference}
 use Rattle.language.specs.QueryText.{isCategoryOf}
 use Rattle.language.specs.Comparators.{word, isEqual}
 use Rattle.query_tree_spelling.specs.Spelled.{spelledValue, costReference}
@@ -41,9 +42,9 @@ abbrev pub madeOf : ℕ → Node → Item → Item → Option Item
 madeOf at (Node.and n) i j = andItem at n i j
 madeOf at (Node.or n) i j = orItem at n i j
 madeOf at (Node.bar n) i j = barItem at n i j
-madeOf at (Node.category x) i j = some (leafItem Shape.Categories at false (isName x) (length x))
-madeOf at (Node.namespace n) i j = some (leafItem Shape.Identifiers at (same n (bytes "Category")) (isNamespace n) (length n + 2))
-madeOf at (Node.reference c r) i j = some (leafItem Shape.Identifiers at (isEqual c && isCategoryOf r) (isReference r) (length (word c) + costReference r))
+madeOf at (Node.category x) i j = some (leafItem Shape.Categories at false (isComposedName x) (length x))
+madeOf at (Node.namespace n) i j = some (leafItem Shape.Identifiers at (same n (bytes "Category")) (isComposedNamespace n) (length n + 2))
+madeOf at (Node.reference c r) i j = some (leafItem Shape.Identifiers at (isEqual c && isCategoryOf r) (isComposedReference r) (length (word c) + costReference r))
 madeOf at Node.existence i j = some (leafItem Shape.Alternatives at false true 1)
 madeOf at (Node.value c v) i j = some (leafItem Shape.Alternatives at false (spelledValue c v) (length (word c) + length v))
 madeOf at Node.subquery i j = subqueryItem j

@@ -19,10 +19,10 @@ use crate::shapes::is_property;
 use crate::shapes::is_query;
 use crate::shapes::is_two;
 use crate::shapes::item_of;
+use names::is_composed_property_name;
 use query_tree::Item;
 use query_tree::Shape;
 use tables::widen;
-use values::is_property_name;
 
 fn only_if(ok: bool, item: Item) -> Made
     ensures { λ r. ⌜ madeBy r ≡ onlyIf ok (some item) ⌝ }
@@ -86,7 +86,7 @@ pub fn property_item(x: &[u8], i: Item) -> Made
 {
     let shape = i.shape;
     let bytes = 6 + length_of(x) + widen(i.bytes);
-    let kept = is_property_name(x) & i.kept;
+    let kept = is_composed_property_name(x) & i.kept;
     let depth = widen(i.depth);
     let item = item_of(Shape::Property, i.from, 1, true, false, kept, bytes, depth);
     only_if(is_alternatives(shape), item)
@@ -98,7 +98,7 @@ pub fn link_item(x: &[u8], i: Item) -> Made
     let shape = i.shape;
     let names = widen(i.names) + 1;
     let bytes = widen(i.bytes) + (length_of(x) + 1);
-    let kept = is_property_name(x) & ((names <= 8) & i.kept);
+    let kept = is_composed_property_name(x) & ((names <= 8) & i.kept);
     let depth = widen(i.depth);
     let item = item_of(
         Shape::Property,

@@ -5,7 +5,7 @@ use mathlib.Core.Bool.{Bool, true, false, not, _&&_, false≢true}
 use mathlib.Core.List.{List, [], _∷_, _++_, append-assoc, append-nil}
 use native.Mathlib.Omega.{arith}
 use native.Mathlib.Nat.{zero-add}
-use lib.Dec.{ltb, leb}
+use lib.Dec.{ltb, leb, eqb}
 use lib.ListN.{length, set, length-append}
 use borrow.Author.Tests.{lt-ltb, le-leb, ltb-true, leb-true, not-false, not-true}
 use Rattle.text.specs.Bytes.{Bytes, all, part}
@@ -16,9 +16,11 @@ use Rattle.buffer.specs.Writing.{written}
 use Rattle.buffer.proofs.Padding.{zeros-add}
 use Rattle.buffer.proofs.Written.{written-then, length-written}
 use Rattle.buffer.proofs.Regions.{length-zeros, length-padded}
+use Rattle.names.specs.Names.{composedName}
+use Rattle.names.proofs.Composed.{composed-empty}
 use Rattle.values.specs.Names.{bare, qualified}
 use Rattle.language.proofs.Members.{and-true, both-true}
-use Rattle.query_tree.specs.Nodes.{Node, joinBy, stringOf, strings}
+use Rattle.query_tree.specs.Nodes.{Node, joinBy, stringOf, strings, composedNode}
 use Rattle.query_tree.specs.declared.TreeNode.{TreeNode}
 use Rattle.query_tree.specs.declared.Row.{Row}
 use Rattle.language.specs.Comparators.{comparatorCode}
@@ -29,7 +31,7 @@ use Rattle.query_tree.proofs.Small.{isShort, isSmall, AllSmall}
 use Rattle.query_tree.proofs.Rows.{length-rows, rows-append, Fits as FitsTree}
 use Rattle.query_tree_write.specs.declared.Place.{Place}
 use Rattle.query_tree_write.specs.declared.Entry.{Entry}
-use Rattle.query_tree_write.specs.Laying.{entryOf, hasRoom, hasShort, Fits, Laid, Adds}
+use Rattle.query_tree_write.specs.Laying.{entryOf, stringAs, hasRoom, hasShort, Fits, Laid, Adds}
 use Rattle.query_tree_write.proofs.Regions.{written-rows, written-texts, written-front}
 
 -- Nodes that fit.
@@ -64,26 +66,61 @@ fits-laid l f = record { few = f .few; short = f .short; small = go l (f .small)
     go [] h = refl
     go (x ∷ l) h = let k = and-true (isSmall x) (all isSmall l) h in both-true (short-node x (k .0)) (go l (k .1))
 
--- What is put of a node is its row and its string.
-pub record Tells (s : Bytes) (end : ℕ) (x : TreeNode) (e : Entry) : Type 0 where
-  pub row : rowOf (e .tag) (comparatorCode (e .comparator)) (e .number) (length (partOf s (e .first))) (length (partOf s (e .second))) ≡ rowAt end (nodeBy s x)
-  pub short : (leb (length (partOf s (e .first))) 64 && leb (length (partOf s (e .second))) 64) ≡ hasShort (nodeBy s x)
-  pub string : partOf s (e .first) ++ partOf s (e .second) ≡ stringOf (nodeBy s x)
+-- What is put of a node with its names composed is its row and its string.
+pub record Tells (x : TreeNode) (s : Bytes) (end : ℕ) (e : Entry) (a b : Bytes) : Type 0 where
+  pub row : rowOf (e .tag) (comparatorCode (e .comparator)) (e .number) (length a) (length b) ≡ rowAt end (composedNode (nodeBy s x))
+  pub short : (leb (length a) 64 && leb (length b) 64) ≡ hasShort (composedNode (nodeBy s x))
+  pub string : a ++ b ≡ stringOf (composedNode (nodeBy s x))
 
-entry-tells : (s : Bytes) (end : ℕ) (x : TreeNode) → Tells s end x (entryOf end x)
-unfolding stringOf
-entry-tells s end (TreeNode.And n) = record { row = refl; short = refl; string = refl }
-entry-tells s end (TreeNode.Or n) = record { row = refl; short = refl; string = refl }
-entry-tells s end (TreeNode.Bar n) = record { row = refl; short = refl; string = refl }
-entry-tells s end (TreeNode.Category p) = record { row = refl; short = refl; string = refl }
-entry-tells s end (TreeNode.Namespace p) = record { row = refl; short = refl; string = append-nil (partOf s p) }
-entry-tells s end (TreeNode.Bare c p) = record { row = refl; short = refl; string = refl }
+-- The second string of an entry, as it is put.
+abbrev secondOf : Bytes → Entry → Bytes
+secondOf s e = stringAs (eqb (e .tag) 8) (partOf s (e .second))
+
+-- A string as it is put: a value as typed, a name composed.
+module _ (b : Bool) (s : Bytes) where
+  pub typed-size : b ≡ true → length s ≡ length (stringAs b s)
+  unfolding stringAs
+  typed-size e = rw e
+
+  pub name-size : (n : ℕ) → b ≡ false → n ≡ length (composedName s) → n ≡ length (stringAs b s)
+  unfolding stringAs
+  name-size n e h = rw e h
+
+  pub typed-put : (h h′ : Bytes) (at : ℕ) → b ≡ true → h′ ≡ written h at s → h′ ≡ written h at (stringAs b s)
+  unfolding stringAs
+  typed-put h h′ at e k = rw e k
+
+  pub name-put : (h h′ : Bytes) (at : ℕ) → b ≡ false → h′ ≡ written h at (composedName s) → h′ ≡ written h at (stringAs b s)
+  unfolding stringAs
+  name-put h h′ at e k = rw e k
+
+pub ruleset strings-put = (typed-size, name-size, typed-put, name-put)
+
+-- A string that a node does not have is empty, composed too.
+module _ (x : TreeNode) (s : Bytes) (end : ℕ) (e : Entry) where
+  first-none : (b : Bytes) → Tells x s end e [] b → Tells x s end e (composedName []) b
+  first-none b t = subst (λ (a : Bytes). Tells x s end e a b) (sym composed-empty) t
+
+  second-none : (a : Bytes) → Tells x s end e a [] → Tells x s end e a (composedName [])
+  second-none a t = subst (λ (b : Bytes). Tells x s end e a b) (sym composed-empty) t
+
+  both-none : Tells x s end e [] [] → Tells x s end e (composedName []) (composedName [])
+  both-none t = first-none (composedName []) (second-none [] t)
+
+entry-tells : (s : Bytes) (end : ℕ) (x : TreeNode) → Tells x s end (entryOf end x) (composedName (partOf s (entryOf end x .first))) (secondOf s (entryOf end x))
+unfolding stringOf composedNode stringAs
+entry-tells s end (TreeNode.And n) = both-none _ _ _ _ (record { row = refl; short = refl; string = refl })
+entry-tells s end (TreeNode.Or n) = both-none _ _ _ _ (record { row = refl; short = refl; string = refl })
+entry-tells s end (TreeNode.Bar n) = both-none _ _ _ _ (record { row = refl; short = refl; string = refl })
+entry-tells s end (TreeNode.Category p) = first-none _ _ _ _ _ (record { row = refl; short = refl; string = refl })
+entry-tells s end (TreeNode.Namespace p) = second-none _ _ _ _ _ (record { row = refl; short = refl; string = append-nil _ })
+entry-tells s end (TreeNode.Bare c p) = first-none _ _ _ _ _ (record { row = refl; short = refl; string = refl })
 entry-tells s end (TreeNode.Qualified c p q) = record { row = refl; short = refl; string = refl }
-entry-tells s end TreeNode.Existence = record { row = refl; short = refl; string = refl }
-entry-tells s end (TreeNode.Value c p) = record { row = refl; short = refl; string = refl }
-entry-tells s end TreeNode.Subquery = record { row = refl; short = refl; string = refl }
-entry-tells s end (TreeNode.Property p) = record { row = refl; short = refl; string = refl }
-entry-tells s end (TreeNode.Link p) = record { row = refl; short = refl; string = refl }
+entry-tells s end TreeNode.Existence = both-none _ _ _ _ (record { row = refl; short = refl; string = refl })
+entry-tells s end (TreeNode.Value c p) = first-none _ _ _ _ _ (record { row = refl; short = refl; string = refl })
+entry-tells s end TreeNode.Subquery = both-none _ _ _ _ (record { row = refl; short = refl; string = refl })
+entry-tells s end (TreeNode.Property p) = first-none _ _ _ _ _ (record { row = refl; short = refl; string = refl })
+entry-tells s end (TreeNode.Link p) = first-none _ _ _ _ _ (record { row = refl; short = refl; string = refl })
 
 -- One node more.
 module _ (l : List Node) (x : Node) where
@@ -106,60 +143,63 @@ unfolding rowBytes
 length-row r = refl
 
 -- There is room where the nodes fit, with the one that is put.
-module _ (s t : Bytes) (p : Place) (x : TreeNode) (e : Entry) (a b : Bytes) (g : e ≡ entryOf (p .end) x) (ea : a ≡ partOf s (e .first)) (eb : b ≡ partOf s (e .second)) where
-  tells : Tells s (p .end) x e
-  tells = rw g (entry-tells s (p .end) x)
+module _ (s t : Bytes) (p : Place) (x : TreeNode) (e : Entry) (u v : Bytes) (i j : ℕ) (g : e ≡ entryOf (p .end) x) (eu : u ≡ partOf s (e .first)) (ev : v ≡ partOf s (e .second))
+    (ei : i ≡ length (composedName u)) (ej : j ≡ length (stringAs (eqb (e .tag) 8) v)) where
+  abbrev a : Bytes
+  a = composedName u
 
-  both-short : (leb (length a) 64 && leb (length b) 64) ≡ hasShort (nodeBy s x)
-  both-short = rw (ea, eb) (tells .short)
+  abbrev b : Bytes
+  b = stringAs (eqb (e .tag) 8) v
 
-  whole : a ++ b ≡ stringOf (nodeBy s x)
-  whole = rw (ea, eb) (tells .string)
+  abbrev y : Node
+  y = composedNode (nodeBy s x)
 
-  room-there : (l : List Node) → Fits (l ++ (nodeBy s x ∷ [])) → Laid t p l → hasRoom (p .count) (p .end) (length a) (length b) ≡ true
+  tells : Tells x s (p .end) e a b
+  tells =
+      let told : Tells x s (p .end) e (composedName (partOf s (e .first))) (secondOf s e) =
+      subst (λ (f : Entry). Tells x s (p .end) f (composedName (partOf s (f .first))) (secondOf s f)) (sym g) (entry-tells s (p .end) x) in
+      subst (λ (w : Bytes). Tells x s (p .end) e a (stringAs (eqb (e .tag) 8) w)) (sym ev) (subst (λ (w : Bytes). Tells x s (p .end) e (composedName w) (secondOf s e)) (sym eu) told)
+
+  room-there : (l : List Node) → Fits (l ++ (y ∷ [])) → Laid t p l → hasRoom (p .count) (p .end) i j ≡ true
   unfolding all hasRoom
   room-there l f d =
-      let y = nodeBy s x in
       let k = and-true (hasShort y) true (and-true (all hasShort l) (all hasShort (y ∷ [])) (sym (all-append hasShort l (y ∷ [])) ∙ f .small) .1) .0 in
-      let j = and-true (leb (length a) 64) (leb (length b) 64) (both-short ∙ k) in
-      both-true (both-true (both-true (lt-ltb (p .count) 681 (omega (arith, d .count, one-more l y, f .few))) (le-leb (p .end) 1024 (omega (arith, d .end, length-more l y, f .short)))) (j .0)) (j .1)
+      let h = and-true (leb (length a) 64) (leb (length b) 64) (tells .short ∙ k) in
+      both-true (both-true (both-true (lt-ltb (p .count) 681 (omega (arith, d .count, one-more l y, f .few))) (le-leb (p .end) 1024 (omega (arith, d .end, length-more l y, f .short)))) (ap (λ n. leb n 64) ei ∙ h .0)) (ap (λ n. leb n 64) ej ∙ h .1)
 
-  pub put-full : (r : Bool) → r ≡ hasRoom (p .count) (p .end) (length a) (length b) → not r ≡ true → Adds (nodeBy s x ∷ []) t p t p
+  pub put-full : (r : Bool) → r ≡ hasRoom (p .count) (p .end) i j → not r ≡ true → Adds (composedNode (nodeBy s x) ∷ []) t p t p
   put-full r h n = record { long = refl; laid = λ l f d. absurd (false≢true (sym (not-true r n) ∙ h ∙ room-there l f d)) }
 
-  pub put-is : (t₁ t₂ t₃ : Bytes) (c : ℕ) → c ≡ comparatorCode (e .comparator) → t₁ ≡ written t (2 + 6 * p .count) (rowBytes (rowOf (e .tag) c (e .number) (length a) (length b)))
-      → t₂ ≡ written t₁ (4088 + p .end) a → t₃ ≡ written t₂ (4088 + p .end + length a) b
-      → Adds (nodeBy s x ∷ []) t p t₃ (record { count = p .count + 1; end = p .end + length a + length b })
+  pub put-is : (t₁ t₂ t₃ : Bytes) (c : ℕ) → c ≡ comparatorCode (e .comparator) → t₁ ≡ written t (2 + 6 * p .count) (rowBytes (rowOf (e .tag) c (e .number) i j))
+      → t₂ ≡ written t₁ (4088 + p .end) (composedName u) → t₃ ≡ written t₂ (4088 + p .end + i) (stringAs (eqb (e .tag) 8) v)
+      → Adds (composedNode (nodeBy s x) ∷ []) t p t₃ (record { count = p .count + 1; end = p .end + i + j })
   put-is t₁ t₂ t₃ c ec e₁ e₂ e₃ =
       record {
         long = ap length strung ∙ length-written t₁ (4088 + p .end) (a ++ b) ∙ ap length e₁ ∙ length-written t (2 + 6 * p .count) _;
-        laid = λ l f d. record { bytes = bytes l f d; count = omega (arith, d .count, one-more l y); end = omega (arith, d .end, length-more l y, ap length whole, length-append a b) };
+        laid = λ l f d. record { bytes = bytes l f d; count = omega (arith, d .count, one-more l y); end = omega (arith, d .end, length-more l y, ap length (tells .string), length-append a b, ei, ej) };
       }
     where
-      y : Node
-      y = nodeBy s x
-
       strung : t₃ ≡ written t₁ (4088 + p .end) (a ++ b)
-      strung = e₃ ∙ ap (λ (r : Bytes). written r (4088 + p .end + length a) b) e₂ ∙ written-then a b t₁ (4088 + p .end)
+      strung =
+          e₃ ∙ ap₂ (λ (r : Bytes) (n : ℕ). written r (4088 + p .end + n) b) e₂ ei ∙ written-then a b t₁ (4088 + p .end)
 
-      row-is : rowOf (e .tag) c (e .number) (length a) (length b) ≡ rowAt (p .end) (nodeBy s x)
-      row-is = rw (ec, ea, eb) (tells .row)
+      row-is : rowOf (e .tag) c (e .number) i j ≡ rowAt (p .end) y
+      row-is = rw (ec, ei, ej) (tells .row)
 
-      bytes : (l : List Node) → Fits (l ++ (nodeBy s x ∷ [])) → Laid t p l → t₃ ≡ zeros 2 ++ (padded 4086 (rowsFrom 0 (l ++ (nodeBy s x ∷ []))) ++ padded 1024 (strings (l ++ (nodeBy s x ∷ []))))
+      bytes : (l : List Node) → Fits (l ++ (y ∷ [])) → Laid t p l → t₃ ≡ zeros 2 ++ (padded 4086 (rowsFrom 0 (l ++ (y ∷ []))) ++ padded 1024 (strings (l ++ (y ∷ []))))
       bytes l f d =
-          let z = nodeBy s x in
-          let row = rowBytes (rowAt (length (strings l)) z) in
+          let row = rowBytes (rowAt (length (strings l)) y) in
           let few = f .few in
-          let n = one-more l z in
+          let n = one-more l y in
           let long = length-rows 0 l in
-          let six = length-row (rowAt (length (strings l)) z) in
+          let six = length-row (rowAt (length (strings l)) y) in
           let first : t₁ ≡ zeros 2 ++ (padded 4086 (rowsFrom 0 l ++ row) ++ padded 1024 (strings l)) =
-          e₁ ∙ ap₂ (λ (h : Bytes) (r : Row). written h (2 + 6 * p .count) (rowBytes r)) (d .bytes) (row-is ∙ ap (λ (m : ℕ). rowAt m z) (d .end))
+          e₁ ∙ ap₂ (λ (h : Bytes) (r : Row). written h (2 + 6 * p .count) (rowBytes r)) (d .bytes) (row-is ∙ ap (λ (m : ℕ). rowAt m y) (d .end))
           ∙ written-rows (rowsFrom 0 l) (strings l) row (2 + 6 * p .count) (omega (arith, d .count, long)) (omega (arith, long, six, n, few)) in
-          let second : t₃ ≡ zeros 2 ++ (padded 4086 (rowsFrom 0 l ++ row) ++ padded 1024 (strings l ++ stringOf z)) =
-          strung ∙ ap₂ (λ (h v : Bytes). written h (4088 + p .end) v) first whole
-          ∙ written-texts (rowsFrom 0 l ++ row) (strings l) (stringOf z) (4088 + p .end) (omega (arith, d .end)) (omega (arith, length-append (rowsFrom 0 l) row, long, six, n, few)) (omega (arith, length-more l z, f .short)) in
-          second ∙ ap₂ (λ (r v : Bytes). zeros 2 ++ (padded 4086 r ++ padded 1024 v)) (sym (rows-more l z)) (sym (strings-more l z))
+          let second : t₃ ≡ zeros 2 ++ (padded 4086 (rowsFrom 0 l ++ row) ++ padded 1024 (strings l ++ stringOf y)) =
+          strung ∙ ap₂ (λ (h w : Bytes). written h (4088 + p .end) w) first (tells .string)
+          ∙ written-texts (rowsFrom 0 l ++ row) (strings l) (stringOf y) (4088 + p .end) (omega (arith, d .end)) (omega (arith, length-append (rowsFrom 0 l) row, long, six, n, few)) (omega (arith, length-more l y, f .short)) in
+          second ∙ ap₂ (λ (r w : Bytes). zeros 2 ++ (padded 4086 r ++ padded 1024 w)) (sym (rows-more l y)) (sym (strings-more l y))
 
 -- What the room allows.
 pub in-room : (c e n m : ℕ) (r : Bool) → r ≡ hasRoom c e n m → not r ≡ false → (c < 681) × (e ≤ 1024) × (n ≤ 64) × (m ≤ 64)

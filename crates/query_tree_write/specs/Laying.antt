@@ -1,13 +1,14 @@
 -- Working definitions: nodes laid into a tree's bytes, one behind the other.
 use Prim.Native.Nat.{ℕ, _≤_}
 use mathlib.Core.Path.{_≡_}
-use mathlib.Core.Bool.{Bool, true, _&&_}
+use mathlib.Core.Bool.{Bool, true, cond, _&&_}
 use mathlib.Core.List.{List, [], _∷_, _++_}
 use lib.Dec.{ltb, leb}
 use lib.ListN.{length}
 use Rattle.text.specs.Bytes.{Bytes, all}
 use Rattle.text.specs.declared.Span.{Span}
 use Rattle.buffer.specs.Numbers.{zeros, padded}
+use Rattle.names.specs.Names.{composedName}
 use Rattle.language.specs.declared.SurfaceComparator.{SurfaceComparator}
 use Rattle.query_tree.specs.Nodes.{Node, strings}
 use Rattle.query_tree.specs.Form.{rowAt, rowsFrom}
@@ -36,6 +37,10 @@ entryOf end (TreeNode.Value c p) = entryWith 8 c end nowhere p
 entryOf end TreeNode.Subquery = entryWith 9 SurfaceComparator.Equal 0 nowhere nowhere
 entryOf end (TreeNode.Property p) = entryWith 10 SurfaceComparator.Equal end nowhere p
 entryOf end (TreeNode.Link p) = entryWith 11 SurfaceComparator.Equal end nowhere p
+
+-- A string as it is put: a value as typed, a name composed.
+unfoldable pub stringAs : Bool → Bytes → Bytes
+stringAs typed s = cond typed s (composedName s)
 
 -- There is room for a node behind count others whose strings have end bytes, with strings as long as its bytes can tell.
 unfoldable pub hasRoom : ℕ → ℕ → ℕ → ℕ → Bool

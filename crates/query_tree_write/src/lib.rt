@@ -4,13 +4,16 @@ ghost use Prim.Native.Nat.{_+_, _≤_};
 ghost use lib.ListN.{length};
 ghost use Rattle.buffer.specs.Numbers.{twoBytes};
 ghost use Rattle.buffer.specs.Writing.{written};
+ghost use Rattle.query_tree.specs.Nodes.{composedNode};
 ghost use Rattle.query_tree.specs.Form.{rowOf, rowBytes};
 ghost use Rattle.query_tree.specs.Reading.{nodeBy};
-ghost use Rattle.query_tree_write.specs.Laying.{entryWith, entryOf, hasRoom, Puts};
+ghost use Rattle.query_tree_write.specs.Laying.{entryWith, entryOf, stringAs, hasRoom, Puts};
 use buffer::put_bytes;
 use buffer::put_two;
 use language::SurfaceComparator;
 use language::comparator_code;
+use names::composed_size;
+use names::put_composed;
 use query_tree::TreeNode;
 use query_tree::layout;
 use text::Span;
@@ -71,6 +74,24 @@ fn entry_of(node: TreeNode, end: usize) -> Entry
     }
 }
 
+// How long a string is as it is put: a value as typed, a name composed.
+fn string_size(typed: bool, s: &[u8]) -> usize
+    ensures { λ r. ⌜ r ≡ length (stringAs typed (now (s .entry))) ⌝ }
+{
+    if typed { s.len() } else { composed_size(s) }
+}
+
+// Writes it.
+fn put_string(tree: &mut [u8], at: usize, typed: bool, s: &[u8])
+    ensures { λ _. ⌜ now (tree .exit) ≡ written (now (tree .entry)) at (stringAs typed (now (s .entry))) ⌝ }
+{
+    if typed {
+        put_bytes(tree, at, s);
+    } else {
+        put_composed(tree, at, s);
+    }
+}
+
 // Whether there is room for a node behind count others whose strings have end bytes, with strings as long as its bytes can tell.
 fn has_room(count: usize, end: usize, first: usize, second: usize) -> bool
     ensures { λ r. ⌜ r ≡ hasRoom count end first second ⌝ }
@@ -99,9 +120,9 @@ fn put_row(
     tree[at + 5] = second;
 }
 
-// Puts a node behind those that are there, where there is room. Its strings are places in s.
+// Puts a node behind those that are there, where there is room, its names composed. Its strings are places in s.
 pub fn put_node(s: &[u8], tree: &mut [u8], at: Place, node: TreeNode) -> Place
-    ensures { λ r. ⌜ Puts (nodeBy (now (s .entry)) node) (now (tree .entry)) at (now (tree .exit)) r ⌝ }
+    ensures { λ r. ⌜ Puts (composedNode (nodeBy (now (s .entry)) node)) (now (tree .entry)) at (now (tree .exit)) r ⌝ }
 {
     if tree.len() < layout::TREE_BYTES {
         return at;
@@ -114,8 +135,9 @@ pub fn put_node(s: &[u8], tree: &mut [u8], at: Place, node: TreeNode) -> Place
     let second = e.second;
     let a = part(s, first.start, first.len);
     let b = part(s, second.start, second.len);
-    let n = a.len();
-    let m = b.len();
+    let typed = e.tag == layout::VALUE;
+    let n = composed_size(a);
+    let m = string_size(typed, b);
     if !has_room(count, end, n, m) {
         return at;
     }
@@ -128,8 +150,8 @@ pub fn put_node(s: &[u8], tree: &mut [u8], at: Place, node: TreeNode) -> Place
         n as u8,
         m as u8,
     );
-    put_bytes(tree, layout::STRINGS + end, a);
-    put_bytes(tree, layout::STRINGS + end + n, b);
+    put_composed(tree, layout::STRINGS + end, a);
+    put_string(tree, layout::STRINGS + end + n, typed, b);
     Place {
         count: count + 1,
         end: end + n + m,

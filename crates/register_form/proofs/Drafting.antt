@@ -11,7 +11,7 @@ use borrow.Author.Tests.{not-true, lt-ltb}
 use Rattle.text.specs.Bytes.{Bytes, same, any, all}
 use Rattle.text.proofs.Laws.{same-refl}
 use Rattle.values.specs.declared.Kind.{Kind}
-use Rattle.values.specs.Names.{isName, isPropertyName}
+use Rattle.names.specs.Names.{isComposedName, isComposedPropertyName}
 use Rattle.values.specs.Values.{kindOf}
 use Rattle.language.specs.Register.{Property, Held, Page, Register, kindAmong, hasKind, kindsHold, distinct, sameProperty, samePage}
 use Rattle.language.specs.RegisterText.{sameHeld}
@@ -99,15 +99,15 @@ module _ (d : Dictionary) (k : Draft d) where
       (properties : all (keepsProperty d) (d .properties) ≡ true)
       (pages : all (keepsPage d) (d .pages) ≡ true)
     where
-      names-ruled : all (λ p. isPropertyName (p .name)) (decode d .properties) ≡ true
+      names-ruled : all (λ p. isComposedPropertyName (p .name)) (decode d .properties) ≡ true
       unfolding decode decodeProperty keepsProperty
-      names-ruled = all-map (λ p. isPropertyName (p .name)) (decodeProperty d) (d .properties) (λ p m. all-at (keepsProperty d) properties m)
+      names-ruled = all-map (λ p. isComposedPropertyName (p .name)) (decodeProperty d) (d .properties) (λ p m. all-at (keepsProperty d) properties m)
 
-      category-ruled : {r : PageRow} {x : Bytes} → List·Memᴰ r (d .pages) → List·Memᴰ x (categoriesIn d (map (termIn d) (r .forms))) → isName x ≡ true
+      category-ruled : {r : PageRow} {x : Bytes} → List·Memᴰ r (d .pages) → List·Memᴰ x (categoriesIn d (map (termIn d) (r .forms))) → isComposedName x ≡ true
       unfolding keepsTerm
       category-ruled {r} m n =
           let q = of-categories d (map (termIn d) (r .forms)) n in
-          ap isName (q .3) ∙ (rw (q .2) at (all-at (keepsTerm d) terms (draft-term m (q .1))))
+          ap isComposedName (q .3) ∙ (rw (q .2) at (all-at (keepsTerm d) terms (draft-term m (q .1))))
 
       value-ruled : {r : PageRow} {h : Held} → List·Memᴰ r (d .pages) → List·Memᴰ h (valuesIn d (map (termIn d) (r .forms))) → isStorable (h .value) ≡ true
       unfolding keepsTerm
@@ -122,7 +122,7 @@ module _ (d : Dictionary) (k : Draft d) where
           let vs = valuesIn d (map (termIn d) (r .forms)) in
           record {
             identifier = all-at (keepsPage d) pages m;
-            categories = all-of isName (once same cs) (λ x n. category-ruled m (of-once same-likeness cs n));
+            categories = all-of isComposedName (once same cs) (λ x n. category-ruled m (of-once same-likeness cs n));
             categoriesOnce = distinct-once same-likeness cs;
             values = all-of (λ h. isStorable (h .value)) (once sameHeld vs) (λ h n. value-ruled m (of-once sameHeld-likeness vs n));
             valuesOnce = distinct-once sameHeld-likeness vs;

@@ -10,7 +10,7 @@ use lib.ListN.{length, getD}
 use borrow.Author.Tests.{le-leb}
 use Rattle.text.specs.Bytes.{Bytes, same, all}
 use Rattle.values.specs.declared.Kind.{Kind}
-use Rattle.values.specs.Names.{isName, isPropertyName}
+use Rattle.names.specs.Names.{isComposedName, isComposedPropertyName}
 use Rattle.values.specs.Values.{kindOf}
 use Rattle.values.proofs.Sameness.{kind-refl}
 use Rattle.language.specs.Register.{Property, Held, Page, kindAmong, kindsOf, hasKind, kindsHold, distinct, sameProperty}
@@ -46,16 +46,16 @@ kind-told l Kind.String n = refl
 
 module _ (d : Dictionary) (c : Canon d) where
   -- The rules of names.
-  properties-kept : all (keepsProperty d) (d .properties) ≡ all (λ p. isPropertyName (p .name)) (decode d .properties)
+  properties-kept : all (keepsProperty d) (d .properties) ≡ all (λ p. isComposedPropertyName (p .name)) (decode d .properties)
   unfolding decode decodeProperty keepsProperty
-  properties-kept = sym (all-mapped (decodeProperty d) (λ p. isPropertyName (p .name)) (d .properties))
+  properties-kept = sym (all-mapped (decodeProperty d) (λ p. isComposedPropertyName (p .name)) (d .properties))
 
   page-kept : (r : PageRow) → keepsPage d r ≡ isIdentifier (decodePage d r .identifier)
   unfolding decodePage keepsPage
   page-kept r = refl
 
   -- The rules of terms: each term is on some page, and what is on a page is a term.
-  category-kept : (t : Bytes) → isCategory t ≡ true → keepsTerm d t ≡ isName (categoryOf d t)
+  category-kept : (t : Bytes) → isCategory t ≡ true → keepsTerm d t ≡ isComposedName (categoryOf d t)
   unfolding keepsTerm
   category-kept t e = rw e
 
@@ -64,11 +64,11 @@ module _ (d : Dictionary) (c : Canon d) where
   value-kept t e = rw e
 
   module _ (kept : all (keepsTerm d) (d .terms) ≡ true) {r : PageRow} (m : List·Memᴰ r (d .pages)) where
-    categories-kept : all isName (decodePage d r .categories) ≡ true
+    categories-kept : all isComposedName (decodePage d r .categories) ≡ true
     unfolding decodePage
     categories-kept =
-        all-of isName (categoriesIn d (map (termIn d) (r .forms)))
-        (λ x n. let q = of-categories d (map (termIn d) (r .forms)) n in ap isName (q .3) ∙ sym (category-kept (q .0) (q .2)) ∙ all-at (keepsTerm d) kept (page-term-mem d c m (q .1)))
+        all-of isComposedName (categoriesIn d (map (termIn d) (r .forms)))
+        (λ x n. let q = of-categories d (map (termIn d) (r .forms)) n in ap isComposedName (q .3) ∙ sym (category-kept (q .0) (q .2)) ∙ all-at (keepsTerm d) kept (page-term-mem d c m (q .1)))
 
     values-kept : all (λ h. isStorable (h .value)) (decodePage d r .values) ≡ true
     unfolding decodePage
@@ -83,7 +83,7 @@ module _ (d : Dictionary) (c : Canon d) where
       (λ t m.
       let r = term-on d c m in
       by-test (isCategory t)
-      (λ e. category-kept t e ∙ all-at isName (k (r .0) (r .1) .categories) (category-mem d (r .2) e))
+      (λ e. category-kept t e ∙ all-at isComposedName (k (r .0) (r .1) .categories) (category-mem d (r .2) e))
       (λ e. value-kept t e ∙ all-at (λ h. isStorable (h .value)) (k (r .0) (r .1) .values) (value-mem d (r .2) e)))
 
   limits-kept : length (d .properties) ≤ 64 → length (d .pages) ≤ 256 → length (termUses d) ≤ 2048 → isWithinLimits (decode d) ≡ leb (countedBytes d) 32768

@@ -7,7 +7,7 @@ use lib.Dec.{ltb, leb, eqb}
 use lib.ListN.{length, getD}
 use Rattle.text.specs.Bytes.{Bytes, orderOf, any, all}
 use Rattle.values.specs.declared.Kind.{Kind}
-use Rattle.values.specs.Names.{isName, isPropertyName}
+use Rattle.names.specs.Names.{isComposedName, isComposedPropertyName}
 use Rattle.values.specs.Spelling.{spelling}
 use Rattle.language.specs.Register.{distinct}
 use Rattle.language.specs.Rules.{isIdentifier, isStorable, total}
@@ -105,10 +105,10 @@ isCanonical d =
 -- The rules of what a canonical dictionary describes, told once for each row, term and text.
 module _ (d : Dictionary) where
   unfoldable pub keepsTerm : Bytes → Bool
-  keepsTerm t = cond (isCategory t) (isName (categoryOf d t)) (isStorable (heldOf d t .value))
+  keepsTerm t = cond (isCategory t) (isComposedName (categoryOf d t)) (isStorable (heldOf d t .value))
 
   unfoldable pub keepsProperty : PropertyRow → Bool
-  keepsProperty p = isPropertyName (nameOf (textIn d (p .name)))
+  keepsProperty p = isComposedPropertyName (nameOf (textIn d (p .name)))
 
   unfoldable pub keepsPage : PageRow → Bool
   keepsPage r = isIdentifier (identifierOf (textIn d (r .identifier)))

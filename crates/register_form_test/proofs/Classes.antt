@@ -9,10 +9,11 @@ use lib.ListN.{length, getD, drop, length-append, length-drop}
 use lib.Seq.{length-take-le}
 use borrow.Author.Tests.{eqb-true, eqb-false, ltb-true, leb-true, ne-eqb, le-leb}
 use Rattle.text.specs.Bytes.{Bytes}
-use Rattle.values.specs.Names.{isName, isNamespace, isValue, Identifier}
+use Rattle.names.specs.Names.{isComposedName, isComposedNamespace}
+use Rattle.values.specs.Names.{isValue, Identifier}
 use Rattle.values.specs.Values.{link}
 use Rattle.values.specs.Spelling.{spellIdentifier, spelling}
-use Rattle.values.proofs.Spelled.{value-short, name-is-value, spelled-is-value}
+use Rattle.values.proofs.Spelled.{value-short, composed-is-value, spelled-is-value}
 use Rattle.language.specs.Rules.{isIdentifier, isStorable}
 use Rattle.sorting.proofs.Canonical.{same-truth}
 use Rattle.register_form.specs.Dictionary.{spaceOf, nameOf, identifierOf}
@@ -64,30 +65,30 @@ module _ (t : Bytes) (p : isPlain t ≡ true) where
   unfolding spaceOf
   plain-space = rw (eqb-true (getD t 0 0) 0 p)
 
-  pub plain-identifier : isIdentifier (identifierOf t) ≡ isName (nameOf t)
-  unfolding isIdentifier isNamespace
+  pub plain-identifier : isIdentifier (identifierOf t) ≡ isComposedName (nameOf t)
+  unfolding isIdentifier isComposedNamespace
   plain-identifier = rw plain-space
 
 module _ (t : Bytes) where
   pub class-identifier : leb 2 (classOf t) ≡ isIdentifier (identifierOf t)
   unfolding classOf
-  class-identifier = by-identifier (isPlain t) (isName (nameOf t)) (isValue (nameOf t)) (isIdentifier (identifierOf t)) (plain-identifier t)
+  class-identifier = by-identifier (isPlain t) (isComposedName (nameOf t)) (isValue (nameOf t)) (isIdentifier (identifierOf t)) (plain-identifier t)
 
   pub class-link : (leb 2 (classOf t) && leb (classOf t) 3) ≡ isIdentifier (identifierOf t)
   unfolding classOf
-  class-link = by-link (isPlain t) (isName (nameOf t)) (isValue (nameOf t)) (isIdentifier (identifierOf t)) ∙ class-identifier
+  class-link = by-link (isPlain t) (isComposedName (nameOf t)) (isValue (nameOf t)) (isIdentifier (identifierOf t)) ∙ class-identifier
 
-  pub class-category : (leb 2 (classOf t) && leb (classOf t) 2) ≡ (isPlain t && isName (nameOf t))
+  pub class-category : (leb 2 (classOf t) && leb (classOf t) 2) ≡ (isPlain t && isComposedName (nameOf t))
   unfolding classOf
-  class-category = by-category (isPlain t) (isName (nameOf t)) (isValue (nameOf t)) (isIdentifier (identifierOf t))
+  class-category = by-category (isPlain t) (isComposedName (nameOf t)) (isValue (nameOf t)) (isIdentifier (identifierOf t))
 
   pub class-string : (leb 1 (classOf t) && leb (classOf t) 2) ≡ (isPlain t && isValue (nameOf t))
   unfolding classOf
-  class-string = by-string (isPlain t) (isName (nameOf t)) (isValue (nameOf t)) (isIdentifier (identifierOf t)) (name-is-value (nameOf t))
+  class-string = by-string (isPlain t) (isComposedName (nameOf t)) (isValue (nameOf t)) (isIdentifier (identifierOf t)) (composed-is-value (nameOf t))
 
   pub class-spaced : eqb (classOf t) 3 ≡ (not (isPlain t) && isIdentifier (identifierOf t))
   unfolding classOf
-  class-spaced = by-spaced (isPlain t) (isName (nameOf t)) (isValue (nameOf t)) (isIdentifier (identifierOf t))
+  class-spaced = by-spaced (isPlain t) (isComposedName (nameOf t)) (isValue (nameOf t)) (isIdentifier (identifierOf t))
 
 -- How long the names in a text are.
 module _ (t : Bytes) (l : isLabelled t ≡ true) where
@@ -118,7 +119,7 @@ module _ (t : Bytes) (l : isLabelled t ≡ true) where
           rw (class-spaced t, p, i, ne-eqb (length (spaceOf t)) 0 (λ e. k (sym length-space ∙ e)))
           (omega (arith, length-append (spaceOf t) (58 ∷ nameOf t), length-names, length-space, k, label-within))
 
-names-of : (i : Identifier) → isIdentifier i ≡ true → (isNamespace (i .namespace) && isName (i .article)) ≡ true
+names-of : (i : Identifier) → isIdentifier i ≡ true → (isComposedNamespace (i .namespace) && isComposedName (i .article)) ≡ true
 unfolding isIdentifier
 names-of i e = e
 

@@ -10,7 +10,7 @@ use borrow.Author.Tests.{ltb-true, ne-eqb}
 use Rattle.text.specs.Bytes.{Bytes, any}
 use Rattle.text.specs.Table.{tabulate}
 use Rattle.text.proofs.Laws.{any-append}
-use Rattle.values.specs.Names.{isPropertyName}
+use Rattle.names.specs.Names.{isComposedPropertyName}
 use Rattle.language.specs.Rules.{total}
 use Rattle.sorting.proofs.Canonical.{left-of, right-of}
 use Rattle.register_form.specs.Dictionary.{PageRow, spaceOf, nameOf, isCategory, textIn, termIn}
@@ -88,8 +88,8 @@ module _
             let used = namesTo h p (replicate 2368 0) in
             let t = textAt h x in
             let e : (ltb x (textCount h) && isPlain t) ≡ true =
-            left-of (ltb x (textCount h) && isPlain t) (isPropertyName (nameOf t))
-            (left-of (ltb x (textCount h) && isPlain t && isPropertyName (nameOf t)) (eqb (getD used x 0) 0) (all-to (propertyCount h) (propertyTest h (replicate 2368 0)) ok p b)) in
+            left-of (ltb x (textCount h) && isPlain t) (isComposedPropertyName (nameOf t))
+            (left-of (ltb x (textCount h) && isPlain t && isComposedPropertyName (nameOf t)) (eqb (getD used x 0) 0) (all-to (propertyCount h) (propertyTest h (replicate 2368 0)) ok p b)) in
             let k : x < textCount h = ltb-true x (textCount h) (left-of (ltb x (textCount h)) (isPlain t) e) in
             rw (text-in h x k, ← text-length h laid x k) (sym (length-name t (labels x k) (right-of (ltb x (textCount h)) (isPlain t) e)))
 

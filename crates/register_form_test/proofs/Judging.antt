@@ -10,10 +10,12 @@ use lib.ListN.{length, getD}
 use borrow.Author.Tests.{ltb-true, ltb-false, leb-true, eqb-false, lt-ltb, le-leb, ne-eqb}
 use Rattle.text.specs.Bytes.{Bytes, any}
 use Rattle.values.specs.declared.Kind.{Kind}
-use Rattle.values.specs.Names.{isName, isValue}
+use Rattle.names.specs.Names.{isComposedName}
+use Rattle.values.specs.Names.{isValue}
 use Rattle.values.specs.Values.{plain, link, inRange}
 use Rattle.values.specs.Spelling.{spellScalar, spellIdentifier, spelling}
-use Rattle.values.proofs.Spelled.{name-keeps, value-short}
+use Rattle.names.proofs.Composed.{composed-named}
+use Rattle.values.proofs.Spelled.{value-short}
 use Rattle.language.specs.Rules.{isIdentifier, isStorable}
 use Rattle.sorting.proofs.Canonical.{same-truth, left-of, right-of, both}
 use Rattle.register_form.specs.Dictionary.{nameOf, identifierOf, groupOf, termCode, valueFrom, textIn, propertyIn, categoryOf, heldOf}
@@ -120,7 +122,7 @@ module _
     right-group t = go (eqb (groupOf t) 0) refl
       where
         go : (b : Bool) → eqb (groupOf t) 0 ≡ b → Right (judgedGroup h classes (groupOf t) (termCode t)) (isTerm (dictionaryIn h) t && keepsTerm (dictionaryIn h) t) (termTexts (dictionaryIn h) t) (termBytes (dictionaryIn h) t)
-        go true e = rw e (right-name 2 2 isName class-category (λ s n. name-keeps s n .short) (termCode t))
+        go true e = rw e (right-name 2 2 isComposedName class-category (λ s n. composed-named s n .short) (termCode t))
         go false e = rw e (right-property (groupOf t) (termCode t) (eqb-false (groupOf t) 0 e))
 
     pub right-term : (f : ℕ) → Right (judgedTerm h classes f) (isTerm (dictionaryIn h) (termAt h f) && keepsTerm (dictionaryIn h) (termAt h f)) (termTexts (dictionaryIn h) (termAt h f)) (termBytes (dictionaryIn h) (termAt h f))

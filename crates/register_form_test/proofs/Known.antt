@@ -10,7 +10,7 @@ use borrow.Author.Tests.{ltb-true}
 use Rattle.text.specs.Bytes.{Bytes, orderOf, any, all}
 use Rattle.text.specs.Table.{tabulate}
 use Rattle.text.proofs.Tables.{length-tabulate, getD-tabulate}
-use Rattle.values.specs.Names.{isPropertyName}
+use Rattle.names.specs.Names.{isComposedPropertyName}
 use Rattle.language.specs.Register.{distinct}
 use Rattle.sorting.specs.Ascending.{ascends}
 use Rattle.register_form.specs.Dictionary.{PropertyRow, nameOf, textIn, termIn, propertyIn, noProperty}
@@ -103,7 +103,7 @@ module _ (h : Bytes) (laid : Laid h) where
       x : ℕ
       x = nameNumber h p
 
-      go : (b : Bool) → ltb x (textCount h) ≡ b → (ltb x (textCount h) && isPlain (textAt h x) && isPropertyName (nameOf (textAt h x)) && eqb (getD (namesTo h p (replicate 2368 0)) x 0) 0) ≡ (ltb x (textCount h) && isPlain (textAt h x) && isPropertyName (nameOf (textIn (dictionaryIn h) x)) && not (any (eqb x) (tabulate p (nameNumber h))))
+      go : (b : Bool) → ltb x (textCount h) ≡ b → (ltb x (textCount h) && isPlain (textAt h x) && isComposedPropertyName (nameOf (textAt h x)) && eqb (getD (namesTo h p (replicate 2368 0)) x 0) 0) ≡ (ltb x (textCount h) && isPlain (textAt h x) && isComposedPropertyName (nameOf (textIn (dictionaryIn h) x)) && not (any (eqb x) (tabulate p (nameNumber h))))
       go true e =
           let k : x < textCount h = ltb-true x (textCount h) e in
           rw (text-in h x k, unset-written 2368 (nameNumber h) (λ p. 1) (λ i. refl) x (omega (arith, laid .counted .texts)) p)

@@ -10,7 +10,7 @@ use borrow.Author.Tests.{eq-eqb, ne-eqb, ltb-true}
 use Rattle.text.specs.Bytes.{Bytes, orderOf, all}
 use Rattle.text.specs.Class.{isOther}
 use Rattle.text.specs.declared.Order.{Order}
-use Rattle.values.specs.Names.{isName, isNamespace, isPropertyName}
+use Rattle.names.specs.Names.{isComposedName, isComposedNamespace, isComposedPropertyName}
 use Rattle.values.specs.ByteRules.{nameClass}
 use Rattle.values.proofs.Ruling.{class-two}
 use Rattle.language.specs.Rules.{isIdentifier}
@@ -48,7 +48,7 @@ module _ (t n : Bytes) (z a : ℕ) (e : n ≡ nameOf t) (f : z ≡ getD t 0 0) (
 
   module _ (s : Bytes) (b : ℕ) (k : z ≡ 0 → ⊥) (l : s ≡ spaceOf t) (m : b ≡ nameClass s) where
     names-told : (q : Bool) → ((eqb (length s) 0 || eqb b 2) && eqb a 2) ≡ q → isIdentifier (identifierOf t) ≡ q
-    unfolding isIdentifier isNamespace
+    unfolding isIdentifier isComposedNamespace
     names-told q r = rw (← l, ← e, ← class-two s, ← class-two n, ← m, ← g) r
 
     pub class-spaced : ((eqb (length s) 0 || eqb b 2) && eqb a 2) ≡ true → 3 ≡ classOf t
@@ -69,17 +69,17 @@ module _ (h : Bytes) (x : ℕ) where
   length-is a b r e f g = g ∙ rw (e, f)
 
   -- A text of class 2 is a name without a namespace.
-  class-name : eqb (classOf (textAt h x)) 2 ≡ (isPlain (textAt h x) && isName (nameOf (textAt h x)))
+  class-name : eqb (classOf (textAt h x)) 2 ≡ (isPlain (textAt h x) && isComposedName (nameOf (textAt h x)))
   unfolding classOf
   class-name = go (isPlain (textAt h x)) (isIdentifier (identifierOf (textAt h x)))
     where
-      go : (p q : Bool) → eqb (cond p (nameClass (nameOf (textAt h x))) (cond q 3 0)) 2 ≡ (p && isName (nameOf (textAt h x)))
+      go : (p q : Bool) → eqb (cond p (nameClass (nameOf (textAt h x))) (cond q 3 0)) 2 ≡ (p && isComposedName (nameOf (textAt h x)))
       go true q = class-two (nameOf (textAt h x))
       go false true = refl
       go false false = refl
 
   pub property-is : (classes used : List ℕ) (n w u w' u' : ℕ) (m : Bytes) (d : Bool) → Classed h classes → n ≡ textCount h → w ≡ x → u ≡ getD classes w 0 → m ≡ nameOf (textAt h x) → d ≡ all (isOther 46) m → w' ≡ x → u' ≡ getD used w' 0 → (ltb x n && eqb u 2 && d && eqb u' 0) ≡ propertyOk h used x
-  unfolding propertyOk isPropertyName
+  unfolding propertyOk isComposedPropertyName
   property-is classes used n w u w' u' m d right e f g i j k l = rw (e, l, k, j, i, g, f) (go (ltb x (textCount h)) refl)
     where
       t : Bytes
@@ -88,8 +88,8 @@ module _ (h : Bytes) (x : ℕ) where
       dotless : Bool
       dotless = all (isOther 46) (nameOf t)
 
-      go : (b : Bool) → ltb x (textCount h) ≡ b → (ltb x (textCount h) && eqb (getD classes x 0) 2 && dotless && eqb (getD used x 0) 0) ≡ (ltb x (textCount h) && isPlain t && (isName (nameOf t) && dotless) && eqb (getD used x 0) 0)
-      go true b = rw (b, right x (ltb-true x (textCount h) b), class-name) (ap (λ (r : Bool). r && eqb (getD used x 0) 0) (and-assoc (isPlain t) (isName (nameOf t)) dotless))
+      go : (b : Bool) → ltb x (textCount h) ≡ b → (ltb x (textCount h) && eqb (getD classes x 0) 2 && dotless && eqb (getD used x 0) 0) ≡ (ltb x (textCount h) && isPlain t && (isComposedName (nameOf t) && dotless) && eqb (getD used x 0) 0)
+      go true b = rw (b, right x (ltb-true x (textCount h) b), class-name) (ap (λ (r : Bool). r && eqb (getD used x 0) 0) (and-assoc (isPlain t) (isComposedName (nameOf t)) dotless))
       go false b = rw b
 
 module _ (h : Bytes) (p x : ℕ) (e : x ≡ nameNumber h p) where

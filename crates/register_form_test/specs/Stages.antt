@@ -8,7 +8,7 @@ use lib.ListN.{length, getD}
 use Rattle.text.specs.Bytes.{Bytes, part}
 use Rattle.values.specs.Values.{inRange, kindCount}
 use Rattle.values.specs.declared.Kind.{Kind}
-use Rattle.values.specs.Names.{isPropertyName}
+use Rattle.names.specs.Names.{isComposedPropertyName}
 use Rattle.values.specs.ByteRules.{nameClass}
 use Rattle.values.specs.Spelling.{spellScalar}
 use Rattle.language.specs.Rules.{isIdentifier}
@@ -74,7 +74,7 @@ module _ (h : Bytes) where
   nameNumber p = propertyAt h p .name
 
   unfoldable pub propertyOk : List ℕ → ℕ → Bool
-  propertyOk used x = ltb x (textCount h) && isPlain (textAt h x) && isPropertyName (nameOf (textAt h x)) && eqb (getD used x 0) 0
+  propertyOk used x = ltb x (textCount h) && isPlain (textAt h x) && isComposedPropertyName (nameOf (textAt h x)) && eqb (getD used x 0) 0
 
   abbrev pub namesTo : ℕ → List ℕ → List ℕ
   namesTo n used = written nameNumber (λ p. 1) n used

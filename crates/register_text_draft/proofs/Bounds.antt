@@ -22,7 +22,7 @@ use Rattle.language.proofs.Options.{OnSome}
 use Rattle.language.proofs.Members.{or-false}
 use Rattle.language.proofs.Adding.{total-append}
 use Rattle.language.proofs.Entries.{weight, entries-weigh}
-use Rattle.language.proofs.Accepted.{on-value}
+use Rattle.language.proofs.Accepted.{on-value, weigh-composed}
 use Rattle.language.proofs.Shorter.{of-found}
 use Rattle.language.proofs.Registers.{Passed}
 use Rattle.register_text_verdict.specs.Rows.{isProp}
@@ -118,7 +118,7 @@ module _ (ps : List Property) (d : Dictionary) {p g f b : ℕ} (h : Sized d p g 
         pages = omega (arith, h .pages);
         terms = omega (arith, h .terms);
         texts = omega (arith, h .texts);
-        bytes = text-more (d .texts) (plainText x) b (length x) (h .bytes) (omega (arith, length-labelled [] x));
+        bytes = let t = text-more (d .texts) (plainText x) b (length x) (h .bytes) (omega (arith, length-labelled [] x)) in omega (arith, t);
       }
   sized-added (page n x) =
       let m = length-append (d .texts) (labelled n x ∷ []) in
@@ -127,12 +127,12 @@ module _ (ps : List Property) (d : Dictionary) {p g f b : ℕ} (h : Sized d p g 
         pages = omega (arith, length-append (d .pages) (record { identifier = length (d .texts); forms = [] } ∷ []), h .pages);
         terms = omega (arith, h .terms);
         texts = omega (arith, h .texts);
-        bytes = text-more (d .texts) (labelled n x) b (length n + length x) (h .bytes) (omega (arith, length-labelled n x));
+        bytes = let t = text-more (d .texts) (labelled n x) b (length n + length x) (h .bytes) (omega (arith, length-labelled n x)) in omega (arith, t);
       }
   sized-added (cat x) =
       sized-more (sized-value 0 (plain (string x)) (length x) (short-one _ (plainText x) (omega (arith, length-labelled [] x)))) (omega arith) (omega arith) (omega arith) (omega arith)
   sized-added (val x v) =
-      of-found (λ c. Sized c (p + 0) (g + 0) (f + 1) (b + (length v + 4))) (valueOf ps x v) (λ w. withValue (suc (placeAmong ps x)) w d) d
+      of-found (λ c. Sized c (p + 0) (g + 0) (f + 1) (b + (length x + length v + 4))) (valueOf ps x v) (λ w. withValue (suc (placeAmong ps x)) w d) d
       (on-value _ ps x v λ k w e. sized-more (sized-value (suc (placeAmong ps x)) w (length v + 4) (value-short k v w e)) (omega arith) (omega arith) (omega arith) (omega arith))
       (sized-more h (omega arith) (omega arith) (omega arith) (omega arith))
   sized-added close = sized-more h (omega arith) (omega arith) (omega arith) (omega arith)
@@ -161,13 +161,14 @@ properties-total (cat x ∷ l) = omega (arith, properties-total l)
 properties-total (val x v ∷ l) = omega (arith, properties-total l)
 properties-total (close ∷ l) = omega (arith, properties-total l)
 
-pub passed-fits : (s : Bytes) (a b : List Entry) → Passed s (a ++ b) → (ps : List Property) → Fits (draftOf ps a)
+pub passed-fits : (s : Bytes) (k a b : List Entry) → Passed s k (a ++ b) → (ps : List Property) → Fits (draftOf ps a)
 unfolding draftOf overLimits flatMap
-passed-fits s a b t ps =
+passed-fits s k a b t ps =
     let l = a ++ b in
     let i = or-false (ltb 64 (length (properties l)) || ltb 256 (countOf isPage l)) (ltb 2048 (countOf isInner l)) (t .few) in
     let j = or-false (ltb 64 (length (properties l))) (ltb 256 (countOf isPage l)) (i .0) in
-    let w : total weight l ≤ length s = subst (OnSome (λ l. total weight l ≤ length s)) (t .read) (entries-weigh line s) in
+    let v : total weight k ≤ length s = subst (OnSome (λ l. total weight l ≤ length s)) (t .read) (entries-weigh line s) in
+    let w : total weight l ≤ total weight k = rw (t .composed) at (weigh-composed k) in
     let none : Sized noDraft 0 0 0 0 = record { properties = omega arith; pages = omega arith; terms = omega arith; texts = omega arith; bytes = omega arith } in
     sized-more (sized-from ps a noDraft none)
     (omega (arith, ltb-false 64 (length (properties l)) (j .0), properties-total l, total-append (counts isProp) a b))

@@ -10,17 +10,18 @@ use lib.ListN.{length}
 use borrow.Author.Tests.{eqb-true, not-false}
 use Rattle.text.specs.Bytes.{Bytes, bytes, any, after}
 use Rattle.values.specs.declared.Kind.{Kind}
-use Rattle.values.specs.Names.{Identifier, isName, isPropertyName, isNamespace, isValue}
+use Rattle.names.specs.Names.{isComposedName, isComposedPropertyName, isComposedNamespace}
+use Rattle.values.specs.Names.{Identifier, isValue}
 use Rattle.values.specs.Values.{Value, kindOf, readValue}
 use Rattle.values.proofs.Laws.{read-kind}
-use Rattle.values.proofs.Spelled.{Named, name-keeps}
+use Rattle.names.proofs.Composed.{Named, composed-named}
 use Rattle.language.specs.Answer.{_>>=_, found}
 use Rattle.language.specs.Register.{Property, kindAmong}
-use Rattle.language.specs.RegisterText.{Entry, prop, page, cat, val, close, Place, line, inner, Read, quoted, kindWordAt, propForm, pageForm, catForm, valForm, closing, nextEntry, entriesWithin, entriesFrom, entries, breaksRule, properties, valueOf, isUnfit}
+use Rattle.language.specs.RegisterText.{Entry, prop, page, cat, val, close, Place, line, inner, Read, quoted, kindWordAt, propForm, pageForm, catForm, valForm, closing, nextEntry, entriesWithin, entriesFrom, entries, composedEntries, properties, valueOf, isUnfit}
 use Rattle.language.specs.Rules.{isStorable}
 use Rattle.language.proofs.Options.{OnSome, on-bind, on-found}
 use Rattle.language.proofs.Members.{and-true, any-at}
-use Rattle.language.proofs.Accepted.{read-storable}
+use Rattle.language.proofs.Accepted.{read-storable, breaksComposed, rule-composed}
 use Rattle.language.proofs.Registers.{Passed}
 use Rattle.register_text_draft.specs.Sizes.{Valued, Good}
 
@@ -106,9 +107,21 @@ placed-within (suc n) inner s =
     on-bind (Leads inner) (Placed inner) (nextEntry inner s) _ (leads inner s)
     (λ e h. on-bind (Placed (e .place)) (Placed inner) (entriesWithin n (e .place) (e .rest)) _ (placed-within n (e .place) (e .rest)) (λ l m. h l m))
 
-pub placed : (s : Bytes) (l : List Entry) → entries s ≡ some l → Placed line l
+placed : (s : Bytes) (l : List Entry) → entries s ≡ some l → Placed line l
 unfolding entriesFrom
 placed s l e = subst (OnSome (Placed line)) e (placed-within (length s) line s)
+
+placed-composed : {p : Place} {l : List Entry} → Placed p l → Placed p (composedEntries l)
+unfolding composedEntries
+placed-composed done = done
+placed-composed (a-prop h) = a-prop (placed-composed h)
+placed-composed (a-page h) = a-page (placed-composed h)
+placed-composed (a-cat h) = a-cat (placed-composed h)
+placed-composed (a-val h) = a-val (placed-composed h)
+placed-composed (a-close h) = a-close (placed-composed h)
+
+pub passed-placed : (s : Bytes) (k l : List Entry) → Passed s k l → Placed line l
+passed-placed s k l t = subst (Placed line) (t .composed) (placed-composed (placed s k (t .read)))
 
 valued : (ps : List Property) (x v : Bytes) → isValue v ≡ true → found (valueOf ps x v) (λ w. false) true ≡ false → Valued ps x v
 unfolding valueOf
@@ -122,20 +135,20 @@ valued ps x v h f = go (kindAmong ps x) refl f
     go none e f = absurd (true≢false f)
     go (some k) e f = read k e (readValue k v) refl f
 
-pub namespace-short : (n : Bytes) → isNamespace n ≡ true → length n ≤ 64
-unfolding isNamespace
+pub namespace-short : (n : Bytes) → isComposedNamespace n ≡ true → length n ≤ 64
+unfolding isComposedNamespace
 namespace-short n h = go (eqb (length n) 0) refl h
   where
-    go : (b : Bool) → eqb (length n) 0 ≡ b → (b || isName n) ≡ true → length n ≤ 64
+    go : (b : Bool) → eqb (length n) 0 ≡ b → (b || isComposedName n) ≡ true → length n ≤ 64
     go true e h = omega (arith, eqb-true (length n) 0 e)
-    go false e h = name-keeps n h .short
+    go false e h = composed-named n h .short
 
-good : (ps : List Property) (e : Entry) → breaksRule e ≡ false → isUnfit ps e ≡ false → Good ps e
+good : (ps : List Property) (e : Entry) → breaksComposed e ≡ false → isUnfit ps e ≡ false → Good ps e
 good ps (prop x k) r f = tt
-good ps (page n x) r f = namespace-short n (and-true (isNamespace n) (isName x) (not-false (isNamespace n && isName x) r) .0)
+good ps (page n x) r f = namespace-short n (and-true (isComposedNamespace n) (isComposedName x) (not-false (isComposedNamespace n && isComposedName x) r) .0)
 good ps (cat x) r f = tt
-good ps (val x v) r f = valued ps x v (and-true (isPropertyName x) (isValue v) (not-false (isPropertyName x && isValue v) r) .1) f
+good ps (val x v) r f = valued ps x v (and-true (isComposedPropertyName x) (isValue v) (not-false (isComposedPropertyName x && isValue v) r) .1) f
 good ps close r f = tt
 
-pub passed-good : (s : Bytes) (l : List Entry) → Passed s l → {e : Entry} → List·Memᴰ e l → Good (properties l) e
-passed-good s l t {e} m = good (properties l) e (any-at breaksRule (t .ruled) m) (any-at (isUnfit (properties l)) (t .fit) m)
+pub passed-good : (s : Bytes) (k l : List Entry) → Passed s k l → {e : Entry} → List·Memᴰ e l → Good (properties l) e
+passed-good s k l t {e} m = good (properties l) e (any-at breaksComposed (rw (t .composed) at (rule-composed k (t .ruled))) m) (any-at (isUnfit (properties l)) (t .fit) m)

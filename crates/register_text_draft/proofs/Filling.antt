@@ -8,7 +8,7 @@ use native.Mathlib.Nat.{le-refl, mod-eq-of-lt, sub-self}
 use native.Mathlib.Numerals.{add-one}
 use native.Mathlib.Omega.{arith}
 use lib.Dec.{ltb}
-use lib.ListN.{length, getD, take, drop, set, length-append, length-set, List·getD-append, take-append-drop}
+use lib.ListN.{length, getD, take, drop, set, replicate, length-replicate, length-append, length-set, List·getD-append, take-append-drop}
 use lib.Seq.{take-suc-set, take-length, drop-append-seam, getD-append-seam, getD-set-same, getD-set-other, length-take-le}
 use borrow.Author.Tests.{ltb-true, ltb-false}
 use Rattle.text.specs.Bytes.{Bytes, part}
@@ -17,7 +17,8 @@ use Rattle.text.proofs.Tables.{length-tabulate, tabulate-ext, is-tabulate}
 use Rattle.values.specs.declared.Kind.{Kind}
 use Rattle.values.specs.declared.Scalar.{Scalar}
 use Rattle.values.specs.declared.Split.{Split}
-use Rattle.values.specs.Names.{Identifier, reference, identifier}
+use Rattle.names.specs.Names.{composedName}
+use Rattle.values.specs.Names.{Reference, Identifier, reference, composedReference, identifier}
 use Rattle.values.specs.Values.{mapOption, Constant, scalar, string, Value, plain, link, readScalar, readLink, readValue, kindCode, kindFrom}
 use Rattle.values.specs.Answers.{Splits, splitOf}
 use Rattle.values.proofs.Spelled.{link-read}
@@ -27,7 +28,9 @@ use Rattle.register_form.specs.Dictionary.{PropertyRow, PageRow, Dictionary, la
 use Rattle.register_form.specs.Encoding.{identifierText, valueTexts}
 use Rattle.register_form.specs.Form.{joined}
 use Rattle.register_form.specs.Tables.{draftIn}
+use Rattle.buffer.specs.Writing as Buffers
 use Rattle.buffer.proofs.Parts.{part-before}
+use Rattle.buffer.proofs.Joined.{part-there}
 use Rattle.register_text_draft.specs.declared.Counts.{Counts}
 use Rattle.register_text_draft.specs.declared.Ends.{Ends}
 use Rattle.register_text_draft.specs.Drafting.{withForm, onLast}
@@ -134,23 +137,37 @@ module _ (heap starts lens : List ℕ) (m at : ℕ) (h s n : List ℕ) (r : Ends
   abbrev Pushes : List Bytes → Type 0
   Pushes l = Pushed heap starts lens m at l h s n r
 
-  module _ (v : Bytes) (i : Split) (p : Splits v i) (name : Bytes) (en : name ≡ part v (i .article .start) (i .article .len)) where
-    by-split : (space : Bytes) → identifier (splitOf v i) ≡ record { namespace = space; article = name } → (length space ≤ 64 → Pushes (labelled space name ∷ []))
-        → length (identifier (reference v) .namespace) ≤ 64 → Pushes (identifierText (identifier (reference v)) ∷ [])
-    by-split space e f short =
-        let is : identifier (reference v) ≡ record { namespace = space; article = name } = ap identifier (sym (p .is)) ∙ e in
-        rw is (f (subst (λ (j : Identifier). length (j .namespace) ≤ 64) is short))
+  abbrev linkOf : Bytes → Identifier
+  linkOf v = identifier (composedReference (reference v))
 
-    pub link-qualified : i .qualified ≡ true → (space : Bytes) → space ≡ part v (i .namespace .start) (i .namespace .len) → (length space ≤ 64 → Pushes (labelled space name ∷ []))
-        → length (identifier (reference v) .namespace) ≤ 64 → Pushes (identifierText (identifier (reference v)) ∷ [])
-    link-qualified e space es = by-split space (rw (e, es, en))
+  -- The composed form of a part, at the front of a buffer of 64 bytes.
+  module _ (v y buf z : Bytes) (k : ℕ) (eb : buf ≡ Buffers.written (replicate 64 0) 0 (composedName y)) (ek : k ≡ length (composedName y)) (ez : z ≡ part buf 0 k) where
+    buffered : length (composedName y) ≤ 64 → z ≡ composedName y
+    buffered l = ez ∙ ap₂ (λ (b : Bytes) (n : ℕ). part b 0 n) eb ek ∙ part-there (replicate 64 0) (composedName y) 0 (omega (arith, length-replicate {A = ℕ} 64 0))
+
+  module _ (v : Bytes) (i : Split) (p : Splits v i) (x name-buffer name : Bytes) (size : ℕ)
+      (ex : x ≡ part v (i .article .start) (i .article .len)) (eb : name-buffer ≡ Buffers.written (replicate 64 0) 0 (composedName x)) (ek : size ≡ length (composedName x)) (en : name ≡ part name-buffer 0 size) where
+    by-split : (space : Bytes) → linkOf v ≡ record { namespace = space; article = composedName x } → (length space ≤ 64 → Pushes (labelled space name ∷ []))
+        → Spaced (link (linkOf v)) → Pushes (identifierText (linkOf v) ∷ [])
+    by-split space is f short =
+        let near : (length space ≤ 64) × (length (composedName x) ≤ 64) = subst (λ (j : Identifier). Spaced (link j)) is short in
+        rw is (subst (λ (z : Bytes). Pushes (labelled space z ∷ [])) (buffered v x name-buffer name size eb ek en (near .1)) (f (near .0)))
+
+    pub link-qualified : i .qualified ≡ true → (y space-buffer space : Bytes) (m : ℕ) → y ≡ part v (i .namespace .start) (i .namespace .len)
+        → space-buffer ≡ Buffers.written (replicate 64 0) 0 (composedName y) → m ≡ length (composedName y) → space ≡ part space-buffer 0 m
+        → (length space ≤ 64 → Pushes (labelled space name ∷ [])) → Spaced (link (linkOf v)) → Pushes (identifierText (linkOf v) ∷ [])
+    link-qualified e y space-buffer space m ey es em eq f short =
+        let is : linkOf v ≡ record { namespace = composedName y; article = composedName x } = ap (λ (r : Reference). identifier (composedReference r)) (sym (p .is)) ∙ rw (e, ey, ex) in
+        let near : (length (composedName y) ≤ 64) × (length (composedName x) ≤ 64) = subst (λ (j : Identifier). Spaced (link j)) is short in
+        let same : space ≡ composedName y = buffered v y space-buffer space m es em eq (near .0) in
+        by-split space (is ∙ rw same) f short
 
     pub link-bare : i .qualified ≡ false → (space : Bytes) → space ≡ [] → (length space ≤ 64 → Pushes (labelled space name ∷ []))
-        → length (identifier (reference v) .namespace) ≤ 64 → Pushes (identifierText (identifier (reference v)) ∷ [])
-    link-bare e space es = by-split space (rw (e, es, en))
+        → Spaced (link (linkOf v)) → Pushes (identifierText (linkOf v) ∷ [])
+    link-bare e space es = by-split space (ap (λ (r : Reference). identifier (composedReference r)) (sym (p .is)) ∙ rw (e, es, ex))
 
   module _ (k : Kind) (v : Bytes) (w : Value) (e : readValue k v ≡ some w) (short : Spaced w) where
-    pub value-page : k ≡ Kind.Page → (length (identifier (reference v) .namespace) ≤ 64 → Pushes (identifierText (identifier (reference v)) ∷ [])) → Pushes (valueTexts w)
+    pub value-page : k ≡ Kind.Page → (Spaced (link (linkOf v)) → Pushes (identifierText (linkOf v) ∷ [])) → Pushes (valueTexts w)
     unfolding valueTexts
     value-page q f = go (readLink v) refl (rw q at e)
       where
@@ -158,9 +175,8 @@ module _ (heap starts lens : List ℕ) (m at : ℕ) (h s n : List ℕ) (r : Ends
         go none g h = absurd (let z : _≡_ {A = ℕ} 0 1 = cc in omega arith)
         go (some j) g h =
             let is : link j ≡ w = cc in
-            let same : identifier (reference v) ≡ j = link-read v j g .1 in
-            let near : length (identifier (reference v) .namespace) ≤ 64 = subst (λ (i : Identifier). length (i .namespace) ≤ 64) (sym same) (subst Spaced (sym is) short) in
-            subst (λ (u : Value). Pushes (valueTexts u)) is (subst (λ (i : Identifier). Pushes (identifierText i ∷ [])) same (f near))
+            let same : linkOf v ≡ j = link-read v j g .1 in
+            subst (λ (u : Value). Pushes (valueTexts u)) is (subst (λ (i : Identifier). Pushes (identifierText i ∷ [])) same (f (subst (λ (i : Identifier). Spaced (link i)) (sym same) (subst Spaced (sym is) short))))
 
     pub value-string : k ≡ Kind.String → (space : Bytes) → space ≡ [] → (length space ≤ 64 → Pushes (labelled space v ∷ [])) → Pushes (valueTexts w)
     unfolding valueTexts

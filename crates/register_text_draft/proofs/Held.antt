@@ -11,7 +11,9 @@ use Rattle.text.specs.Bytes.{Bytes, part}
 use Rattle.text.specs.Table.{tabulate}
 use Rattle.text.proofs.Tables.{length-tabulate}
 use Rattle.values.specs.declared.Kind.{Kind}
-use Rattle.values.specs.Names.{isName, isNamespace, isValue}
+use Rattle.names.specs.Names.{isComposedName, isComposedNamespace}
+use Rattle.names.proofs.Composed.{composed-named}
+use Rattle.values.specs.Names.{isValue}
 use Rattle.values.specs.Values.{Constant, Value, plain, link, kindOf, readValue}
 use Rattle.values.specs.Spelling.{spelling}
 use Rattle.language.specs.Answer.{_>>=_, found}
@@ -118,7 +120,8 @@ spaced : (w : Value) → isStorable w ≡ true → Spaced w
 unfolding isStorable isIdentifier
 spaced (plain c) h = tt
 spaced (link i) h =
-    namespace-short (i .namespace) (and-true (isNamespace (i .namespace)) (isName (i .article)) (and-true (isNamespace (i .namespace) && isName (i .article)) (isValue (spelling (link i))) h .0) .0)
+    let t = and-true (isComposedNamespace (i .namespace)) (isComposedName (i .article)) (and-true (isComposedNamespace (i .namespace) && isComposedName (i .article)) (isValue (spelling (link i))) h .0) in
+    (namespace-short (i .namespace) (t .0), composed-named (i .article) (t .1) .short)
 
 module _ (s : Bytes) (t props : List ℕ) (np : ℕ) (x v : Bytes) (ps : List Property) (i : Lists s t props np ps) (q : Valued ps x v) (r : PropertyFound) (er : r ≡ propertyFound (foundIn s t props np x)) where
   -- the property is found

@@ -29,7 +29,7 @@ use Rattle.register_form.proofs.Lists.{mem-at, mem-used}
 use Rattle.buffer.proofs.Parts.{flat-append}
 use Rattle.register_text_draft.specs.Drafting.{noDraft, withForm, onLast, codeIn, withValue, added, draftFrom, draftOf}
 use Rattle.register_text_draft.proofs.Growing.{Front, front-self, front-there, front-at, Grows, grows-self, grows-trans, grows-added, grows-from, kept}
-use Rattle.register_text_draft.proofs.Entries.{placed, passed-good}
+use Rattle.register_text_draft.proofs.Entries.{passed-placed, passed-good}
 use Rattle.register_text_draft.specs.Sizes.{Fits, Good}
 use Rattle.register_text_draft.proofs.Bounds.{passed-fits}
 use Rattle.register_text_draft.proofs.Terms.{Told, plain-number, category-told, value-term-told}
@@ -227,12 +227,12 @@ up-to-below zero m h = refl
 up-to-below (suc n) m h = all-more (λ f. ltb f m) (upTo n) (n ∷ []) (up-to-below n m (omega arith)) (all-one (λ f. ltb f m) n (lt-ltb n m (omega arith)))
 
 -- Of an accepted text.
-module _ (s : Bytes) (l : List Entry) (t : Passed s l) where
+module _ (s : Bytes) (k l : List Entry) (t : Passed s k l) where
   abbrev D : Dictionary
   D = draftOf (properties l) l
 
   pub draft-fits : Fits D
-  draft-fits = passed-fits s l [] (rw (append-nil l) t) (properties l)
+  draft-fits = passed-fits s k l [] (rw (append-nil l) t) (properties l)
 
   few : length (D .texts) ≤ 2368
   few = omega (arith, draft-fits .texts)
@@ -247,11 +247,11 @@ module _ (s : Bytes) (l : List Entry) (t : Passed s l) where
 
   keeps : Keeps D D
   unfolding draftOf
-  keeps = kept (properties l) (Keeps D) l noDraft (λ e m c g h. keeps-added D c h few (properties l) declared e (passed-good s l t m) g) (keeps-none D)
+  keeps = kept (properties l) (Keeps D) l noDraft (λ e m c g h. keeps-added D c h few (properties l) declared e (passed-good s k l t m) g) (keeps-none D)
 
   paged : Paged D (pagesOf (properties l) l) D
   unfolding draftOf tabulate flatMap
-  paged = pages-go D (properties l) few declared (placed s l (t .read)) noDraft all-of-it (λ e m. passed-good s l t m) refl
+  paged = pages-go D (properties l) few declared (passed-placed s k l t) noDraft all-of-it (λ e m. passed-good s k l t m) refl
 
   properties-told : decode D .properties ≡ properties l
   unfolding decode

@@ -8,7 +8,7 @@ use native.Mathlib.Omega.{arith}
 use lib.Dec.{ltb}
 use lib.ListN.{length, getD, take, drop, set, length-set, take-append-drop}
 use lib.Seq.{length-take-le, getD-take, getD-set-same}
-use borrow.Author.Tests.{ltb-false}
+use borrow.Author.Tests.{le-ltb}
 use Rattle.text.specs.Bytes.{Bytes, part, any}
 use Rattle.text.specs.Table.{tabulate}
 use Rattle.text.proofs.Tables.{length-tabulate, getD-tabulate, tabulate-ext, is-tabulate}
@@ -22,9 +22,9 @@ use Rattle.register_text_entries.specs.Items.{entryIn}
 use Rattle.register_text_entries.specs.Table.{entryAt, entriesIn}
 use Rattle.register_text_entries.specs.declared.Item.{Item}
 use Rattle.register_text_entries.proofs.Cells.{rows-length, rows-at, rows-last}
-use Rattle.register_text_verdict.specs.Checks.{lowest, Indexed, Judges}
+use Rattle.register_text_verdict.specs.Checks.{lowest, Prepared, Judges}
 use Rattle.register_text_verdict.specs.declared.Judged.{Judged}
-use Rattle.register_text_verdict.proofs.Verdict.{too-long, verdict}
+use Rattle.register_text_verdict.proofs.Verdict.{verdict}
 use Rattle.register_form.specs.Dictionary.{PageRow, Dictionary}
 use Rattle.register_form.specs.Form.{joined}
 use Rattle.register_form.specs.Draft.{drafted, Draft}
@@ -43,73 +43,77 @@ use Rattle.register_text_draft.proofs.Kept.{draft-kept, draft-describes
 use Rattle.register_text_draft.proofs.Looking.{lists-rows}
 
 -- The checks of a text that is not refused.
-lowest-none : (a b c d e : Bool) → lowest a b c d e ≡ 0 → (a ≡ false) × (b ≡ false) × (c ≡ false) × (d ≡ false) × (e ≡ false)
-lowest-none true b c d e h = absurd (omega arith)
-lowest-none false true c d e h = absurd (omega arith)
-lowest-none false false true d e h = absurd (omega arith)
-lowest-none false false false true e h = absurd (omega arith)
-lowest-none false false false false true h = absurd (omega arith)
-lowest-none false false false false false h = (refl, refl, refl, refl, refl)
+lowest-none : (b c d e : Bool) → lowest b c d e ≡ 0 → (b ≡ false) × (c ≡ false) × (d ≡ false) × (e ≡ false)
+lowest-none true c d e h = absurd (omega arith)
+lowest-none false true d e h = absurd (omega arith)
+lowest-none false false true e h = absurd (omega arith)
+lowest-none false false false true h = absurd (omega arith)
+lowest-none false false false false h = (refl, refl, refl, refl)
 
-module _ (s : Bytes) (t props : List ℕ) (n np : ℕ) (a : Accepted s t props n np) where
+-- s is the text as typed, c the one that the rows are over.
+module _ (s c : Bytes) (t props : List ℕ) (n np : ℕ) (a : Accepted s c t props n np) where
+  abbrev K : List Entry
+  K = a .rows .typed
+
   abbrev L : List Entry
-  L = entriesIn s t n
+  L = entriesIn c t n
 
   short : ltb 32768 (length s) ≡ false
-  short = by-test (ltb 32768 (length s)) (λ e. absurd (let z = too-long s e ∙ a .answer in omega arith)) (λ e. e)
+  short = le-ltb 32768 (length s) (a .rows .short)
 
-  pub accepted-passed : Passed s L
+  pub accepted-passed : Passed s K L
   accepted-passed =
-      let c = lowest-none (any breaksRule L) (someTwice L) (any (isUndeclared (properties L)) L) (any (isUnfit (properties L)) L) (overLimits L) (verdict s L short (a .rows) ∙ a .answer) in
-      record { short = ltb-false 32768 (length s) short; read = a .rows; ruled = c .0; once = c .1; declared = c .2; fit = c .3; few = c .4 }
+      let p = a .rows in
+      let f = lowest-none (someTwice L) (any (isUndeclared (properties L)) L) (any (isUnfit (properties L)) L) (overLimits L) (verdict s K short (p .read) (p .ruled) L (p .rows) ∙ a .answer) in
+      record { short = p .short; read = p .read; ruled = p .ruled; composed = sym (p .rows); once = f .0; declared = f .1; fit = f .2; few = f .3 }
 
   -- What the text gives, and that its draft is one that describes it.
   pub accepted-reads : readRegister s ≡ accepted (registerOf L)
   unfolding readRegister judge
-  accepted-reads = let p = accepted-passed in rw (short, a .rows, p .ruled, p .once, p .declared, p .fit, p .few)
+  accepted-reads = let p = accepted-passed in rw (short, a .rows .read, p .ruled, p .composed, p .once, p .declared, p .fit, p .few)
 
   pub accepted-kept : Draft (draftOf (properties L) L)
-  accepted-kept = draft-kept s L accepted-passed
+  accepted-kept = draft-kept s K L accepted-passed
 
   pub accepted-describes : drafted (draftOf (properties L) L) ≡ registerOf L
-  accepted-describes = draft-describes s L accepted-passed
+  accepted-describes = draft-describes s K L accepted-passed
 
-  accepted-lists : Lists s t props np (properties L)
+  accepted-lists : Lists c t props np (properties L)
   unfolding registerOf
-  accepted-lists = lists-rows s t props n np (a .properties) (entries-sound L (accepted-passed .once) (accepted-passed .few) .fewProperties)
+  accepted-lists = lists-rows c t props n np (a .properties) (entries-sound L (accepted-passed .once) (accepted-passed .few) .fewProperties)
 
   module _ (i : ℕ) (below : i < n) where
-    first-rows : take (i + 1) L ≡ entriesIn s t (i + 1)
+    first-rows : take (i + 1) L ≡ entriesIn c t (i + 1)
     unfolding entriesIn
     first-rows =
-        is-tabulate (i + 1) (entryAt s t) close (take (i + 1) (tabulate n (entryAt s t)))
-        (length-take-le (i + 1) (tabulate n (entryAt s t)) (omega (arith, length-tabulate n (entryAt s t))))
-        (λ j b. getD-take (i + 1) (tabulate n (entryAt s t)) j close b ∙ getD-tabulate n (entryAt s t) close j (omega arith))
+        is-tabulate (i + 1) (entryAt c t) close (take (i + 1) (tabulate n (entryAt c t)))
+        (length-take-le (i + 1) (tabulate n (entryAt c t)) (omega (arith, length-tabulate n (entryAt c t))))
+        (λ j b. getD-take (i + 1) (tabulate n (entryAt c t)) j close b ∙ getD-tabulate n (entryAt c t) close j (omega arith))
 
     -- the draft of one row more
-    next-draft : draftOf (properties L) (entriesIn s t (i + 1)) ≡ added (properties L) (draftOf (properties L) (entriesIn s t i)) (entryAt s t i)
+    next-draft : draftOf (properties L) (entriesIn c t (i + 1)) ≡ added (properties L) (draftOf (properties L) (entriesIn c t i)) (entryAt c t i)
     unfolding draftOf
-    next-draft = ap (draftFrom (properties L) noDraft) (rows-last s t i) ∙ draft-more (properties L) noDraft (entriesIn s t i) (entryAt s t i)
+    next-draft = ap (draftFrom (properties L) noDraft) (rows-last c t i) ∙ draft-more (properties L) noDraft (entriesIn c t i) (entryAt c t i)
 
-    next-fits : Fits (draftOf (properties L) (entriesIn s t (i + 1)))
+    next-fits : Fits (draftOf (properties L) (entriesIn c t (i + 1)))
     next-fits =
-        let whole : L ≡ entriesIn s t (i + 1) ++ drop (i + 1) L = sym (take-append-drop (i + 1) L) ∙ ap (λ (z : List Entry). z ++ drop (i + 1) L) first-rows in
-        passed-fits s (entriesIn s t (i + 1)) (drop (i + 1) L) (subst (Passed s) whole accepted-passed) (properties L)
+        let whole : L ≡ entriesIn c t (i + 1) ++ drop (i + 1) L = sym (take-append-drop (i + 1) L) ∙ ap (λ (z : List Entry). z ++ drop (i + 1) L) first-rows in
+        passed-fits s K (entriesIn c t (i + 1)) (drop (i + 1) L) (subst (Passed s K) whole accepted-passed) (properties L)
 
-    here : List·Memᴰ (entryAt s t i) L
-    here = Memᴰ·cast (sym (rows-at s t n i close below)) (mem-at L i close (omega (arith, rows-length s t n)))
+    here : List·Memᴰ (entryAt c t i) L
+    here = Memᴰ·cast (sym (rows-at c t n i close below)) (mem-at L i close (omega (arith, rows-length c t n)))
 
-    pub row-added : (H K : Counts → Dictionary → Type 0) (c r : Counts) (x : Item) → ((u : Bytes) → entryIn u x ≡ entryAt u t i)
-        → ((ps : List Property) → Lists s t props np ps → Good ps (entryIn s x) → Extends H K c r (λ d. added ps d (entryIn s x)))
-        → H c (draftOf (properties L) (entriesIn s t i)) → K r (draftOf (properties L) (entriesIn s t (i + 1)))
-    row-added H K c r x e f h =
-        let good : Good (properties L) (entryIn s x) = subst (Good (properties L)) (sym (e s)) (passed-good s L accepted-passed here) in
-        let same : draftOf (properties L) (entriesIn s t (i + 1)) ≡ added (properties L) (draftOf (properties L) (entriesIn s t i)) (entryIn s x) = next-draft ∙ ap (added (properties L) (draftOf (properties L) (entriesIn s t i))) (sym (e s)) in
-        subst (K r) (sym same) (f (properties L) accepted-lists good .held (draftOf (properties L) (entriesIn s t i)) (subst Fits same next-fits) h)
+    pub row-added : (H′ K′ : Counts → Dictionary → Type 0) (q r : Counts) (x : Item) → ((u : Bytes) → entryIn u x ≡ entryAt u t i)
+        → ((ps : List Property) → Lists c t props np ps → Good ps (entryIn c x) → Extends H′ K′ q r (λ d. added ps d (entryIn c x)))
+        → H′ q (draftOf (properties L) (entriesIn c t i)) → K′ r (draftOf (properties L) (entriesIn c t (i + 1)))
+    row-added H′ K′ q r x e f h =
+        let good : Good (properties L) (entryIn c x) = subst (Good (properties L)) (sym (e c)) (passed-good s K L accepted-passed here) in
+        let same : draftOf (properties L) (entriesIn c t (i + 1)) ≡ added (properties L) (draftOf (properties L) (entriesIn c t i)) (entryIn c x) = next-draft ∙ ap (added (properties L) (draftOf (properties L) (entriesIn c t i))) (sym (e c)) in
+        subst (K′ r) (sym same) (f (properties L) accepted-lists good .held (draftOf (properties L) (entriesIn c t i)) (subst Fits same next-fits) h)
 
--- From what judging a text answers.
-pub judged-accepted : (s : Bytes) (t props pages : List ℕ) (r : Judged) → Judges s t props pages r → r .number ≡ 0 → Accepted s t props (r .rows) (r .props)
-judged-accepted s t props pages r j e = record { answer = sym (j .number) ∙ e; rows = j .index e .rows; properties = j .index e .properties }
+-- From what judging rows answers.
+pub judged-accepted : (s c : Bytes) (t : List ℕ) (n : ℕ) (props pages : List ℕ) (r : Judged) → Prepared s c t n → Judges s t n props pages r → r .number ≡ 0 → Accepted s c t props n (r .props)
+judged-accepted s c t n props pages r p j e = record { answer = sym (j .number) ∙ e; rows = p; properties = j .index .properties }
 
 -- The tables at the start and at the end.
 module _ (heap starts lens kinds names identifiers firsts groups codes : List ℕ) where
@@ -160,7 +164,7 @@ module _ (heap starts lens kinds names identifiers firsts groups codes : List �
       λ i. record { properties = h .properties .rows i; pages = pages i; terms = h .terms .rows i; texts = texts i }
 
 -- After the last row; the tables are those at the start but for the first entry of firsts.
-module _ (s : Bytes) (t props : List ℕ) (n np : ℕ) (heap₀ starts₀ lens₀ kinds₀ names₀ identifiers₀ firsts₀ groups₀ codes₀ v : List ℕ) (ev : firsts₀ ≡ set v 0 0) where
+module _ (s c : Bytes) (t props : List ℕ) (n np : ℕ) (heap₀ starts₀ lens₀ kinds₀ names₀ identifiers₀ firsts₀ groups₀ codes₀ v : List ℕ) (ev : firsts₀ ≡ set v 0 0) where
   roomy : Roomy heap₀ starts₀ lens₀ kinds₀ names₀ identifiers₀ v groups₀ codes₀ → Roomy heap₀ starts₀ lens₀ kinds₀ names₀ identifiers₀ firsts₀ groups₀ codes₀
   roomy r =
       record {
@@ -175,11 +179,11 @@ module _ (s : Bytes) (t props : List ℕ) (n np : ℕ) (heap₀ starts₀ lens�
         codesRoom = r .codesRoom;
       }
 
-  pub draft-done : (heap starts lens kinds names identifiers firsts groups codes : List ℕ) (c : Counts) (i : ℕ) → i ≤ n → n ≤ i
-      → (Accepted s t props n np → Roomy heap₀ starts₀ lens₀ kinds₀ names₀ identifiers₀ firsts₀ groups₀ codes₀ → Holding heap starts lens kinds names identifiers firsts groups codes c (draftOf (properties (entriesIn s t n)) (entriesIn s t i)))
-      → Accepted s t props n np → Roomy heap₀ starts₀ lens₀ kinds₀ names₀ identifiers₀ v groups₀ codes₀ → (uses : List ℕ) → Own (c .forms) uses
-      → draftIn (tablesOf heap starts lens (c .texts) kinds names (c .properties) identifiers firsts (c .pages) uses groups codes (c .forms)) ≡ draftOf (properties (entriesIn s t n)) (entriesIn s t n)
-  draft-done heap starts lens kinds names identifiers firsts groups codes c i l m h a r uses own =
+  pub draft-done : (heap starts lens kinds names identifiers firsts groups codes : List ℕ) (q : Counts) (i : ℕ) → i ≤ n → n ≤ i
+      → (Accepted s c t props n np → Roomy heap₀ starts₀ lens₀ kinds₀ names₀ identifiers₀ firsts₀ groups₀ codes₀ → Holding heap starts lens kinds names identifiers firsts groups codes q (draftOf (properties (entriesIn c t n)) (entriesIn c t i)))
+      → Accepted s c t props n np → Roomy heap₀ starts₀ lens₀ kinds₀ names₀ identifiers₀ v groups₀ codes₀ → (uses : List ℕ) → Own (q .forms) uses
+      → draftIn (tablesOf heap starts lens (q .texts) kinds names (q .properties) identifiers firsts (q .pages) uses groups codes (q .forms)) ≡ draftOf (properties (entriesIn c t n)) (entriesIn c t n)
+  draft-done heap starts lens kinds names identifiers firsts groups codes q i l m h a r uses own =
       let e : i ≡ n = omega arith in
-      holding-is heap starts lens kinds names identifiers firsts groups codes c (draftOf (properties (entriesIn s t n)) (entriesIn s t i)) (h a (roomy r)) uses own
-      ∙ ap (λ (k : ℕ). draftOf (properties (entriesIn s t n)) (entriesIn s t k)) e
+      holding-is heap starts lens kinds names identifiers firsts groups codes q (draftOf (properties (entriesIn c t n)) (entriesIn c t i)) (h a (roomy r)) uses own
+      ∙ ap (λ (k : ℕ). draftOf (properties (entriesIn c t n)) (entriesIn c t k)) e

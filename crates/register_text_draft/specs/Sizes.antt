@@ -40,7 +40,7 @@ Good ps (cat x) = Unit {0}
 Good ps (val x v) = Valued ps x v
 Good ps close = Unit {0}
 
--- The namespace of a link is short.
+-- The names of a link are short.
 abbrev pub Spaced : Value → Type 0
 Spaced (plain c) = Unit {0}
-Spaced (link i) = length (i .namespace) ≤ 64
+Spaced (link i) = (length (i .namespace) ≤ 64) × (length (i .article) ≤ 64)

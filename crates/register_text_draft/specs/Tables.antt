@@ -2,16 +2,14 @@
 use Prim.Native.Nat.{ℕ, suc, _+_, _-_, _≤_, _<_}
 use mathlib.Core.Path.{_≡_}
 use mathlib.Core.List.{List, [], _∷_, _++_}
-use mathlib.Core.Option.{some}
 use lib.ListN.{length, getD, take}
 use Rattle.text.specs.Bytes.{Bytes, part}
 use Rattle.text.specs.Table.{tabulate}
 use Rattle.values.specs.Values.{kindFrom}
 use Rattle.language.specs.Answer.{numberOf}
 use Rattle.language.specs.Register.{Property}
-use Rattle.language.specs.RegisterText.{Entry, entries, readRegister}
-use Rattle.register_text_entries.specs.Table.{entriesIn}
-use Rattle.register_text_verdict.specs.Checks.{rowsThat}
+use Rattle.language.specs.RegisterText.{readRegister}
+use Rattle.register_text_verdict.specs.Checks.{rowsThat, Prepared}
 use Rattle.register_text_verdict.specs.declared.Declared.{Declared}
 use Rattle.register_form.specs.Dictionary.{PropertyRow, PageRow, Dictionary, termOf}
 use Rattle.register_form.specs.Form.{joined}
@@ -99,10 +97,10 @@ pub record Roomy (heap starts lens kinds names identifiers firsts groups codes :
   pub groupsRoom : 2048 ≤ length groups
   pub codesRoom : 2048 ≤ length codes
 
--- The tables t and props hold the n entries and the np properties of an accepted text.
-pub record Accepted (s : Bytes) (t props : List ℕ) (n np : ℕ) : Type 0 where
+-- The tables t and props hold the n entries, over the text c, and the np properties of an accepted text s.
+pub record Accepted (s c : Bytes) (t props : List ℕ) (n np : ℕ) : Type 0 where
   pub answer : numberOf (readRegister s) ≡ 0
-  pub rows : entries s ≡ some (entriesIn s t n)
+  pub rows : Prepared s c t n
   pub properties : take np props ≡ rowsThat Declared.Property t n
 
 -- What a function does to a draft f d that fits: H and K are what the tables hold before and behind it.

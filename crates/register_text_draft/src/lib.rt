@@ -2,6 +2,7 @@
 ghost use mathlib.Core.Path.{_≡_};
 ghost use mathlib.Core.List.{List};
 ghost use Prim.Native.Nat.{ℕ};
+ghost use Rattle.text.specs.Bytes.{Bytes};
 ghost use Rattle.language.specs.Register.{Property};
 ghost use Rattle.language.specs.RegisterText.{properties};
 ghost use Rattle.register_text_entries.specs.Items.{entryIn};
@@ -109,7 +110,7 @@ fn draft_entry(
     }
 }
 
-// Writes the draft of the first n entries in t, of which the first np in props are properties.
+// Writes the draft of the first n entries in t, whose names are composed, and of which the first np in props are properties.
 pub fn draft_text(
     s: &[u8],
     t: &[u16],
@@ -126,7 +127,7 @@ pub fn draft_text(
     groups: &mut [u8],
     codes: &mut [u64],
 ) -> Counts
-    ensures { λ r. ⌜ (Accepted (now (s .entry)) (now (t .entry)) (now (props .entry)) n np → Roomy (now (heap .entry)) (now (starts .entry)) (now (lens .entry)) (now (kinds .entry)) (now (names .entry)) (now (identifiers .entry)) (now (firsts .entry)) (now (groups .entry)) (now (codes .entry)) → (uses : List ℕ) → Own (r .forms) uses → draftIn (tablesOf (now (heap .exit)) (now (starts .exit)) (now (lens .exit)) (r .texts) (now (kinds .exit)) (now (names .exit)) (r .properties) (now (identifiers .exit)) (now (firsts .exit)) (r .pages) uses (now (groups .exit)) (now (codes .exit)) (r .forms)) ≡ draftOf (properties (entriesIn (now (s .entry)) (now (t .entry)) n)) (entriesIn (now (s .entry)) (now (t .entry)) n)) ⌝ }
+    ensures { λ r. ⌜ ((typed : Bytes) → Accepted typed (now (s .entry)) (now (t .entry)) (now (props .entry)) n np → Roomy (now (heap .entry)) (now (starts .entry)) (now (lens .entry)) (now (kinds .entry)) (now (names .entry)) (now (identifiers .entry)) (now (firsts .entry)) (now (groups .entry)) (now (codes .entry)) → (uses : List ℕ) → Own (r .forms) uses → draftIn (tablesOf (now (heap .exit)) (now (starts .exit)) (now (lens .exit)) (r .texts) (now (kinds .exit)) (now (names .exit)) (r .properties) (now (identifiers .exit)) (now (firsts .exit)) (r .pages) uses (now (groups .exit)) (now (codes .exit)) (r .forms)) ≡ draftOf (properties (entriesIn (now (s .entry)) (now (t .entry)) n)) (entriesIn (now (s .entry)) (now (t .entry)) n)) ⌝ }
 {
     put(firsts, 0, 0);
     let mut c = Counts {

@@ -4,14 +4,16 @@ ghost use mathlib.Core.List.{List, [], _∷_};
 ghost use mathlib.Core.Option.{some};
 ghost use Prim.Native.Nat.{_+_, _%_, _≤_, _<_};
 ghost use lib.ListN.{length, set};
-ghost use Rattle.values.specs.Names.{reference, identifier};
-ghost use Rattle.values.specs.Values.{Value, readValue, kindCode};
+ghost use Rattle.values.specs.Names.{reference, composedReference, identifier};
+ghost use Rattle.values.specs.Values.{Value, link, readValue, kindCode};
 ghost use Rattle.register_form.specs.Dictionary.{PropertyRow, PageRow, labelled};
 ghost use Rattle.register_form.specs.Encoding.{identifierText, valueTexts};
 ghost use Rattle.register_text_draft.specs.Drafting.{codeIn};
 ghost use Rattle.register_text_draft.specs.Sizes.{Spaced};
 ghost use Rattle.register_text_draft.specs.Tables.{Copied, Pushed};
 use super::Ends;
+use names::composed_size;
+use names::put_composed;
 use tables::long;
 use tables::narrow;
 use tables::next;
@@ -82,7 +84,7 @@ pub fn push_text(
     }
 }
 
-// Adds the text of the link that v writes.
+// Adds the text of the link that v writes, its names composed.
 fn push_link(
     heap: &mut [u8],
     starts: &mut [u32],
@@ -91,17 +93,24 @@ fn push_link(
     at: u16,
     v: &[u8],
 ) -> Ends
-    ensures { λ r. ⌜ (length (identifier (reference (now (v .entry))) .namespace) ≤ 64 → Pushed (now (heap .entry)) (now (starts .entry)) (now (lens .entry)) m at (identifierText (identifier (reference (now (v .entry)))) ∷ []) (now (heap .exit)) (now (starts .exit)) (now (lens .exit)) r) ⌝ }
+    ensures { λ r. ⌜ (Spaced (link (identifier (composedReference (reference (now (v .entry)))))) → Pushed (now (heap .entry)) (now (starts .entry)) (now (lens .entry)) m at (identifierText (identifier (composedReference (reference (now (v .entry))))) ∷ []) (now (heap .exit)) (now (starts .exit)) (now (lens .exit)) r) ⌝ }
 {
     let split = split_reference(v);
     let n = split.namespace;
     let a = split.article;
     let qualified = split.qualified;
-    let name = part(v, a.start, a.len);
+    let mut space = [0u8; 64];
+    let mut name = [0u8; 64];
+    let x = part(v, a.start, a.len);
+    put_composed(&mut name, 0, x);
+    let article = part(&name, 0, composed_size(x));
     if qualified {
-        return push_text(heap, starts, lens, m, at, part(v, n.start, n.len), name);
+        let y = part(v, n.start, n.len);
+        put_composed(&mut space, 0, y);
+        let namespace = part(&space, 0, composed_size(y));
+        return push_text(heap, starts, lens, m, at, namespace, article);
     }
-    push_text(heap, starts, lens, m, at, part(v, 0, 0), name)
+    push_text(heap, starts, lens, m, at, part(v, 0, 0), article)
 }
 
 // Adds the text of the value of a kind that v writes, if it has one.

@@ -2,3 +2,4 @@ pub mod Ways
 pub mod Cells
 pub mod Counting
 pub mod Reading
+pub mod Copying

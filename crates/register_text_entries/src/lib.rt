@@ -3,6 +3,7 @@ ghost use mathlib.Core.Path.{_≡_};
 ghost use Rattle.register_text_entries.specs.Items.{isBroken};
 ghost use Rattle.register_text_entries.specs.Table.{Filled};
 
+pub mod composing; // composing.rt: entries with their names composed
 pub mod forms; // forms.rt: one entry at a place of the text
 pub mod table; // table.rt: entries as rows of numbers
 

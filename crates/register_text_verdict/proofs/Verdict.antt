@@ -5,6 +5,7 @@ use mathlib.Core.Bool.{Bool, true, false, cond, _||_}
 use mathlib.Core.List.{List, [], _∷_, _++_}
 use mathlib.Core.Option.{some, none}
 use lib.Dec.{ltb}
+use borrow.Author.Tests.{le-ltb}
 use native.Mathlib.Omega.{arith}
 use lib.ListN.{length, take, getD}
 use lib.Seq.{length-take-le, getD-take}
@@ -13,26 +14,25 @@ use Rattle.text.specs.Table.{tabulate}
 use Rattle.text.proofs.Tables.{count-ext}
 use Rattle.language.specs.Answer.{numberOf, judge, _if_}
 use Rattle.language.specs.Register.{Property, Typing, kindAmong}
-use Rattle.language.specs.RegisterText.{Entry, prop, page, cat, val, close, entries, breaksRule, sameDeclared, someTwice, properties, isUndeclared, valueOf, isUnfit, isPage, isInner, countOf, overLimits, registerOf, checks, readRegister}
+use Rattle.language.specs.RegisterText.{Entry, prop, page, cat, val, close, entries, breaksRule, composedEntries, sameDeclared, someTwice, properties, isUndeclared, valueOf, isUnfit, isPage, isInner, countOf, overLimits, registerOf, checks, readRegister}
 use Rattle.values.specs.declared.Kind.{Kind}
 use Rattle.register_text_entries.specs.Items.{entryBy}
 use Rattle.register_text_entries.specs.Table.{tagFrom, entryFrom, entryAt, entriesIn}
 use Rattle.register_text_entries.specs.declared.Tag.{Tag}
 use Rattle.register_text_verdict.specs.Rows.{anyTo, placesTo, twiceTo, twiceAt, isProp, declaredKind, firstIn}
-use Rattle.register_text_verdict.specs.Checks.{declares, rowsThat, kindsIn, fails, twiceIn, innerIn, lowest, verdictOf}
+use Rattle.register_text_verdict.specs.Checks.{declares, rowsThat, kindsIn, fails, someFails, twiceIn, innerIn, lowest, verdictOf, Prepared}
 use Rattle.register_text_verdict.specs.declared.Declared.{Declared}
 use Rattle.register_text_verdict.specs.declared.Check.{Check}
 use Rattle.register_text_verdict.proofs.Rows.{any-rows, count-rows, places-count, twice-rows, kind-rows, any-to-ext, twice-to-ext}
 
 -- the table of checks, as the lowest number
-judged : {A : Type 0} (a b c d e : Bool) (r : A) → numberOf (judge (3 if a ∷ 4 if b ∷ 5 if c ∷ 6 if d ∷ 7 if e ∷ []) r) ≡ lowest a b c d e
+judged : {A : Type 0} (b c d e : Bool) (r : A) → numberOf (judge (3 if false ∷ 4 if b ∷ 5 if c ∷ 6 if d ∷ 7 if e ∷ []) r) ≡ lowest b c d e
 unfolding judge
-judged true b c d e r = refl
-judged false true c d e r = refl
-judged false false true d e r = refl
-judged false false false true e r = refl
-judged false false false false true r = refl
-judged false false false false false r = refl
+judged true c d e r = refl
+judged false true d e r = refl
+judged false false true e r = refl
+judged false false false true r = refl
+judged false false false false r = refl
 
 pub too-long : (s : Bytes) → ltb 32768 (length s) ≡ true → 1 ≡ numberOf (readRegister s)
 unfolding readRegister
@@ -42,11 +42,17 @@ pub not-lines : (s : Bytes) → ltb 32768 (length s) ≡ false → entries s ≡
 unfolding readRegister
 not-lines s h e = rw (h, e)
 
--- a text that reads as the entries l
-pub verdict : (s : Bytes) (l : List Entry) → ltb 32768 (length s) ≡ false → entries s ≡ some l
-    → lowest (any breaksRule l) (someTwice l) (any (isUndeclared (properties l)) l) (any (isUnfit (properties l)) l) (overLimits l) ≡ numberOf (readRegister s)
-unfolding readRegister
-verdict s l h e = rw (h, e) (sym (judged (any breaksRule l) (someTwice l) (any (isUndeclared (properties l)) l) (any (isUnfit (properties l)) l) (overLimits l) (registerOf l)))
+-- a text that reads as the entries k
+module _ (s : Bytes) (k : List Entry) (h : ltb 32768 (length s) ≡ false) (e : entries s ≡ some k) where
+  pub not-ruled : any breaksRule k ≡ true → 3 ≡ numberOf (readRegister s)
+  unfolding readRegister judge
+  not-ruled r = rw (h, e, r)
+
+  -- l are its entries with names composed
+  pub verdict : any breaksRule k ≡ false → (l : List Entry) → l ≡ composedEntries k
+      → lowest (someTwice l) (any (isUndeclared (properties l)) l) (any (isUnfit (properties l)) l) (overLimits l) ≡ numberOf (readRegister s)
+  unfolding readRegister
+  verdict r l c = rw (h, e, r, ← c) (sym (judged (someTwice l) (any (isUndeclared (properties l)) l) (any (isUnfit (properties l)) l) (overLimits l) (registerOf l)))
 
 -- what an entry declares does not hang on the text
 declares-any : (what : Declared) (s : Bytes) (t : List ℕ) (i : ℕ) → declares what (entryAt [] t i) ≡ declares what (entryAt s t i)
@@ -146,10 +152,15 @@ module _ (s : Bytes) (t props pages : List ℕ) (n np ng : ℕ) (P : take np pro
       rw (e, f, rows-that Declared.Property s t n, rows-that Declared.Page s t n, places-count n (λ i. isProp (entryAt s t i)), places-count n (λ i. isPage (entryAt s t i)), count-ext n (λ i. isInner (entryAt [] t i)) (λ i. isInner (entryAt s t i)) (λ i l. inner-any s t i), properties-count (tabulate n (entryAt s t)), count-rows isProp n (entryAt s t), count-rows isPage n (entryAt s t), count-rows isInner n (entryAt s t))
 
   -- the verdict on the text is the verdict on the rows
-  pub verdict-rows : ltb 32768 (length s) ≡ false → entries s ≡ some (entriesIn s t n)
+  pub verdict-rows : (r : Bytes) → Prepared r s t n
       → np ≡ length (rowsThat Declared.Property t n) → ng ≡ length (rowsThat Declared.Page t n)
-      → np ≤ length props → ng ≤ length pages → verdictOf s t n props np pages ng ≡ numberOf (readRegister s)
+      → np ≤ length props → ng ≤ length pages → verdictOf s t n props np pages ng ≡ numberOf (readRegister r)
   unfolding verdictOf
-  verdict-rows short read e f fit fit′ =
-      rw (twice-take s t props np fit, twice-take s t pages ng fit′, check-rows Check.Rule breaksRule (λ d. refl), twice-all, check-rows Check.Undeclared (isUndeclared (properties (entriesIn s t n))) (undeclared-one (properties (entriesIn s t n))), check-rows Check.Unfit (isUnfit (properties (entriesIn s t n))) (unfit-one (properties (entriesIn s t n))), limits-all e f)
-      (verdict s (entriesIn s t n) short read)
+  verdict-rows r p e f fit fit′ =
+      rw (twice-take s t props np fit, twice-take s t pages ng fit′, twice-all, check-rows Check.Undeclared (isUndeclared (properties (entriesIn s t n))) (undeclared-one (properties (entriesIn s t n))), check-rows Check.Unfit (isUnfit (properties (entriesIn s t n))) (unfit-one (properties (entriesIn s t n))), limits-all e f)
+      (verdict r (p .typed) (le-ltb 32768 (length r) (p .short)) (p .read) (p .ruled) (entriesIn s t n) (p .rows))
+
+-- the rule of names and values, of every row
+pub rule-rows : (s : Bytes) (t props : List ℕ) (n m : ℕ) → someFails Check.Rule s t n props m ≡ any breaksRule (entriesIn s t n)
+unfolding entriesIn
+rule-rows s t props n m = sym (any-rows breaksRule n (entryAt s t))

@@ -14,7 +14,8 @@ use Rattle.values.specs.declared.Kind.{Kind}
 use Rattle.values.specs.declared.KindRead.{KindRead}
 use Rattle.values.specs.declared.Scalar.{Scalar}
 use Rattle.values.specs.declared.CodeRead.{CodeRead}
-use Rattle.values.specs.Names.{isName, isPropertyName, isNamespace, isValue, isReference, reference, identifier}
+use Rattle.names.specs.Names.{isName, isPropertyName, isNamespace}
+use Rattle.values.specs.Names.{isValue, isReference, reference, composedReference, identifier}
 use Rattle.values.specs.Values.{mapOption, scalar, plain, link, readScalar, readLink, readValue}
 use Rattle.values.specs.Answers.{codeRead, kindRead}
 use Rattle.language.specs.Answer.{_>>=_, found}
@@ -66,7 +67,7 @@ no-code (some z) h = cc
 module _ (v : Bytes) (k : Kind) where
   pub fits-page : (r : Bool) → k ≡ Kind.Page → r ≡ isReference (reference v) → r ≡ found (readValue k v) (λ w. true) false
   unfolding readLink
-  fits-page r h e = rw h (e ∙ some-cond (isReference (reference v)) (identifier (reference v)) ∙ some-map link (readLink v))
+  fits-page r h e = rw h (e ∙ some-cond (isReference (reference v)) (identifier (composedReference (reference v))) ∙ some-map link (readLink v))
 
   module _ (j : Scalar) (h : k ≡ Kind.Scalar j) (r : CodeRead) (e : r ≡ codeRead (readScalar j v)) where
     as-scalar : found (readScalar j v) (λ w. true) false ≡ found (readValue k v) (λ w. true) false

@@ -6,18 +6,19 @@ use mathlib.Core.List.{List, []}
 use mathlib.Core.Option.{some}
 use lib.Dec.{ltb}
 use lib.ListN.{length, take, getD}
-use Rattle.text.specs.Bytes.{Bytes}
+use Rattle.text.specs.Bytes.{Bytes, any}
 use Rattle.text.specs.Table.{countTo}
 use Rattle.values.specs.Values.{readValue}
 use Rattle.language.specs.Answer.{numberOf, _>>=_, found}
 use Rattle.language.specs.Register.{Typing}
-use Rattle.language.specs.RegisterText.{Entry, prop, page, cat, val, close, isPage, isInner, breaksRule, sameDeclared, entries, readRegister}
+use Rattle.language.specs.RegisterText.{Entry, prop, page, cat, val, close, isPage, isInner, breaksRule, composedEntries, sameDeclared, entries, readRegister}
 use Rattle.register_text_entries.specs.Table.{entryAt, entriesIn}
 use Rattle.register_text_entries.specs.declared.Tag.{Tag}
 use Rattle.register_text_verdict.specs.Rows.{anyTo, twiceTo, placesTo, isProp, declaredKind, firstIn}
 use Rattle.register_text_verdict.specs.declared.Declared.{Declared}
 use Rattle.register_text_verdict.specs.declared.Check.{Check}
 use Rattle.register_text_verdict.specs.declared.Judged.{Judged}
+use Rattle.register_text_verdict.specs.declared.TypedRows.{TypedRows}
 
 -- The entry declares a property, or a page.
 abbrev pub declares : Declared → Entry → Bool
@@ -84,32 +85,54 @@ twiceIn s t rows m = twiceTo m (λ a b. sameDeclared (entryAt s t (getD rows a 0
 abbrev pub innerIn : List ℕ → ℕ → ℕ
 innerIn t n = countTo n (λ i. isInner (entryAt [] t i))
 
--- The tables hold the entries of the text, which of them are properties and pages, and how many.
-pub record Indexed (s : Bytes) (t props pages : List ℕ) (c : Judged) : Type 0 where
-  pub rows : entries s ≡ some (entriesIn s t (c .rows))
-  pub properties : take (c .props) props ≡ rowsThat Declared.Property t (c .rows)
-  pub places : take (c .pages) pages ≡ rowsThat Declared.Page t (c .rows)
-  pub propertyCount : c .props ≡ length (rowsThat Declared.Property t (c .rows))
-  pub pageCount : c .pages ≡ length (rowsThat Declared.Page t (c .rows))
+-- The first n rows of t are the entries of the text s, whose names and values keep their rules as typed.
+pub record Typed (s : Bytes) (t : List ℕ) (n : ℕ) : Type 0 where
+  pub short : length s ≤ 32768
+  pub read : entries s ≡ some (entriesIn s t n)
+  pub ruled : any breaksRule (entriesIn s t n) ≡ false
+  pub few : n ≤ 5500
+
+-- What judging a text as typed answers, where its table has room: 1 to 3, or its entries are in the table.
+pub record JudgesTyped (s : Bytes) (t : List ℕ) (r : TypedRows) : Type 0 where
+  pub refused : (r .number ≡ 0 → ⊥) → r .number ≡ numberOf (readRegister s)
+  pub typed : r .number ≡ 0 → Typed s t (r .rows)
+
+-- The first n rows of t, over the text c, are the entries of such a text s, their names composed.
+pub record Prepared (s c : Bytes) (t : List ℕ) (n : ℕ) : Type 0 where
+  pub typed : List Entry
+  pub short : length s ≤ 32768
+  pub read : entries s ≡ some typed
+  pub ruled : any breaksRule typed ≡ false
+  pub rows : entriesIn c t n ≡ composedEntries typed
+  pub few : n ≤ 5500
 
 -- Tables large enough for any text: it has at most one entry for every six bytes.
-pub record Room (t props pages : List ℕ) : Type 0 where
-  pub rows : 27500 ≤ length t
+abbrev pub rowRoom : ℕ
+rowRoom = 27500
+
+pub record Room (props pages : List ℕ) : Type 0 where
   pub properties : 5500 ≤ length props
   pub places : 5500 ≤ length pages
 
--- The lowest of 3 to 7 whose condition holds, else 0.
-abbrev pub lowest : Bool → Bool → Bool → Bool → Bool → ℕ
-lowest a b c d e = cond a 3 (cond b 4 (cond c 5 (cond d 6 (cond e 7 0))))
+-- Which of the first n rows are properties and pages, and how many.
+pub record Indexed (t : List ℕ) (n : ℕ) (props pages : List ℕ) (c : Judged) : Type 0 where
+  pub properties : take (c .props) props ≡ rowsThat Declared.Property t n
+  pub places : take (c .pages) pages ≡ rowsThat Declared.Page t n
+  pub propertyCount : c .props ≡ length (rowsThat Declared.Property t n)
+  pub pageCount : c .pages ≡ length (rowsThat Declared.Page t n)
+
+-- The lowest of 4 to 7 whose condition holds, else 0.
+abbrev pub lowest : Bool → Bool → Bool → Bool → ℕ
+lowest a b c d = cond a 4 (cond b 5 (cond c 6 (cond d 7 0)))
 
 -- The verdict on the first n rows, of which np are properties and ng are pages.
 unfoldable pub verdictOf : Bytes → List ℕ → ℕ → List ℕ → ℕ → List ℕ → ℕ → ℕ
 verdictOf s t n props np pages ng =
-    lowest (someFails Check.Rule s t n props np) (twiceIn s t props np || twiceIn s t pages ng)
+    lowest (twiceIn s t props np || twiceIn s t pages ng)
     (someFails Check.Undeclared s t n props np) (someFails Check.Unfit s t n props np)
     (ltb 64 np || ltb 256 ng || ltb 2048 (innerIn t n))
 
--- What judging a text answers, where the tables have room; they are those at the end.
-pub record Judges (s : Bytes) (t props pages : List ℕ) (r : Judged) : Type 0 where
+-- What judging prepared rows answers, where the tables have room; they are those at the end.
+pub record Judges (s : Bytes) (t : List ℕ) (n : ℕ) (props pages : List ℕ) (r : Judged) : Type 0 where
   pub number : r .number ≡ numberOf (readRegister s)
-  pub index : r .number ≡ 0 → Indexed s t props pages r
+  pub index : Indexed t n props pages r

@@ -1,11 +1,14 @@
 // The rows of a register's table: which are properties and pages, what each must keep, and the verdict 1 to 7 on a text.
 ghost use mathlib.Core.Path.{_≡_};
 ghost use mathlib.Core.Bool.{_&&_};
-ghost use Rattle.register_text_verdict.specs.Checks.{Collected, someFails, lowest, verdictOf, Judges, Room};
+ghost use Prim.Native.Nat.{_≤_};
+ghost use lib.ListN.{length};
+ghost use Rattle.text.specs.Bytes.{Bytes};
+ghost use Rattle.register_text_verdict.specs.Checks.{Collected, someFails, lowest, verdictOf, rowRoom, JudgesTyped, Prepared, Judges, Room};
 ghost use Rattle.register_text_verdict.specs.declared.Check.the-variants.{Undeclared};
 
 pub mod checks; // checks.rt: what one row, or two, must keep
-pub mod names; // names.rt: what rows declare, as parts of the text
+pub mod declarations; // declarations.rt: what rows declare, as parts of the text
 pub mod tests; // tests.rt: some row fails, two rows are alike, how many are inner forms
 
 use checks::bit_of;
@@ -37,10 +40,15 @@ pub enum Piece {
     Nothing,
 }
 
-// The verdict on a text, and how many rows, properties and pages it has.
-pub struct Judged {
+// The verdict on a text as typed, and how many rows it has.
+pub struct TypedRows {
     pub number: usize,
     pub rows: usize,
+}
+
+// The verdict on rows, and how many properties and pages they are.
+pub struct Judged {
+    pub number: usize,
     pub props: usize,
     pub pages: usize,
 }
@@ -61,23 +69,20 @@ pub fn collect(t: &[u16], n: usize, what: Declared, out: &mut [u16]) -> usize
     m
 }
 
-// The lowest of 3 to 7 whose condition holds, else 0.
-pub fn lowest_of(a: bool, b: bool, c: bool, d: bool, e: bool) -> usize
-    ensures { λ r. ⌜ r ≡ lowest a b c d e ⌝ }
+// The lowest of 4 to 7 whose condition holds, else 0.
+pub fn lowest_of(a: bool, b: bool, c: bool, d: bool) -> usize
+    ensures { λ r. ⌜ r ≡ lowest a b c d ⌝ }
 {
     if a {
-        return 3;
-    }
-    if b {
         return 4;
     }
-    if c {
+    if b {
         return 5;
     }
-    if d {
+    if c {
         return 6;
     }
-    if e { 7 } else { 0 }
+    if d { 7 } else { 0 }
 }
 
 // Whether some val has no declared property. Such a val is unfit too, so that most texts are not gone through again.
@@ -102,41 +107,41 @@ pub fn judge_rows(
 ) -> usize
     ensures { λ r. ⌜ r ≡ verdictOf (now (s .entry)) (now (t .entry)) n (now (props .entry)) np (now (pages .entry)) ng ⌝ }
 {
-    let rule = some_row(s, t, n, props, np, Check::Rule);
     let alike = twice(s, t, props, np) | twice(s, t, pages, ng);
     let unfit = some_row(s, t, n, props, np, Check::Unfit);
     let undeclared = some_undeclared(s, t, n, props, np, unfit);
     let over = (64 < np) | (256 < ng) | (2048 < count_inner(t, n));
-    lowest_of(rule, alike, undeclared, unfit, over)
+    lowest_of(alike, undeclared, unfit, over)
 }
 
-// The verdict on a text, whose entries are then in the tables.
-pub fn judge(s: &[u8], t: &mut [u16], props: &mut [u16], pages: &mut [u16]) -> Judged
-    ensures { λ r. ⌜ (Room (now (t .entry)) (now (props .entry)) (now (pages .entry)) → Judges (now (s .entry)) (now (t .exit)) (now (props .exit)) (now (pages .exit)) r) ⌝ }
+// Reads a text into the rows of a table, and judges its names and values as typed: 0, or the lowest of 1 to 3.
+pub fn judge_typed(s: &[u8], t: &mut [u16]) -> TypedRows
+    ensures { λ r. ⌜ (rowRoom ≤ length (now (t .entry)) → JudgesTyped (now (s .entry)) (now (t .exit)) r) ⌝ }
 {
     if 32768 < s.len() {
-        return Judged {
-            number: 1,
-            rows: 0,
-            props: 0,
-            pages: 0,
-        };
+        return TypedRows { number: 1, rows: 0 };
     }
     let read = read_all(s, t);
-    let n = read.count;
     if !read.ok {
-        return Judged {
-            number: 2,
-            rows: 0,
-            props: 0,
-            pages: 0,
-        };
+        return TypedRows { number: 2, rows: 0 };
     }
+    let n = read.count;
+    let none = [0u16; 1]; // the rule asks for no property
+    if some_row(s, t, n, &none, 0, Check::Rule) {
+        return TypedRows { number: 3, rows: 0 };
+    }
+    TypedRows { number: 0, rows: n }
+}
+
+// The verdict on the first n rows, whose names are composed: 0, or the lowest of 4 to 7. Which rows are properties and pages is then in
+// the tables.
+pub fn judge(s: &[u8], t: &[u16], n: usize, props: &mut [u16], pages: &mut [u16]) -> Judged
+    ensures { λ r. ⌜ (Room (now (props .entry)) (now (pages .entry)) → (typed : Bytes) → Prepared typed (now (s .entry)) (now (t .entry)) n → Judges typed (now (t .entry)) n (now (props .exit)) (now (pages .exit)) r) ⌝ }
+{
     let np = collect(t, n, Declared::Property, props);
     let ng = collect(t, n, Declared::Page, pages);
     Judged {
         number: judge_rows(s, t, n, props, np, pages, ng),
-        rows: n,
         props: np,
         pages: ng,
     }

@@ -9,7 +9,7 @@ use super::Check;
 use super::checks::are_alike;
 use super::checks::bit_of;
 use super::checks::row_fails;
-use super::names::list_names;
+use super::declarations::list_names;
 use dictionary::build;
 use register_text_entries::Tag;
 use register_text_entries::table::item_at;

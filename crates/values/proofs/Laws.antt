@@ -16,7 +16,8 @@ use Rattle.text.specs.Class.{oneOf, isNameByte, isValueByte, isOther}
 use Rattle.text.specs.Parts.{partOf, Trimmed}
 use Rattle.text.specs.declared.Span.{Span}
 use Rattle.text.proofs.Laws.{same-unlike, same-end, same-other, same-step, any-three}
-use Rattle.values.specs.Names.{isSized, first, last, isName, isValue, isNamespace, isReference, reference}
+use Rattle.names.specs.Names.{isSized, first, last, isName, isNamespace}
+use Rattle.values.specs.Names.{isValue, isReference, reference}
 use Rattle.values.specs.Values.{lower, readBoolean, readScalar, readLink, readValue, mapOption, plain, link, scalar, string, kindOfConstant, kindOf, Constant, Value}
 use Rattle.values.specs.Answers.{hasBareEnds, Splits, codeRead}
 use Rattle.values.specs.declared.Kind.{Kind}
@@ -39,14 +40,10 @@ read-kind Kind.Page s v e = mapped-kind link Kind.Page (λ i. refl) v (readLink 
 read-kind (Kind.Scalar k) s v e = plain-kind (scalar k) (Kind.Scalar k) (λ c. refl) (readScalar k s) v e
 read-kind Kind.String s v e = plain-kind string Kind.String (λ x. refl) (some s) v e
 
--- The rules for names and values, from what their parts answer.
+-- The rule for values, from what its parts answer.
 module _ (s : Bytes) (a d : Bool) (x : ℕ) (e : a ≡ isSized s) (f : x ≡ first s) (g : d ≡ hasBareEnds s) where
   ends : (y : Bool) → (y && d) ≡ (y && not (isBlank (first s)) && not (isBlank (last s)))
   ends y = rw g (sym (and-assoc y (not (isBlank (first s))) (not (isBlank (last s)))))
-
-  pub name-is : (b c : Bool) → b ≡ all isNameByte s → c ≡ oneOf "!~+" x → (a && b && not c && d) ≡ isName s
-  unfolding isName
-  name-is b c h k = ends (a && b && not c) ∙ rw (e, h, k, f)
 
   pub value-is : (b : Bool) → b ≡ all isValueByte s → (a && b && not (eqb x 126) && d) ≡ isValue s
   unfolding isValue
@@ -116,4 +113,4 @@ module _ (s : Bytes) where
 
 pub ruleset booleans = (boolean-true, boolean-false, boolean-unfit)
 
-pub ruleset names = (name-is, value-is, split-qualified, split-bare, reference-qualified, reference-bare)
+pub ruleset names = (value-is, split-qualified, split-bare, reference-qualified, reference-bare)

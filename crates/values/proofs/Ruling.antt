@@ -1,7 +1,7 @@
 -- Laws of the table of rules: what the bits of its digits tell of a text, and its class by them.
 use Prim.Native.Nat.{ℕ, suc, _+_, _%_, _^_, _≤_, _<_}
 use mathlib.Core.Path.{_≡_, refl, sym, ap, ap₂, _∙_}
-use mathlib.Core.Bool.{Bool, true, false, cond, not, _&&_, _||_, and-assoc, and-true, and-false}
+use mathlib.Core.Bool.{Bool, true, false, cond, not, _&&_, _||_, and-assoc, and-true, and-false, and-eq-true-iff}
 use mathlib.Core.List.{List, [], _∷_}
 use native.Mathlib.Numerals.{add-one}
 use native.Mathlib.Omega.{arith}
@@ -12,11 +12,16 @@ use lib.Pow.{pow-pos}
 use lib.Seq.{drop-cons}
 use borrow.Author.Tests.{lt-ltb, le-ltb, ltb-true, ltb-false, not-true, not-false}
 use Rattle.text.specs.Bytes.{Bytes, all, isBlank}
-use Rattle.text.specs.Class.{oneOf, isNameByte, isValueByte}
+use Rattle.text.specs.Class.{oneOf, isValueByte}
 use Rattle.text.proofs.Laws.{any-three}
 use Rattle.text.proofs.Tables.{getD-tabulate}
 use Rattle.text.proofs.Keys.{Small}
-use Rattle.values.specs.Names.{isSized, first, last, isName, isValue}
+use Rattle.names.specs.Codes.{isPlain}
+use Rattle.names.specs.Names.{composed, isSome, isForm, hasNameShape, isSized, first, last, isName, isComposedName}
+use Rattle.names.proofs.Reading.{plain-range}
+use Rattle.names.proofs.Ascii.{isAscii, ascii-composed-name}
+use Rattle.names.proofs.Composed.{plain-name}
+use Rattle.values.specs.Names.{isValue}
 use Rattle.values.specs.Answers.{hasBareEnds}
 use Rattle.values.specs.ByteRules.{ruleOf, ruleTable, areBelow, RuledOut, nameClass}
 use Rattle.values.proofs.Spelled.{name-byte}
@@ -65,54 +70,101 @@ module _ (t : List ℕ) (s : Bytes) where
 -- What the table has for a byte.
 digit-is : (b : ℕ) → b < 256 → getD ruleTable b 0 % 16 ≡ ruleOf b
 unfolding ruleTable ruleOf
-digit-is b l = ap (λ (n : ℕ). n % 16) (getD-tabulate 256 (λ n. 48 + ruleOf n) 0 b l) ∙ go (isNameByte b) (isValueByte b)
+digit-is b l = ap (λ (n : ℕ). n % 16) (getD-tabulate 256 (λ n. 48 + ruleOf n) 0 b l) ∙ go (isPlain b) (ltb 127 b) (isValueByte b)
   where
-    go : (p q : Bool) → _≡_ {A = ℕ} ((48 + cond p 0 (cond q 1 2)) % 16) (cond p 0 (cond q 1 2))
-    go true q = refl
-    go false true = refl
-    go false false = refl
+    go : (p q r : Bool) → _≡_ {A = ℕ} ((48 + cond p 0 (cond q 4 (cond r 1 2))) % 16) (cond p 0 (cond q 4 (cond r 1 2)))
+    go true q r = refl
+    go false true r = refl
+    go false false true = refl
+    go false false false = refl
 
-name-digit : (b : ℕ) → b < 256 → ltb (getD ruleTable b 0 % 16) 1 ≡ isNameByte b
+plain-digit : (b : ℕ) → b < 256 → ltb (getD ruleTable b 0 % 16) 1 ≡ isPlain b
 unfolding ruleOf
-name-digit b l = rw (digit-is b l) (go (isNameByte b) (isValueByte b))
+plain-digit b l = rw (digit-is b l) (go (isPlain b) (ltb 127 b) (isValueByte b))
   where
-    go : (p q : Bool) → ltb (cond p 0 (cond q 1 2)) 1 ≡ p
-    go true q = refl
-    go false true = refl
-    go false false = refl
+    go : (p q r : Bool) → ltb (cond p 0 (cond q 4 (cond r 1 2))) 1 ≡ p
+    go true q r = refl
+    go false true r = refl
+    go false false true = refl
+    go false false false = refl
 
-value-digit : (b : ℕ) → b < 256 → ltb (getD ruleTable b 0 % 16) 2 ≡ isValueByte b
+ascii-digit : (b : ℕ) → b < 256 → ltb (getD ruleTable b 0 % 16) 4 ≡ ltb b 128
 unfolding ruleOf
-value-digit b l = rw (digit-is b l) (go (isNameByte b) (isValueByte b) (name-byte b))
+ascii-digit b l = rw (digit-is b l) (go (isPlain b) (ltb 127 b) (isValueByte b) refl refl)
   where
-    go : (p q : Bool) → (p ≡ true → q ≡ true) → ltb (cond p 0 (cond q 1 2)) 2 ≡ q
-    go true q h = sym (h refl)
-    go false true h = refl
-    go false false h = refl
+    go : (p q r : Bool) → isPlain b ≡ p → ltb 127 b ≡ q → ltb (cond p 0 (cond q 4 (cond r 1 2))) 4 ≡ ltb b 128
+    go true q r e f = sym (lt-ltb b 128 (omega (arith, plain-range b e)))
+    go false true r e f = sym (le-ltb b 128 (omega (arith, ltb-true 127 b f)))
+    go false false true e f = sym (lt-ltb b 128 (omega (arith, ltb-false 127 b f)))
+    go false false false e f = sym (lt-ltb b 128 (omega (arith, ltb-false 127 b f)))
+
+value-digit : (b : ℕ) → b < 256 → ltb (getD ruleTable b 0 % 16) 2 ≡ (ltb b 128 && isValueByte b)
+unfolding ruleOf
+value-digit b l = rw (digit-is b l) (go (isPlain b) (ltb 127 b) (isValueByte b) refl refl refl)
+  where
+    go : (p q r : Bool) → isPlain b ≡ p → ltb 127 b ≡ q → isValueByte b ≡ r → ltb (cond p 0 (cond q 4 (cond r 1 2))) 2 ≡ (ltb b 128 && r)
+    go true q r e f g = rw (lt-ltb b 128 (omega (arith, plain-range b e))) (sym (name-byte b (plain-name b e)) ∙ g)
+    go false true r e f g = rw (le-ltb b 128 (omega (arith, ltb-true 127 b f)))
+    go false false true e f g = rw (lt-ltb b 128 (omega (arith, ltb-false 127 b f)))
+    go false false false e f g = rw (lt-ltb b 128 (omega (arith, ltb-false 127 b f)))
 
 all-ext : (p q : ℕ → Bool) → ((b : ℕ) → b < 256 → p b ≡ q b) → (s : Bytes) → Small s → all p s ≡ all q s
 unfolding all
 all-ext p q h [] t = refl
 all-ext p q h (b ∷ s) t = ap₂ _&&_ (h b (t 0)) (all-ext p q h s (λ i. t (suc i)))
 
+ascii-values : (s : Bytes) → isAscii s ≡ true → all (λ b. ltb b 128 && isValueByte b) s ≡ all isValueByte s
+unfolding all
+ascii-values [] h = refl
+ascii-values (b ∷ s) h =
+    let e = and-eq-true-iff (ltb b 128) (isAscii s) .0 h in
+    rw (e .0, ascii-values s (e .1))
+
 -- What the bits tell of a text.
 module _ (t : List ℕ) (s : Bytes) (out : ℕ) (e : t ≡ ruleTable) (small : Small s) (r : RuledOut t s out) where
-  ruled-name : ltb out 1 ≡ all isNameByte s
+  ruled-plain : ltb out 1 ≡ all isPlain s
   unfolding areBelow
-  ruled-name = r .below 0 ∙ rw e (all-ext (λ b. ltb (getD ruleTable b 0 % 16) 1) isNameByte name-digit s small)
+  ruled-plain = r .below 0 ∙ rw e (all-ext (λ b. ltb (getD ruleTable b 0 % 16) 1) isPlain plain-digit s small)
 
-  ruled-value : ltb out 2 ≡ all isValueByte s
+  ruled-ascii : ltb out 4 ≡ isAscii s
   unfolding areBelow
-  ruled-value = r .below 1 ∙ rw e (all-ext (λ b. ltb (getD ruleTable b 0 % 16) 2) isValueByte value-digit s small)
+  ruled-ascii = r .below 2 ∙ rw e (all-ext (λ b. ltb (getD ruleTable b 0 % 16) 4) (λ b. ltb b 128) ascii-digit s small)
 
--- A text of class 2 is a name.
-pub class-two : (s : Bytes) → eqb (nameClass s) 2 ≡ isName s
-class-two s = go (isName s) (isValue s)
+  ruled-value : isAscii s ≡ true → ltb out 2 ≡ all isValueByte s
+  unfolding areBelow
+  ruled-value h =
+      r .below 1
+      ∙ rw e (all-ext (λ b. ltb (getD ruleTable b 0 % 16) 2) (λ b. ltb b 128 && isValueByte b) value-digit s small)
+      ∙ ascii-values s h
+
+-- A text of class 2 is a composed name.
+pub class-two : (s : Bytes) → eqb (nameClass s) 2 ≡ isComposedName s
+class-two s = go (isComposedName s) (isValue s)
   where
     go : (p q : Bool) → eqb (cond p 2 (cond q 1 0)) 2 ≡ p
     go true q = refl
     go false true = refl
     go false false = refl
+
+-- The class, by the two tests.
+module _ (s : Bytes) (p : Bool) (e : p ≡ isComposedName s) where
+  pub wide-name : p ≡ true → 2 ≡ nameClass s
+  wide-name h = rw (← e, h)
+
+  module _ (h : p ≡ false) (q : Bool) (f : q ≡ isValue s) where
+    pub wide-value : q ≡ true → 1 ≡ nameClass s
+    wide-value k = rw (← e, h, ← f, k)
+
+    pub wide-neither : q ≡ false → 0 ≡ nameClass s
+    wide-neither k = rw (← e, h, ← f, k)
+
+pub ruleset wide = (wide-name, wide-value, wide-neither)
+
+named : (z n o p q : Bool) → ((z && o && p && q) && n) ≡ ((z && (p && q)) && (n && o))
+named true true true p q = rw (and-true (p && q))
+named true true false p q = sym (and-false (p && q))
+named true false o p q = rw (and-false (o && p && q), and-false (p && q))
+named false n o p q = refl
 
 sorted : (z n o p q : Bool) → (z && n && o && p && q) ≡ ((z && (p && q)) && (n && o))
 sorted true true true p q = sym (and-true (p && q))
@@ -122,29 +174,47 @@ sorted false n o p q = refl
 
 -- The class of a text, by what its parts answer.
 module _ (s : Bytes) (a d : Bool) (e : a ≡ isSized s) (g : d ≡ hasBareEnds s) where
-  name-sorted : isName s ≡ ((a && d) && (all isNameByte s && not (oneOf "!~+" (first s))))
-  unfolding isName
-  name-sorted = rw (e, g) (sorted (isSized s) (all isNameByte s) (not (oneOf "!~+" (first s))) (not (isBlank (first s))) (not (isBlank (last s))))
+  shape-sorted : (n : Bool) → (hasNameShape s && n) ≡ ((a && d) && (n && not (oneOf "!~+" (first s))))
+  unfolding hasNameShape
+  shape-sorted n = rw (e, g) (named (isSized s) n (not (oneOf "!~+" (first s))) (not (isBlank (first s))) (not (isBlank (last s))))
 
   value-sorted : isValue s ≡ ((a && d) && (all isValueByte s && not (eqb (first s) 126)))
   unfolding isValue
   value-sorted = rw (e, g) (sorted (isSized s) (all isValueByte s) (not (eqb (first s) 126)) (not (isBlank (first s))) (not (isBlank (last s))))
 
+  no-name : not (a && d) ≡ true → isComposedName s ≡ false
+  unfolding isComposedName isName
+  no-name h = rw (shape-sorted (isSome (composed s)), not-true (a && d) h)
+
   pub class-unfit : not (a && d) ≡ true → 0 ≡ nameClass s
-  class-unfit h = rw (name-sorted, value-sorted, not-true (a && d) h)
+  class-unfit h = rw (no-name h, value-sorted, not-true (a && d) h)
 
-  module _ (x out : ℕ) (h : not (a && d) ≡ false) (f : x ≡ first s) (small : Small s) (t : List ℕ) (r : RuledOut t s out) (p : t ≡ ruleTable) where
-    name-told : (q : Bool) → (ltb out 1 && not (eqb x 33 || eqb x 126 || eqb x 43)) ≡ q → isName s ≡ q
-    name-told q k = name-sorted ∙ rw (not-false (a && d) h, ← ruled-name t s out p small r, ← f, any-three (eqb x) 33 126 43) k
+  module _
+      (x out : ℕ)
+      (h : not (a && d) ≡ false)
+      (f : x ≡ first s)
+      (small : Small s)
+      (t : List ℕ)
+      (r : RuledOut t s out)
+      (p : t ≡ ruleTable)
+      (low : out < 4)
+    where
+      ascii : isAscii s ≡ true
+      ascii = sym (ruled-ascii t s out p small r) ∙ lt-ltb out 4 low
 
-    value-told : (q : Bool) → (ltb out 2 && not (eqb x 126)) ≡ q → isValue s ≡ q
-    value-told q k = value-sorted ∙ rw (not-false (a && d) h, ← ruled-value t s out p small r, ← f) k
+      name-told : (q : Bool) → (ltb out 1 && not (eqb x 33 || eqb x 126 || eqb x 43)) ≡ q → isComposedName s ≡ q
+      name-told q k =
+          ascii-composed-name s ascii ∙ shape-sorted (all isPlain s)
+          ∙ rw (not-false (a && d) h, ← ruled-plain t s out p small r, ← f, any-three (eqb x) 33 126 43) k
 
-    pub class-name : (ltb out 1 && not (eqb x 33 || eqb x 126 || eqb x 43)) ≡ true → 2 ≡ nameClass s
-    class-name k = rw (name-told true k)
+      value-told : (q : Bool) → (ltb out 2 && not (eqb x 126)) ≡ q → isValue s ≡ q
+      value-told q k = value-sorted ∙ rw (not-false (a && d) h, ← ruled-value t s out p small r ascii, ← f) k
 
-    pub class-value : (ltb out 1 && not (eqb x 33 || eqb x 126 || eqb x 43)) ≡ false → (ltb out 2 && not (eqb x 126)) ≡ true → 1 ≡ nameClass s
-    class-value k l = rw (name-told false k, value-told true l)
+      pub class-name : (ltb out 1 && not (eqb x 33 || eqb x 126 || eqb x 43)) ≡ true → 2 ≡ nameClass s
+      class-name k = rw (name-told true k)
 
-    pub class-neither : (ltb out 1 && not (eqb x 33 || eqb x 126 || eqb x 43)) ≡ false → (ltb out 2 && not (eqb x 126)) ≡ false → 0 ≡ nameClass s
-    class-neither k l = rw (name-told false k, value-told false l)
+      pub class-value : (ltb out 1 && not (eqb x 33 || eqb x 126 || eqb x 43)) ≡ false → (ltb out 2 && not (eqb x 126)) ≡ true → 1 ≡ nameClass s
+      class-value k l = rw (name-told false k, value-told true l)
+
+      pub class-neither : (ltb out 1 && not (eqb x 33 || eqb x 126 || eqb x 43)) ≡ false → (ltb out 2 && not (eqb x 126)) ≡ false → 0 ≡ nameClass s
+      class-neither k l = rw (name-told false k, value-told false l)

@@ -1,8 +1,8 @@
 -- The shortest spelling: it is no longer than the text that was read, but for booleans, and a link keeps the rule for values at it.
 use Prim.Native.Nat.{ℕ, zero, suc, _+_, _-_, _*_, _/_, _^_, _≤_, _<_}
-use mathlib.Core.Path.{_≡_, refl, ap, sym, _∙_, subst}
+use mathlib.Core.Path.{_≡_, refl, ap, ap₂, sym, _∙_, subst}
 use mathlib.Core.List.{[], _∷_, _++_}
-use mathlib.Core.Bool.{Bool, true, false, cond, not, _&&_, _||_, true≢false, and-eq-true-iff}
+use mathlib.Core.Bool.{Bool, true, false, cond, not, _&&_, _||_, true≢false, and-eq-true-iff, and-true}
 use mathlib.Core.Option.{Option, some, none}
 use native.Mathlib.Omega.{arith}
 use native.Mathlib.Nat.{pow-succ', zero-add, div-lt-iff-lt-mul}
@@ -15,7 +15,9 @@ use Rattle.text.specs.Bytes.{Bytes, bytes, same, any, all, isBlank, span, trim}
 use Rattle.text.specs.Class.{oneOf, isDigit, isNameByte, isValueByte, isOther}
 use Rattle.text.proofs.Laws.{any-append, all-append}
 use Rattle.text.proofs.Trim.{trim-le}
-use Rattle.values.specs.Names.{first, last, isName, isNamespace, isValue, Reference, bare, qualified, reference, isReference, Identifier, identifier}
+use Rattle.names.specs.Names.{composedName, first, last, isName, isNamespace, isComposedName, isComposedNamespace}
+use Rattle.names.proofs.Composed.{name-keeps, composed-le, composed-is-name, composed-is-namespace, composed-typed, namespace-typed, composed-fixed, namespace-fixed}
+use Rattle.values.specs.Names.{isValue, Reference, bare, qualified, reference, isReference, composedReference, isComposedReference, Identifier, identifier}
 use Rattle.values.specs.Values.{scalar, string, Value, plain, link, mapOption, decimal, readDigits, readNumber, readBoolean, readLink, readScalar, readConstant, readValue}
 use Rattle.values.specs.Spelling.{digitsWithin, digits, spellNumber, spellBoolean, spellIdentifier}
 use Rattle.values.specs.declared.Kind.{Kind}
@@ -88,9 +90,9 @@ spelled-boolean-le (x ∷ s) true h = omega arith
 spelled-boolean-le (x ∷ s) false h = omega arith
 
 -- The reference that a link was read from.
-pub link-read : (s : Bytes) (i : Identifier) → readLink s ≡ some i → (isReference (reference s) ≡ true) × (identifier (reference s) ≡ i)
+pub link-read : (s : Bytes) (i : Identifier) → readLink s ≡ some i → (isReference (reference s) ≡ true) × (identifier (composedReference (reference s)) ≡ i)
 unfolding readLink
-link-read s i h = passed _ (identifier (reference s)) i h
+link-read s i h = passed _ (identifier (composedReference (reference s))) i h
 
 -- A link has no more bytes than its namespace, a colon and its name.
 pub spelled-identifier-le : (i : Identifier) → length (spellIdentifier i) ≤ suc (length (i .namespace) + length (i .article))
@@ -101,8 +103,8 @@ spelled-identifier-le i = go (eqb (length (i .namespace)) 0)
     go true = omega arith
     go false = omega (arith, length-append (i .namespace) (58 ∷ i .article))
 
--- Both sides trimmed.
-reference-le : (s : Bytes) → length (spellIdentifier (identifier (reference s))) ≤ length s
+-- Both sides trimmed and composed.
+reference-le : (s : Bytes) → length (spellIdentifier (identifier (composedReference (reference s)))) ≤ length s
 unfolding reference spellIdentifier
 reference-le s = go (ltb (span (isOther 58) s) (length s)) refl
   where
@@ -112,47 +114,23 @@ reference-le s = go (ltb (span (isOther 58) s) (length s)) refl
     x : Bytes
     x = trim (drop (suc (span (isOther 58) s)) s)
 
-    go : (t : Bool) → ltb (span (isOther 58) s) (length s) ≡ t → length (spellIdentifier (identifier (cond t (qualified n x) (bare (trim s))))) ≤ length s
+    go : (t : Bool) → ltb (span (isOther 58) s) (length s) ≡ t → length (spellIdentifier (identifier (composedReference (cond t (qualified n x) (bare (trim s)))))) ≤ length s
     go true e =
         omega (
           arith,
           ltb-true (span (isOther 58) s) (length s) e,
-          spelled-identifier-le (identifier (qualified n x)),
+          spelled-identifier-le (identifier (qualified (composedName n) (composedName x))),
+          composed-le n,
+          composed-le x,
           trim-le (take (span (isOther 58) s) s),
           length-take (span (isOther 58) s) s,
           trim-le (drop (suc (span (isOther 58) s)) s),
           length-drop (suc (span (isOther 58) s)) s,
         )
-    go false e = trim-le s
+    go false e = omega (arith, trim-le s, composed-le (trim s))
 
 pub spelled-link-le : (s : Bytes) (i : Identifier) → readLink s ≡ some i → length (spellIdentifier i) ≤ length s
 spelled-link-le s i h = subst (λ i. length (spellIdentifier i) ≤ length s) (link-read s i h .1) (reference-le s)
-
--- What the rule for names says.
-pub record Named (s : Bytes) : Type 0 where
-  pub filled : 1 ≤ length s
-  pub short : length s ≤ 64
-  pub among : all isNameByte s ≡ true
-  pub unmarked : oneOf "!~+" (first s) ≡ false
-  pub begun : isBlank (first s) ≡ false
-  pub ended : isBlank (last s) ≡ false
-
-pub name-keeps : (s : Bytes) → isName s ≡ true → Named s
-unfolding isName
-name-keeps s h =
-    let e = and-eq-true-iff _ (not (isBlank (last s))) .0 h in
-    let f = and-eq-true-iff _ (not (isBlank (first s))) .0 (e .0) in
-    let m = and-eq-true-iff _ (not (oneOf "!~+" (first s))) .0 (f .0) in
-    let b = and-eq-true-iff _ (all isNameByte s) .0 (m .0) in
-    let l = and-eq-true-iff (leb 1 (length s)) (leb (length s) 64) .0 (b .0) in
-    record {
-      filled = leb-true 1 (length s) (l .0);
-      short = leb-true (length s) 64 (l .1);
-      among = b .1;
-      unmarked = not-true _ (m .1);
-      begun = not-true _ (f .1);
-      ended = not-true _ (e .1);
-    }
 
 -- The rule for values, from its parts, and its length.
 module _ (s : Bytes) (filled : 1 ≤ length s) (short : length s ≤ 64) where
@@ -199,6 +177,9 @@ name-is-value s h =
     let n = name-keeps s h in
     value-made s (n .filled) (n .short) (all-name-bytes s (n .among)) (no-tilde (first s) (n .unmarked)) (n .begun) (n .ended)
 
+pub composed-is-value : (s : Bytes) → isComposedName s ≡ true → isValue s ≡ true
+composed-is-value s h = name-is-value s (composed-typed s h)
+
 -- A namespace, a colon and a name.
 qualified-is-value : (n x : Bytes) → isName n ≡ true → isName x ≡ true → length (n ++ (58 ∷ x)) ≤ 64 → isValue (n ++ (58 ∷ x)) ≡ true
 unfolding all any isValueByte
@@ -215,11 +196,11 @@ qualified-is-value n x h k l =
     (ap isBlank f ∙ a .begun)
     (ap isBlank e ∙ b .ended)
 
-pub spelled-is-value : (i : Identifier) → isNamespace (i .namespace) && isName (i .article) ≡ true → length (spellIdentifier i) ≤ 64 → isValue (spellIdentifier i) ≡ true
+pub spelled-is-value : (i : Identifier) → isComposedNamespace (i .namespace) && isComposedName (i .article) ≡ true → length (spellIdentifier i) ≤ 64 → isValue (spellIdentifier i) ≡ true
 unfolding spellIdentifier isNamespace
 spelled-is-value i h l =
-    let t = and-eq-true-iff (isNamespace (i .namespace)) (isName (i .article)) .0 h in
-    go (eqb (length (i .namespace)) 0) (t .0) (t .1) l
+    let t = and-eq-true-iff (isComposedNamespace (i .namespace)) (isComposedName (i .article)) .0 h in
+    go (eqb (length (i .namespace)) 0) (namespace-typed (i .namespace) (t .0)) (composed-typed (i .article) (t .1)) l
   where
     spelled : Bool → Bytes
     spelled t = cond t (i .article) (i .namespace ++ (58 ∷ i .article))
@@ -228,8 +209,27 @@ spelled-is-value i h l =
     go true n x l = name-is-value (i .article) x
     go false n x l = qualified-is-value (i .namespace) (i .article) n x l
 
--- The parts of a reference that is one keep their rules.
-pub reference-keeps : (r : Reference) → isReference r ≡ true → isNamespace (identifier r .namespace) && isName (identifier r .article) ≡ true
-unfolding isNamespace
-reference-keeps (bare x) h = h
-reference-keeps (qualified n x) h = h
+-- The parts of a reference that is one keep their rules, composed.
+pub reference-keeps : (r : Reference) → isReference r ≡ true → isComposedNamespace (identifier (composedReference r) .namespace) && isComposedName (identifier (composedReference r) .article) ≡ true
+unfolding isComposedNamespace
+reference-keeps (bare x) h = composed-is-name x h
+reference-keeps (qualified n x) h =
+    let t = and-eq-true-iff (isNamespace n) (isName x) .0 h in
+    rw (composed-is-name x (t .1), and-true) (composed-is-namespace n (t .0))
+
+-- A reference that is one, composed; and one that is composed.
+pub composed-is-reference : (r : Reference) → isReference r ≡ true → isComposedReference (composedReference r) ≡ true
+composed-is-reference (bare x) h = composed-is-name x h
+composed-is-reference (qualified n x) h = reference-keeps (qualified n x) h
+
+pub reference-typed : (r : Reference) → isComposedReference r ≡ true → isReference r ≡ true
+reference-typed (bare x) h = composed-typed x h
+reference-typed (qualified n x) h =
+    let t = and-eq-true-iff (isComposedNamespace n) (isComposedName x) .0 h in
+    rw (namespace-typed n (t .0), composed-typed x (t .1))
+
+pub reference-fixed : (r : Reference) → isComposedReference r ≡ true → composedReference r ≡ r
+reference-fixed (bare x) h = ap bare (composed-fixed x h)
+reference-fixed (qualified n x) h =
+    let t = and-eq-true-iff (isComposedNamespace n) (isComposedName x) .0 h in
+    ap₂ qualified (namespace-fixed n (t .0)) (composed-fixed x (t .1))

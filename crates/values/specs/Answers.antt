@@ -7,7 +7,8 @@ use mathlib.Core.List.{List, [], _∷_}
 use mathlib.Core.Option.{Option, some, none}
 use Rattle.text.specs.Bytes.{Bytes, isBlank, starts}
 use Rattle.text.specs.Parts.{partOf, Within}
-use Rattle.values.specs.Names.{first, last, Reference, bare, qualified, reference}
+use Rattle.names.specs.Names.{first, last}
+use Rattle.values.specs.Names.{Reference, bare, qualified, reference}
 use Rattle.values.specs.Values.{kindWord, kinds}
 use Rattle.values.specs.declared.Kind.{Kind}
 use Rattle.values.specs.declared.Split.{Split}

@@ -6,13 +6,15 @@ use mathlib.Core.List.{List}
 use lib.Dec.{ltb}
 use lib.ListN.{getD}
 use Rattle.text.specs.Bytes.{Bytes, all}
-use Rattle.text.specs.Class.{isNameByte, isValueByte}
+use Rattle.text.specs.Class.{isValueByte}
 use Rattle.text.specs.Table.{tabulate}
-use Rattle.values.specs.Names.{isName, isValue}
+use Rattle.names.specs.Codes.{isPlain}
+use Rattle.names.specs.Names.{isComposedName}
+use Rattle.values.specs.Names.{isValue}
 
--- Of a byte: 0 where a name may have it, 1 where only a value may, 2 where neither may.
+-- Of a byte: 0 where a name may have it by itself, 1 where only a value may, 2 where neither may, 4 from 128 up, where a name has pairs.
 unfoldable pub ruleOf : ℕ → ℕ
-ruleOf b = cond (isNameByte b) 0 (cond (isValueByte b) 1 2)
+ruleOf b = cond (isPlain b) 0 (cond (ltb 127 b) 4 (cond (isValueByte b) 1 2))
 
 -- Of each byte, as a digit in ASCII.
 unfoldable pub ruleTable : List ℕ
@@ -26,6 +28,6 @@ areBelow t k s = all (λ b. ltb (getD t b 0 % 16) (2 ^ k)) s
 pub record RuledOut (t : List ℕ) (s : Bytes) (r : ℕ) : Type 0 where
   pub below : (k : ℕ) → ltb r (2 ^ k) ≡ areBelow t k s
 
--- Of a text: 2 for a name, 1 for a value that is no name, 0 for any other.
+-- Of a text: 2 for a composed name, 1 for a value that is none, 0 for any other.
 abbrev pub nameClass : Bytes → ℕ
-nameClass s = cond (isName s) 2 (cond (isValue s) 1 0)
+nameClass s = cond (isComposedName s) 2 (cond (isValue s) 1 0)

@@ -1,34 +1,12 @@
--- The rules for names, namespaces, references and values. Document 01, "Names, values and kinds".
-use Prim.Native.Nat.{ℕ, suc, _-_}
-use mathlib.Core.Bool.{Bool, true, false, cond, not, _&&_, _||_}
-use mathlib.Core.List.{List, [], _∷_}
-use lib.Dec.{leb, ltb, eqb}
-use lib.ListN.{length, getD, take, drop}
+-- References and identifiers, and the rule for values. Document 01, "Names, values and kinds"; names are `names`' affair.
+use Prim.Native.Nat.{suc}
+use mathlib.Core.Bool.{Bool, cond, not, _&&_}
+use mathlib.Core.List.{[]}
+use lib.Dec.{ltb, eqb}
+use lib.ListN.{length, take, drop}
 use Rattle.text.specs.Bytes.{Bytes, same, all, isBlank, span, trim}
-use Rattle.text.specs.Class.{oneOf, isNameByte, isValueByte, isOther}
-
--- "1 to 64 bytes"
-abbrev pub isSized : Bytes → Bool
-isSized s = leb 1 (length s) && leb (length s) 64
-
-abbrev pub first : Bytes → ℕ
-first s = getD s 0 0
-
-abbrev pub last : Bytes → ℕ
-last s = getD s (length s - 1) 0
-
--- "1 to 64 bytes, none below 32, not 127, none of `[ ] | < > : # { } _ "`. It does not begin with `!`, `~`, `+` or a blank and
--- does not end with a blank."
-unfoldable pub isName : Bytes → Bool
-isName s = isSized s && all isNameByte s && not (oneOf "!~+" (first s)) && not (isBlank (first s)) && not (isBlank (last s))
-
--- "A property name also has no `.`."
-unfoldable pub isPropertyName : Bytes → Bool
-isPropertyName s = isName s && all (isOther 46) s
-
--- "a name, or empty for the main namespace"
-unfoldable pub isNamespace : Bytes → Bool
-isNamespace s = eqb (length s) 0 || isName s
+use Rattle.text.specs.Class.{isValueByte, isOther}
+use Rattle.names.specs.Names.{composedName, isSized, first, last, isName, isNamespace, isComposedName, isComposedNamespace}
 
 -- "1 to 64 bytes, none below 32, not 127, none of `[ ] | < > "`, no blank at either end, not beginning with `~`"
 unfoldable pub isValue : Bytes → Bool
@@ -46,9 +24,20 @@ reference s =
     (qualified (trim (take (span (isOther 58) s) s)) (trim (drop (suc (span (isOther 58) s)) s)))
     (bare (trim s))
 
+-- The rule for references goes by the names as typed.
 abbrev pub isReference : Reference → Bool
 isReference (bare x) = isName x
 isReference (qualified n x) = isNamespace n && isName x
+
+-- A reference with its names composed.
+abbrev pub composedReference : Reference → Reference
+composedReference (bare x) = bare (composedName x)
+composedReference (qualified n x) = qualified (composedName n) (composedName x)
+
+-- A reference whose names are composed and keep the rule.
+abbrev pub isComposedReference : Reference → Bool
+isComposedReference (bare x) = isComposedName x
+isComposedReference (qualified n x) = isComposedNamespace n && isComposedName x
 
 -- Identifiers, thesis 4.2.1: namespace and article name.
 pub record Identifier : Type 0 where

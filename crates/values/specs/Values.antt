@@ -13,7 +13,7 @@ use Rattle.text.specs.declared.Order.{Order}
 use Rattle.text.specs.declared.Order.the-variants.{Less, Equal, Greater}
 use Rattle.values.specs.declared.Kind.{Kind}
 use Rattle.values.specs.declared.Scalar.{Scalar}
-use Rattle.values.specs.Names.{Identifier, sameIdentifier, Reference, reference, isReference, identifier}
+use Rattle.values.specs.Names.{Identifier, sameIdentifier, Reference, reference, isReference, composedReference, identifier}
 
 -- "Kinds: `page`, `number`, `boolean`, `string`."
 abbrev pub kindWord : Kind → Bytes
@@ -107,9 +107,9 @@ readBoolean s =
     cond (any (same t) (bytes "true" ∷ bytes "yes" ∷ bytes "1" ∷ [])) (some true)
     (cond (any (same t) (bytes "false" ∷ bytes "no" ∷ bytes "0" ∷ [])) (some false) none)
 
--- "A page value is a reference."
+-- "A page value is a reference.", its names composed.
 unfoldable pub readLink : Bytes → Option Identifier
-readLink s = cond (isReference (reference s)) (some (identifier (reference s))) none
+readLink s = cond (isReference (reference s)) (some (identifier (composedReference (reference s)))) none
 
 -- 10^15, above every number that is read, and the code of a number: 10^15 more.
 abbrev pub base : ℕ

@@ -1,6 +1,7 @@
-// Names, references, values and kinds: the tests, and how the values are read.
+// References, values and kinds: the tests, and how the values are read.
 ghost use mathlib.Core.Path.{_≡_};
-ghost use Rattle.values.specs.Names.{isName, isPropertyName, isNamespace, isValue, isReference, reference, isSized, last};
+ghost use Rattle.names.specs.Names.{isName, isPropertyName, isNamespace, isSized, last};
+ghost use Rattle.values.specs.Names.{isValue, isReference, reference};
 ghost use Rattle.values.specs.Answers.{hasBareEnds, Splits};
 
 mod booleans; // booleans.rt: booleans
@@ -18,12 +19,13 @@ pub use kinds::same_kind;
 pub use kinds::same_scalar;
 pub use kinds::scalar_length;
 pub use kinds::word_length;
+use names::is_name;
+use names::is_namespace;
 use text::Class;
 use text::Span;
 use text::all_in;
 use text::byte_at;
 use text::in_class;
-use text::one_of;
 use text::part;
 use text::scan;
 use text::trimmed;
@@ -82,27 +84,6 @@ fn has_bare_ends(s: &[u8]) -> bool
     ensures { λ r. ⌜ r ≡ hasBareEnds (now (s .entry)) ⌝ }
 {
     !in_class(Class::Blank, byte_at(s, 0)) & !in_class(Class::Blank, last_byte(s))
-}
-
-// Whether the bytes are a name.
-pub fn is_name(s: &[u8]) -> bool
-    ensures { λ r. ⌜ r ≡ isName (now (s .entry)) ⌝ }
-{
-    is_sized(s) & all_in(s, Class::Name) & !one_of(byte_at(s, 0), b"!~+") & has_bare_ends(s)
-}
-
-// Whether the bytes are a property name.
-pub fn is_property_name(s: &[u8]) -> bool
-    ensures { λ r. ⌜ r ≡ isPropertyName (now (s .entry)) ⌝ }
-{
-    is_name(s) & all_in(s, Class::NoDot)
-}
-
-// Whether the bytes are a namespace: a name, or nothing.
-pub fn is_namespace(s: &[u8]) -> bool
-    ensures { λ r. ⌜ r ≡ isNamespace (now (s .entry)) ⌝ }
-{
-    (s.len() == 0) | is_name(s)
 }
 
 // Whether the bytes are a value.

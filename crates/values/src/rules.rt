@@ -3,14 +3,16 @@ ghost use mathlib.Core.Path.{_≡_};
 ghost use Rattle.values.specs.ByteRules.{ruleTable, RuledOut, nameClass};
 use crate::has_bare_ends;
 use crate::is_sized;
+use crate::is_value;
+use names::is_composed_name;
 use text::byte_at;
 use text::widen;
 
-// A digit for each byte: 0 where a name may have it, 1 where only a value may, 2 where neither may.
+// A digit for each byte: 0 where a name may have it by itself, 1 where only a value may, 2 where neither may, 4 from 128 up.
 pub fn byte_rules() -> [u8; 256]
     ensures { λ r. ⌜ r ≡ ruleTable ⌝ }
 {
-    *b"2222222222222222222222222222222200210000000000000000000000102020000000000000000000000000000202010000000000000000000000000001210200000000000000000000000000000000000000000000000000000000000000000000000000000000000000000000000000000000000000000000000000000000"
+    *b"2222222222222222222222222222222200210000000000000000000000102020000000000000000000000000000202010000000000000000000000000001210244444444444444444444444444444444444444444444444444444444444444444444444444444444444444444444444444444444444444444444444444444444"
 }
 
 // The digits of all bytes by a table, their bits put together.
@@ -26,7 +28,17 @@ fn ruled_out<'a>(rules: &'a [u8], s: &'a [u8]) -> u8
     out % 16
 }
 
-// 2 for a name, 1 for a value that is no name, 0 for any other text.
+// The class of a text that may have bytes from 128 up.
+fn wide_class(s: &[u8]) -> u16
+    ensures { λ r. ⌜ r ≡ nameClass (now (s .entry)) ⌝ }
+{
+    if is_composed_name(s) {
+        return 2;
+    }
+    if is_value(s) { 1 } else { 0 }
+}
+
+// 2 for a composed name, 1 for a value that is none, 0 for any other text. ASCII is gone over once.
 pub fn name_class<'a>(rules: &'a [u8], s: &'a [u8]) -> u16
     ensures { λ r. ⌜ (now (rules .entry) ≡ ruleTable → r ≡ nameClass (now (s .entry))) ⌝ }
 {
@@ -36,6 +48,9 @@ pub fn name_class<'a>(rules: &'a [u8], s: &'a [u8]) -> u16
     }
     let first = byte_at(s, 0);
     let out = ruled_out(rules, s);
+    if 4 <= out {
+        return wide_class(s);
+    }
     if (out < 1) & !((first == 33) | (first == 126) | (first == 43)) {
         return 2;
     }

@@ -76,7 +76,7 @@ same-length : tie.Need-same-length
 same-length c = search needs
 
 returns : tie.Need-returns
-returns c = text-written _ _ _ _ _ _ _ _ _ _ _ _ _ _ _ _ _ _ _ (λ a. c .before .before .before .before .before .before .before .before .before .before .before .before .before .before .before .before .before .before .before .before .before .before .before .before .before .before .draft-text .ensures a zeros-roomy) _ _ _ (c .before .before .before .before .before .before .before .before .before .before .before .before .before .before .before .put-own .ensures) (c .before .before .write-draft .ensures)
+returns c = text-written _ _ _ _ _ _ _ _ _ _ _ _ _ _ _ _ _ _ _ (λ s a. c .before .before .before .before .before .before .before .before .before .before .before .before .before .before .before .before .before .before .before .before .before .before .before .before .before .before .draft-text .ensures s a zeros-roomy) _ _ _ (c .before .before .before .before .before .before .before .before .before .before .before .before .before .before .before .put-own .ensures) (c .before .before .write-draft .ensures)
 
 pub write-text-spec : {M : Type 1} → statement M
 write-text-spec =

@@ -1,16 +1,8 @@
 use native.Mathlib.Omega.{arith}
-use Rattle.query_tree_write.proofs.Laws.{putting, in-room}
+use Rattle.query_tree_write.proofs.Laws.{putting, put-is, in-room}
 use borrow.Author.Needs.{needs}
 use Rattle.query_tree_write.proofs.put_node.Statement.{statement}
 use Rattle.query_tree_write.proofs.put_node.Tie as tie
-use Rattle.query_tree_write.proofs.put_node.Reads as reads
-use Rattle.query_tree_write.proofs.put_node.Lts as lts
-use Rattle.buffer.proofs.put_bytes.Reads as put-bytes-reads
-use Rattle.language.proofs.comparator_code.Reads as comparator-code-reads
-use Rattle.query_tree_write.proofs.entry_of.Reads as entry-of-reads
-use Rattle.query_tree_write.proofs.has_room.Reads as has-room-reads
-use Rattle.query_tree_write.proofs.put_row.Reads as put-row-reads
-use Rattle.text.proofs.part.Reads as part-reads
 
 returns : tie.Need-returns
 returns c = search (putting, needs)
@@ -23,6 +15,12 @@ part-requires c κs = search needs
 
 part-requires-2 : tie.Need-part-requires-2
 part-requires-2 c κs = search needs
+
+composed-size-requires : tie.Need-composed-size-requires
+composed-size-requires c κs = search needs
+
+string-size-requires : tie.Need-string-size-requires
+string-size-requires c κs = search needs
 
 has-room-requires : tie.Need-has-room-requires
 has-room-requires c κs = search needs
@@ -48,35 +46,35 @@ cast-put-row-2 c = let r = in-room _ _ _ _ _ (c .before .before .before .has-roo
 put-row-requires : tie.Need-put-row-requires
 put-row-requires c κs = let r = in-room _ _ _ _ _ (c .before .before .before .has-room .ensures) (c .before .before .if2 .left) in omega (arith, r .0, r .1, r .2, r .3)
 
-add-put-bytes : tie.Need-add-put-bytes
-add-put-bytes c = let r = in-room _ _ _ _ _ (c .before .before .before .before .before .before .before .has-room .ensures) (c .before .before .before .before .before .before .if2 .left) in omega (arith, r .0, r .1, r .2, r .3)
+add-put-composed : tie.Need-add-put-composed
+add-put-composed c = let r = in-room _ _ _ _ _ (c .before .before .before .before .before .before .before .has-room .ensures) (c .before .before .before .before .before .before .if2 .left) in omega (arith, r .0, r .1, r .2, r .3)
 
-put-bytes-requires : tie.Need-put-bytes-requires
-put-bytes-requires c κs = search needs
+put-composed-requires : tie.Need-put-composed-requires
+put-composed-requires c κs = search needs
 
-add-put-bytes-2 : tie.Need-add-put-bytes-2
-add-put-bytes-2 c = let r = in-room _ _ _ _ _ (c .before .before .before .before .before .before .before .before .before .before .before .has-room .ensures) (c .before .before .before .before .before .before .before .before .before .before .if2 .left) in omega (arith, r .0, r .1, r .2, r .3)
+add-put-string : tie.Need-add-put-string
+add-put-string c = let r = in-room _ _ _ _ _ (c .before .before .before .before .before .before .before .before .before .before .before .has-room .ensures) (c .before .before .before .before .before .before .before .before .before .before .if2 .left) in omega (arith, r .0, r .1, r .2, r .3)
 
-add-put-bytes-3 : tie.Need-add-put-bytes-3
-add-put-bytes-3 c = let r = in-room _ _ _ _ _ (c .before .before .before .before .before .before .before .before .before .before .before .has-room .ensures) (c .before .before .before .before .before .before .before .before .before .before .if2 .left) in omega (arith, r .0, r .1, r .2, r .3)
+add-put-string-2 : tie.Need-add-put-string-2
+add-put-string-2 c = let r = in-room _ _ _ _ _ (c .before .before .before .before .before .before .before .before .before .before .before .has-room .ensures) (c .before .before .before .before .before .before .before .before .before .before .if2 .left) in omega (arith, r .0, r .1, r .2, r .3)
 
-put-bytes-requires-2 : tie.Need-put-bytes-requires-2
-put-bytes-requires-2 c κs = search needs
+put-string-requires : tie.Need-put-string-requires
+put-string-requires c κs = search needs
 
-add-t21 : tie.Need-add-t21
-add-t21 c = let r = in-room _ _ _ _ _ (c .before .before .before .before .before .before .before .before .before .before .before .before .before .before .has-room .ensures) (c .before .before .before .before .before .before .before .before .before .before .before .before .before .if2 .left) in omega (arith, r .0, r .1, r .2, r .3)
+add-t22 : tie.Need-add-t22
+add-t22 c = let r = in-room _ _ _ _ _ (c .before .before .before .before .before .before .before .before .before .before .before .before .before .before .has-room .ensures) (c .before .before .before .before .before .before .before .before .before .before .before .before .before .if2 .left) in omega (arith, r .0, r .1, r .2, r .3)
 
-add-t15 : tie.Need-add-t15
-add-t15 c = let r = in-room _ _ _ _ _ (c .before .before .before .before .before .before .before .before .before .before .before .before .before .before .has-room .ensures) (c .before .before .before .before .before .before .before .before .before .before .before .before .before .if2 .left) in omega (arith, r .0, r .1, r .2, r .3)
+add-t16 : tie.Need-add-t16
+add-t16 c = let r = in-room _ _ _ _ _ (c .before .before .before .before .before .before .before .before .before .before .before .before .before .before .has-room .ensures) (c .before .before .before .before .before .before .before .before .before .before .before .before .before .if2 .left) in omega (arith, r .0, r .1, r .2, r .3)
 
-add-t29 : tie.Need-add-t29
-add-t29 c = let r = in-room _ _ _ _ _ (c .before .before .before .before .before .before .before .before .before .before .before .before .before .before .has-room .ensures) (c .before .before .before .before .before .before .before .before .before .before .before .before .before .if2 .left) in omega (arith, r .0, r .1, r .2, r .3)
+add-t30 : tie.Need-add-t30
+add-t30 c = let r = in-room _ _ _ _ _ (c .before .before .before .before .before .before .before .before .before .before .before .before .before .before .has-room .ensures) (c .before .before .before .before .before .before .before .before .before .before .before .before .before .if2 .left) in omega (arith, r .0, r .1, r .2, r .3)
 
 same-length : tie.Need-same-length
 same-length c = search needs
 
 returns-3 : tie.Need-returns-3
-returns-3 c = search (putting, needs)
+returns-3 c = put-is _ _ _ (c .before .before .before .before .before .before .before .before .before .before .before .before .before .before .before .before .before .before .before .before .before .before .before .before .before .before .args .node) _ _ _ _ _ (c .before .before .before .before .before .before .before .before .before .before .before .before .before .before .before .before .before .before .before .before .before .before .entry-of .ensures) (c .before .before .before .before .before .before .before .before .before .before .before .before .before .before .before .before .before .before .before .part .ensures) (c .before .before .before .before .before .before .before .before .before .before .before .before .before .before .before .before .before .before .part2 .ensures) (c .before .before .before .before .before .before .before .before .before .before .before .before .before .before .before .before .composed-size .ensures) (c .before .before .before .before .before .before .before .before .before .before .before .before .before .before .before .string-size .ensures) _ _ _ _ (c .before .before .before .before .before .before .before .before .before .before .before .comparator-code .ensures) (c .before .before .before .before .before .before .before .before .before .before .put-row .ensures) (c .before .before .before .before .before .before .put-composed .ensures) (c .before .before .put-string .ensures)
 
 pub put-node-spec : {M : Type 1} → statement M
 put-node-spec =
@@ -86,6 +84,8 @@ put-node-spec =
     entry-of-requires
     part-requires
     part-requires-2
+    composed-size-requires
+    string-size-requires
     has-room-requires
     returns-2
     mul-put-row
@@ -94,13 +94,13 @@ put-node-spec =
     cast-put-row
     cast-put-row-2
     put-row-requires
-    add-put-bytes
-    put-bytes-requires
-    add-put-bytes-2
-    add-put-bytes-3
-    put-bytes-requires-2
-    add-t21
-    add-t15
-    add-t29
+    add-put-composed
+    put-composed-requires
+    add-put-string
+    add-put-string-2
+    put-string-requires
+    add-t22
+    add-t16
+    add-t30
     same-length
     returns-3)

@@ -1,10 +1,7 @@
-use Rattle.register_text_verdict.proofs.Judging.{verdict-is}
 use borrow.Author.Needs.{needs}
+use Rattle.register_text_verdict.proofs.Judging.{verdict-is}
 use Rattle.register_text_verdict.proofs.judge_rows.Statement.{statement}
 use Rattle.register_text_verdict.proofs.judge_rows.Tie as tie
-
-some-row-requires : tie.Need-some-row-requires
-some-row-requires c κs = search needs
 
 twice-requires : tie.Need-twice-requires
 twice-requires c κs = search needs
@@ -12,8 +9,8 @@ twice-requires c κs = search needs
 twice-requires-2 : tie.Need-twice-requires-2
 twice-requires-2 c κs = search needs
 
-some-row-requires-2 : tie.Need-some-row-requires-2
-some-row-requires-2 c κs = search needs
+some-row-requires : tie.Need-some-row-requires
+some-row-requires c κs = search needs
 
 some-undeclared-requires : tie.Need-some-undeclared-requires
 some-undeclared-requires c κs = search needs
@@ -31,10 +28,9 @@ pub judge-rows-spec : {M : Type 1} → statement M
 judge-rows-spec =
     tie.close
     (tie.spec
-    some-row-requires
     twice-requires
     twice-requires-2
-    some-row-requires-2
+    some-row-requires
     some-undeclared-requires
     count-inner-requires
     lowest-of-requires

@@ -24,8 +24,8 @@ second-of-requires c κs = search needs
 part-requires : tie.Need-part-requires
 part-requires c κs = search needs
 
-is-name-requires : tie.Need-is-name-requires
-is-name-requires c κs = search needs
+is-composed-name-requires : tie.Need-is-composed-name-requires
+is-composed-name-requires c κs = search needs
 
 selected-if-requires : tie.Need-selected-if-requires
 selected-if-requires c κs = search needs
@@ -44,6 +44,6 @@ article-from-spec =
     returns
     second-of-requires
     part-requires
-    is-name-requires
+    is-composed-name-requires
     selected-if-requires
     returns-2)

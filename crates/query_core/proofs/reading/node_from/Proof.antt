@@ -15,8 +15,8 @@ first-of-requires c κs = search needs
 part-requires : tie.Need-part-requires
 part-requires c κs = search needs
 
-is-name-requires : tie.Need-is-name-requires
-is-name-requires c κs = search needs
+is-composed-name-requires : tie.Need-is-composed-name-requires
+is-composed-name-requires c κs = search needs
 
 selected-if-requires : tie.Need-selected-if-requires
 selected-if-requires c κs = search needs
@@ -27,8 +27,8 @@ first-of-requires-2 c κs = search needs
 part-requires-2 : tie.Need-part-requires-2
 part-requires-2 c κs = search needs
 
-is-namespace-requires : tie.Need-is-namespace-requires
-is-namespace-requires c κs = search needs
+is-composed-namespace-requires : tie.Need-is-composed-namespace-requires
+is-composed-namespace-requires c κs = search needs
 
 selected-if-requires-2 : tie.Need-selected-if-requires-2
 selected-if-requires-2 c κs = search needs
@@ -39,8 +39,8 @@ first-of-requires-3 c κs = search needs
 part-requires-3 : tie.Need-part-requires-3
 part-requires-3 c κs = search needs
 
-is-property-name-requires : tie.Need-is-property-name-requires
-is-property-name-requires c κs = search needs
+is-composed-property-name-requires : tie.Need-is-composed-property-name-requires
+is-composed-property-name-requires c κs = search needs
 
 selected-if-requires-3 : tie.Need-selected-if-requires-3
 selected-if-requires-3 c κs = search needs
@@ -51,8 +51,8 @@ first-of-requires-4 c κs = search needs
 part-requires-4 : tie.Need-part-requires-4
 part-requires-4 c κs = search needs
 
-is-property-name-requires-2 : tie.Need-is-property-name-requires-2
-is-property-name-requires-2 c κs = search needs
+is-composed-property-name-requires-2 : tie.Need-is-composed-property-name-requires-2
+is-composed-property-name-requires-2 c κs = search needs
 
 selected-if-requires-4 : tie.Need-selected-if-requires-4
 selected-if-requires-4 c κs = search needs
@@ -101,19 +101,19 @@ node-from-spec =
     joined-requires-2
     first-of-requires
     part-requires
-    is-name-requires
+    is-composed-name-requires
     selected-if-requires
     first-of-requires-2
     part-requires-2
-    is-namespace-requires
+    is-composed-namespace-requires
     selected-if-requires-2
     first-of-requires-3
     part-requires-3
-    is-property-name-requires
+    is-composed-property-name-requires
     selected-if-requires-3
     first-of-requires-4
     part-requires-4
-    is-property-name-requires-2
+    is-composed-property-name-requires-2
     selected-if-requires-4
     article-from-requires
     slot-from-requires

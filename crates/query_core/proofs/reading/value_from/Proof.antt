@@ -30,8 +30,8 @@ returns-2 c = search ways
 part-requires : tie.Need-part-requires
 part-requires c κs = search needs
 
-is-property-name-requires : tie.Need-is-property-name-requires
-is-property-name-requires c κs = search needs
+is-composed-property-name-requires : tie.Need-is-composed-property-name-requires
+is-composed-property-name-requires c κs = search needs
 
 selected-if-requires : tie.Need-selected-if-requires
 selected-if-requires c κs = search needs
@@ -52,6 +52,6 @@ value-from-spec =
     enum-told-2
     returns-2
     part-requires
-    is-property-name-requires
+    is-composed-property-name-requires
     selected-if-requires
     returns-3)

@@ -15,8 +15,8 @@ returns c = search (emission, needs)
 split-at-requires : tie.Need-split-at-requires
 split-at-requires c κs = search needs
 
-put-reference-requires : tie.Need-put-reference-requires
-put-reference-requires c κs = search needs
+put-typed-requires : tie.Need-put-typed-requires
+put-typed-requires c κs = search needs
 
 put-select-requires : tie.Need-put-select-requires
 put-select-requires c κs = search needs
@@ -35,7 +35,7 @@ put-link-spec =
     is-reference-requires
     returns
     split-at-requires
-    put-reference-requires
+    put-typed-requires
     put-select-requires
     same-length
     returns-2)

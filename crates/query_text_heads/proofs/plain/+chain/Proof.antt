@@ -14,7 +14,7 @@ use Rattle.query_text_heads.proofs.plain.one_deeper.Reads as one-deeper
 use Rattle.text.proofs.part.Reads as part-reads
 use Rattle.text.proofs.scan.Reads as scan-reads
 use Rattle.text.proofs.trimmed.Reads as trimmed-reads
-use Rattle.values.proofs.is_property_name.Reads as is-property-name-reads
+use Rattle.names.proofs.is_property_name.Reads as is-property-name-reads
 use Rattle.query_text_heads.proofs.plain.+chain.{statement}
 use Rattle.query_text_heads.proofs.plain.+chain.Tie.{close}
 

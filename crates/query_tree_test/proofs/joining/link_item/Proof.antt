@@ -22,8 +22,8 @@ add-bytes c = search needs
 add-bytes-2 : tie.Need-add-bytes-2
 add-bytes-2 c = search needs
 
-is-property-name-requires : tie.Need-is-property-name-requires
-is-property-name-requires c κs = search needs
+is-composed-property-name-requires : tie.Need-is-composed-property-name-requires
+is-composed-property-name-requires c κs = search needs
 
 widen-requires-3 : tie.Need-widen-requires-3
 widen-requires-3 c κs = search needs
@@ -38,7 +38,7 @@ only-if-requires : tie.Need-only-if-requires
 only-if-requires c κs = search needs
 
 returns : tie.Need-returns
-returns c = c .only-if .ensures ∙ rw (c .before .is-property .ensures, c .before .before .item-of .ensures, c .before .before .before .widen3 .ensures, c .before .before .before .before .before .is-property-name .ensures, c .before .before .before .before .before .before .before .widen2 .ensures, c .before .before .before .before .before .before .before .before .widen .ensures) (link-is _ _ _ (c .before .before .before .before .before .before .length-of .ensures))
+returns c = c .only-if .ensures ∙ rw (c .before .is-property .ensures, c .before .before .item-of .ensures, c .before .before .before .widen3 .ensures, c .before .before .before .before .before .is-composed-property-name .ensures, c .before .before .before .before .before .before .before .widen2 .ensures, c .before .before .before .before .before .before .before .before .widen .ensures) (link-is _ _ _ (c .before .before .before .before .before .before .length-of .ensures))
 
 pub link-item-spec : {M : Type 1} → statement M
 link-item-spec =
@@ -50,7 +50,7 @@ link-item-spec =
     length-of-requires
     add-bytes
     add-bytes-2
-    is-property-name-requires
+    is-composed-property-name-requires
     widen-requires-3
     item-of-requires
     is-property-requires

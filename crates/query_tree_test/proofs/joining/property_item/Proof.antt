@@ -16,8 +16,8 @@ widen-requires c κs = search needs
 add-bytes-2 : tie.Need-add-bytes-2
 add-bytes-2 c = search needs
 
-is-property-name-requires : tie.Need-is-property-name-requires
-is-property-name-requires c κs = search needs
+is-composed-property-name-requires : tie.Need-is-composed-property-name-requires
+is-composed-property-name-requires c κs = search needs
 
 widen-requires-2 : tie.Need-widen-requires-2
 widen-requires-2 c κs = search needs
@@ -32,7 +32,7 @@ only-if-requires : tie.Need-only-if-requires
 only-if-requires c κs = search needs
 
 returns : tie.Need-returns
-returns c = c .only-if .ensures ∙ rw (c .before .is-alternatives .ensures, c .before .before .item-of .ensures, c .before .before .before .widen2 .ensures, c .before .before .before .before .before .is-property-name .ensures, c .before .before .before .before .before .before .widen .ensures) (property-is _ _ _ (c .before .before .before .before .before .before .before .length-of .ensures))
+returns c = c .only-if .ensures ∙ rw (c .before .is-alternatives .ensures, c .before .before .item-of .ensures, c .before .before .before .widen2 .ensures, c .before .before .before .before .before .is-composed-property-name .ensures, c .before .before .before .before .before .before .widen .ensures) (property-is _ _ _ (c .before .before .before .before .before .before .before .length-of .ensures))
 
 pub property-item-spec : {M : Type 1} → statement M
 property-item-spec =
@@ -42,7 +42,7 @@ property-item-spec =
     add-bytes
     widen-requires
     add-bytes-2
-    is-property-name-requires
+    is-composed-property-name-requires
     widen-requires-2
     item-of-requires
     is-alternatives-requires

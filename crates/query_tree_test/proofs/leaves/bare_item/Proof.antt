@@ -8,8 +8,8 @@ use Rattle.query_tree_test.proofs.Loops.{and-no}
 use Rattle.query_tree_test.proofs.leaves.bare_item.Statement.{statement}
 use Rattle.query_tree_test.proofs.leaves.bare_item.Tie as tie
 
-is-name-requires : tie.Need-is-name-requires
-is-name-requires c κs = search needs
+is-composed-name-requires : tie.Need-is-composed-name-requires
+is-composed-name-requires c κs = search needs
 
 word-length-requires : tie.Need-word-length-requires
 word-length-requires c κs = search needs
@@ -28,13 +28,13 @@ leaf-item-requires c κs = search needs
 
 returns : tie.Need-returns
 unfolding costReference
-returns c = c .leaf-item .ensures ∙ rw (c .before .before .before .before .is-name .ensures, c .before .before .widen .ensures, c .before .before .before .word-length .ensures, c .before .length-of .ensures, and-no (isEqual (c .before .before .before .before .before .before .args .c))) (leaf-sized _ _ _ _ _ _ (plus-cut (length (word (c .before .before .before .before .before .before .args .c))) (length (c .before .before .before .before .before .before .args .x .now))))
+returns c = c .leaf-item .ensures ∙ rw (c .before .before .before .before .is-composed-name .ensures, c .before .before .widen .ensures, c .before .before .before .word-length .ensures, c .before .length-of .ensures, and-no (isEqual (c .before .before .before .before .before .before .args .c))) (leaf-sized _ _ _ _ _ _ (plus-cut (length (word (c .before .before .before .before .before .before .args .c))) (length (c .before .before .before .before .before .before .args .x .now))))
 
 pub bare-item-spec : {M : Type 1} → statement M
 bare-item-spec =
     tie.close
     (tie.spec
-    is-name-requires
+    is-composed-name-requires
     word-length-requires
     widen-requires
     length-of-requires

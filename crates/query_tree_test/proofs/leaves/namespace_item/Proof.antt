@@ -11,8 +11,8 @@ slice-aggregate-same-bytes c = search needs
 same-bytes-requires : tie.Need-same-bytes-requires
 same-bytes-requires c κs = search needs
 
-is-namespace-requires : tie.Need-is-namespace-requires
-is-namespace-requires c κs = search needs
+is-composed-namespace-requires : tie.Need-is-composed-namespace-requires
+is-composed-namespace-requires c κs = search needs
 
 length-of-requires : tie.Need-length-of-requires
 length-of-requires c κs = search needs
@@ -24,7 +24,7 @@ leaf-item-requires : tie.Need-leaf-item-requires
 leaf-item-requires c κs = search needs
 
 returns : tie.Need-returns
-returns c = c .leaf-item .ensures ∙ rw (c .before .before .before .same-bytes .ensures, c .before .before .is-namespace .ensures, c .before .length-of .ensures) (leaf-sized _ _ _ _ _ _ (cut-plus (length (c .before .before .before .before .before .before .args .n .now)) 2))
+returns c = c .leaf-item .ensures ∙ rw (c .before .before .before .same-bytes .ensures, c .before .before .is-composed-namespace .ensures, c .before .length-of .ensures) (leaf-sized _ _ _ _ _ _ (cut-plus (length (c .before .before .before .before .before .before .args .n .now)) 2))
 
 pub namespace-item-spec : {M : Type 1} → statement M
 namespace-item-spec =
@@ -32,7 +32,7 @@ namespace-item-spec =
     (tie.spec
     slice-aggregate-same-bytes
     same-bytes-requires
-    is-namespace-requires
+    is-composed-namespace-requires
     length-of-requires
     add-leaf-item
     leaf-item-requires

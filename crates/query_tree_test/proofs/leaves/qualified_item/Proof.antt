@@ -16,11 +16,11 @@ slice-aggregate-same-bytes c = search needs
 same-bytes-requires : tie.Need-same-bytes-requires
 same-bytes-requires c κs = search needs
 
-is-namespace-requires : tie.Need-is-namespace-requires
-is-namespace-requires c κs = search needs
+is-composed-namespace-requires : tie.Need-is-composed-namespace-requires
+is-composed-namespace-requires c κs = search needs
 
-is-name-requires : tie.Need-is-name-requires
-is-name-requires c κs = search needs
+is-composed-name-requires : tie.Need-is-composed-name-requires
+is-composed-name-requires c κs = search needs
 
 word-length-requires : tie.Need-word-length-requires
 word-length-requires c κs = search needs
@@ -48,7 +48,7 @@ leaf-item-requires c κs = search needs
 
 returns : tie.Need-returns
 unfolding costReference
-returns c = c .leaf-item .ensures ∙ rw (c .before .before .before .before .before .before .before .before .before .is-equal .ensures, c .before .before .before .before .before .before .before .same-bytes .ensures, c .before .before .before .before .before .before .is-namespace .ensures, c .before .before .before .before .before .is-name .ensures, c .before .before .before .widen .ensures, c .before .before .before .before .word-length .ensures, c .before .before .length-of .ensures, c .before .length-of2 .ensures) (leaf-sized _ _ _ _ _ _ (cuts-plus (length (word (c .before .before .before .before .before .before .before .before .before .before .before .before .args .c))) (length (c .before .before .before .before .before .before .before .before .before .before .before .before .args .n .now)) (length (c .before .before .before .before .before .before .before .before .before .before .before .before .args .x .now))))
+returns c = c .leaf-item .ensures ∙ rw (c .before .before .before .before .before .before .before .before .before .is-equal .ensures, c .before .before .before .before .before .before .before .same-bytes .ensures, c .before .before .before .before .before .before .is-composed-namespace .ensures, c .before .before .before .before .before .is-composed-name .ensures, c .before .before .before .widen .ensures, c .before .before .before .before .word-length .ensures, c .before .before .length-of .ensures, c .before .length-of2 .ensures) (leaf-sized _ _ _ _ _ _ (cuts-plus (length (word (c .before .before .before .before .before .before .before .before .before .before .before .before .args .c))) (length (c .before .before .before .before .before .before .before .before .before .before .before .before .args .n .now)) (length (c .before .before .before .before .before .before .before .before .before .before .before .before .args .x .now))))
 
 pub qualified-item-spec : {M : Type 1} → statement M
 qualified-item-spec =
@@ -57,8 +57,8 @@ qualified-item-spec =
     is-equal-requires
     slice-aggregate-same-bytes
     same-bytes-requires
-    is-namespace-requires
-    is-name-requires
+    is-composed-namespace-requires
+    is-composed-name-requires
     word-length-requires
     widen-requires
     length-of-requires

@@ -2,12 +2,13 @@ use mathlib.Core.Path.{refl}
 use Rattle.text.specs.Bytes.{any}
 use Rattle.text.specs.Class.{isNameByte, isValueByte}
 use Rattle.text.specs.Table.{tabulate}
+use Rattle.names.specs.Codes.{isPlain}
 use Rattle.values.specs.ByteRules.{ruleOf, ruleTable}
 use Rattle.values.proofs.rules.byte_rules.Statement.{statement}
 use Rattle.values.proofs.rules.byte_rules.Tie as tie
 
 returns : tie.Need-returns
-unfolding tabulate any isNameByte isValueByte ruleOf ruleTable
+unfolding tabulate any isNameByte isValueByte isPlain ruleOf ruleTable
 returns c = refl
 
 pub byte-rules-spec : {M : Type 1} → statement M
