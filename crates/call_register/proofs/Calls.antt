@@ -1,7 +1,7 @@
 -- The ways through the register call.
 use Prim.Native.Nat.{ℕ, _≤_}
 use mathlib.Core.Path.{_≡_, refl, sym, ap, _∙_, subst}
-use mathlib.Core.Bool.{Bool, true, cond}
+use mathlib.Core.Bool.{Bool, true, false, cond}
 use mathlib.Core.List.{List}
 use native.Mathlib.Omega.{arith}
 use lib.Dec.{ltb}
@@ -17,7 +17,8 @@ use Rattle.language.proofs.Rules.{register-rules}
 use Rattle.language.proofs.Accepted.{accepted-register}
 use Rattle.register_text_entries.specs.Table.{entriesIn}
 use Rattle.register_text_entries.specs.Composing.{Composes}
-use Rattle.register_text_verdict.specs.Checks.{Typed, JudgesTyped, Prepared, Room, Judges}
+use Rattle.register_text_verdict.specs.Checks.{ReadsRows, JudgesTyped, Prepared, Room, Judges}
+use Rattle.register_text_verdict.proofs.Judging.{rule-broken}
 use Rattle.register_text_verdict.specs.declared.Judged.{Judged}
 use Rattle.register_text_verdict.specs.declared.TypedRows.{TypedRows}
 use Rattle.register_form.specs.Dictionary.{Dictionary}
@@ -123,20 +124,25 @@ module _ (c : Bytes) (t : List ℕ) (n : ℕ) (props pages : List ℕ) (j : Judg
     pub rows-written : (r : ℕ) (after : Bytes) → j .number ≡ 0 → Writes c t props n (j .props) b r after → Registers c t n b r after
     rows-written r after e w = record { is = λ s p. w .is s (judged-accepted s c t n props pages j p (judges zeros-room s p) e) }
 
--- A text as typed: 1 to 3, or its names are composed already, or they are composed.
+-- A text of ASCII: 1 to 3, or its names are composed as they are.
 module _ (s : Bytes) (t : List ℕ) (r : TypedRows) (judges : 27500 ≤ length (replicate {A = ℕ} 27500 0) → JudgesTyped s t r) (b : Bytes) where
   pub typed-refused : (r .number ≡ 0 → ⊥) → Answered (registerCall s b) b (r .number) b
   typed-refused f = number-refused s b (r .number) (judges (omega (arith, zeros-many 27500)) .refused f) f
 
-  module _ (e : r .number ≡ 0) (q : ℕ) (after : Bytes) where
-    typed : Typed s t (r .rows)
-    typed = judges (omega (arith, zeros-many 27500)) .typed e
+  pub ascii-registered : r .number ≡ 0 → (q : ℕ) (after : Bytes) (p : Bool) → p ≡ all (λ b. ltb b 128) s → p ≡ true → Registers s t (r .rows) b q after → Answered (registerCall s b) b q after
+  ascii-registered e q after p f h w = w .is s (ascii-prepared s t (r .rows) (judges (omega (arith, zeros-many 27500)) .typed e) (sym f ∙ h))
 
-    pub ascii-registered : (p : Bool) → p ≡ all (λ b. ltb b 128) s → p ≡ true → Registers s t (r .rows) b q after → Answered (registerCall s b) b q after
-    ascii-registered p f h w = w .is s (ascii-prepared s t (r .rows) typed (sym f ∙ h))
+-- Any other: 1 or 2, or its names are composed, and 3 where they break a rule.
+module _ (s : Bytes) (t : List ℕ) (r : TypedRows) (reads : 27500 ≤ length (replicate {A = ℕ} 27500 0) → ReadsRows s t r) (b : Bytes) where
+  pub read-refused : (r .number ≡ 0 → ⊥) → Answered (registerCall s b) b (r .number) b
+  read-refused f = number-refused s b (r .number) (reads (omega (arith, zeros-many 27500)) .refused f) f
 
-    pub typed-registered : RegistersTyped s t (r .rows) b q after → Answered (registerCall s b) b q after
-    typed-registered w = w .is typed
+  pub read-registered : r .number ≡ 0 → (q : ℕ) (after : Bytes) → RegistersTyped s t (r .rows) b q after → Answered (registerCall s b) b q after
+  read-registered e q after w = w .is (reads (omega (arith, zeros-many 27500)) .read e)
 
-pub composed-registered : (s : Bytes) (t : List ℕ) (n : ℕ) (c : Bytes) (u : List ℕ) (b : Bytes) (q : ℕ) (after : Bytes) → Composes s t n (replicate 32768 0) (replicate 27500 0) c u → Registers c u n b q after → RegistersTyped s t n b q after
-composed-registered s t n c u b q after k w = record { is = λ y. w .is s (composed-prepared s t n c u y k) }
+module _ (s : Bytes) (t : List ℕ) (n : ℕ) (c : Bytes) (u : List ℕ) (b : Bytes) (p : Bool) (k : Composes s t n (replicate 32768 0) (replicate 27500 0) c u p) where
+  pub composed-refused : p ≡ true → RegistersTyped s t n b 3 b
+  composed-refused h = record { is = λ y. number-refused s b 3 (rule-broken s t n y (sym (k .broken) ∙ h)) (λ z. omega arith) }
+
+  pub composed-registered : p ≡ false → (q : ℕ) (after : Bytes) → Registers c u n b q after → RegistersTyped s t n b q after
+  composed-registered h q after w = record { is = λ y. w .is s (composed-prepared s t n c u p y k h) }

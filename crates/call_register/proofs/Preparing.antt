@@ -25,7 +25,7 @@ use Rattle.register_text_entries.specs.Items.{entryBy}
 use Rattle.register_text_entries.specs.Table.{tagFrom, kindOfCode, entryFrom, entryAt, entriesIn}
 use Rattle.register_text_entries.specs.Composing.{room, Composes}
 use Rattle.register_text_entries.specs.declared.Tag.{Tag}
-use Rattle.register_text_verdict.specs.Checks.{Typed, Prepared}
+use Rattle.register_text_verdict.specs.Checks.{RowsRead, Typed, Prepared}
 
 -- A part of ASCII is ASCII.
 ascii-take : (n : ℕ) (s : Bytes) → isAscii s ≡ true → isAscii (take n s) ≡ true
@@ -78,11 +78,12 @@ unfolding total
 rooms-weigh [] = omega arith
 rooms-weigh (e ∷ l) = omega (arith, room-weight e, rooms-weigh l)
 
-pub composed-prepared : (s : Bytes) (t : List ℕ) (n : ℕ) (c : Bytes) (u : List ℕ) → Typed s t n → Composes s t n (replicate 32768 0) (replicate 27500 0) c u → Prepared s c u n
-composed-prepared s t n c u y k =
+pub composed-prepared : (s : Bytes) (t : List ℕ) (n : ℕ) (c : Bytes) (u : List ℕ) (p : Bool) → RowsRead s t n → Composes s t n (replicate 32768 0) (replicate 27500 0) c u p → p ≡ false → Prepared s c u n
+composed-prepared s t n c u p y k h =
+    let ruled = sym (k .broken) ∙ h in
     let w : total weight (entriesIn s t n) ≤ length s = subst (OnSome (λ l. total weight l ≤ length s)) (y .read) (entries-weigh line s) in
-    let fits = k .rows (omega (arith, w, y .short, rooms-weigh (entriesIn s t n), length-replicate {A = ℕ} 32768 0)) (omega (arith, length-replicate {A = ℕ} 32768 0)) (omega (arith, y .few, length-replicate {A = ℕ} 27500 0)) in
-    record { typed = entriesIn s t n; short = y .short; read = y .read; ruled = y .ruled; rows = fits; few = y .few }
+    let fits = k .rows ruled (omega (arith, w, y .short, rooms-weigh (entriesIn s t n), length-replicate {A = ℕ} 32768 0)) (omega (arith, length-replicate {A = ℕ} 32768 0)) (omega (arith, y .few, length-replicate {A = ℕ} 27500 0)) in
+    record { typed = entriesIn s t n; short = y .short; read = y .read; ruled = ruled; rows = fits; few = y .few }
 
 -- A test of all bytes, up to a place.
 module _ (s : Bytes) where

@@ -4,7 +4,7 @@ use mathlib.Core.List.{List}
 use Rattle.text.specs.Bytes.{Bytes}
 use Rattle.language.specs.Answer.{Answered}
 use Rattle.call_answers.specs.Calls.{registerCall}
-use Rattle.register_text_verdict.specs.Checks.{Typed, Prepared}
+use Rattle.register_text_verdict.specs.Checks.{RowsRead, Prepared}
 use Rattle.register_text_draft.specs.Tables.{Accepted}
 
 -- What writing the register of an accepted text answers, whose entries, over the text c, and properties are in tables.
@@ -17,4 +17,4 @@ pub record Registers (c : Bytes) (t : List ℕ) (n : ℕ) (b : Bytes) (r : ℕ) 
 
 -- The same of rows as typed.
 pub record RegistersTyped (s : Bytes) (t : List ℕ) (n : ℕ) (b : Bytes) (r : ℕ) (after : Bytes) : Type 0 where
-  pub is : Typed s t n → Answered (registerCall s b) b r after
+  pub is : RowsRead s t n → Answered (registerCall s b) b r after

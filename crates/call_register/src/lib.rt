@@ -12,6 +12,7 @@ use register_text_draft::draft_text;
 use register_text_entries::composing::compose;
 use register_text_verdict::judge;
 use register_text_verdict::judge_typed;
+use register_text_verdict::read_rows;
 
 // Writes the register of accepted rows: 0, or 8 where the buffer is too short.
 fn write_text(text: &[u8], t: &[u16], n: usize, props: &[u16], np: usize, held: &mut [u8]) -> usize
@@ -76,13 +77,15 @@ fn register_rows(c: &[u8], t: &[u16], n: usize, held: &mut [u8]) -> usize
     write_text(c, t, n, &props, judged.props, held)
 }
 
-// The same of rows as typed: their names are composed first.
+// The same of rows as typed, whose names are judged and composed first: 0, or the lowest of 3 to 8.
 fn register_typed(text: &[u8], t: &[u16], n: usize, held: &mut [u8]) -> usize
     ensures { λ r. ⌜ RegistersTyped (now (text .entry)) (now (t .entry)) n (now (held .entry)) r (now (held .exit)) ⌝ }
 {
     let mut copy = [0u8; 32768];
     let mut rows = [0u16; 27500];
-    compose(text, t, n, &mut copy, &mut rows);
+    if compose(text, t, n, &mut copy, &mut rows) {
+        return 3;
+    }
     register_rows(&copy, &rows, n, held)
 }
 
@@ -105,12 +108,16 @@ pub fn register(text: &[u8], held: &mut [u8]) -> usize
     ensures { λ r. ⌜ Answered (registerCall (now (text .entry)) (now (held .entry))) (now (held .entry)) r (now (held .exit)) ⌝ }
 {
     let mut t = [0u16; 27500];
-    let typed = judge_typed(text, &mut t);
-    if typed.number != 0 {
-        return typed.number;
-    }
     if is_ascii(text) {
+        let typed = judge_typed(text, &mut t);
+        if typed.number != 0 {
+            return typed.number;
+        }
         return register_rows(text, &t, typed.rows, held);
     }
-    register_typed(text, &t, typed.rows, held)
+    let read = read_rows(text, &mut t);
+    if read.number != 0 {
+        return read.number;
+    }
+    register_typed(text, &t, read.rows, held)
 }

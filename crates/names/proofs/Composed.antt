@@ -4,6 +4,7 @@ use mathlib.Core.Path.{_≡_, refl, sym, ap, _∙_}
 use mathlib.Core.Bool.{Bool, true, false, cond, not, _&&_, _||_, false≢true, and-eq-true-iff}
 use mathlib.Core.List.{List, [], _∷_}
 use mathlib.Core.Option.{Option, some, none}
+use native.Mathlib.Nat.{zero-add}
 use native.Mathlib.Omega.{arith}
 use lib.Dec.{eqb, ltb}
 use lib.ListN.{length}
@@ -14,7 +15,8 @@ use Rattle.text.specs.Class.{oneOf, isNameByte, isOther}
 use Rattle.buffer.specs.Writing.{written}
 use Rattle.names.specs.Codes.{within, isPlain}
 use Rattle.names.specs.Names.{composed, composedName, formOr, isSome, hasNameShape, isName, isPropertyName, isNamespace, isForm, isComposedName, isComposedPropertyName, isComposedNamespace, Equivalent, first, last}
-use Rattle.names.specs.Steps.{spelled, lengthAfter}
+use Rattle.names.proofs.OwnForm.{letter-high}
+use Rattle.names.specs.Steps.{isLetterByte, spelled, lengthAfter}
 use Rattle.names.proofs.Reading.{Reading, end, plain, pair, reading, paired}
 use Rattle.names.proofs.Composing.{composed-twice, equivalent-composed, form}
 use Rattle.names.proofs.Naming.{Shaped, shaped, composed-long}
@@ -48,7 +50,7 @@ pub composed-empty : composedName [] ≡ []
 unfolding composedName all
 composed-empty = rw (plain-composed [] refl)
 
-filled : (b : ℕ) (s : Bytes) → eqb (length (b ∷ s)) 0 ≡ false
+pub filled : (b : ℕ) (s : Bytes) → eqb (length (b ∷ s)) 0 ≡ false
 filled b s = ne-eqb (suc (length s)) 0 (λ e. omega arith)
 
 pub namespace-composed : (s : Bytes) → isNamespace s ≡ true → composed s ≡ some (composedName s)
@@ -87,13 +89,13 @@ composed-is-namespace (b ∷ s) h = rw (composed-is-name (b ∷ s) (rw (filled b
     right false = refl
 
 -- It is what it was.
+pub form-fixed : (s : Bytes) (o : Option Bytes) → isForm s o ≡ true → formOr s o ≡ s
+form-fixed s none h = absurd (false≢true h)
+form-fixed s (some t) h = sym (same-eq s t h)
+
 pub composed-fixed : (s : Bytes) → isComposedName s ≡ true → composedName s ≡ s
 unfolding isComposedName composedName
-composed-fixed s h = go (composed s) (and-eq-true-iff (isName s) (isForm s (composed s)) .0 h .1)
-  where
-    go : (o : Option Bytes) → isForm s o ≡ true → formOr s o ≡ s
-    go none e = refl
-    go (some t) e = sym (same-eq s t e)
+composed-fixed s h = form-fixed s (composed s) (and-eq-true-iff (isName s) (isForm s (composed s)) .0 h .1)
 
 pub namespace-fixed : (s : Bytes) → isComposedNamespace s ≡ true → composedName s ≡ s
 unfolding isComposedNamespace
@@ -166,6 +168,13 @@ pub plain-name : (b : ℕ) → isPlain b ≡ true → isNameByte b ≡ true
 unfolding isPlain
 plain-name b h = and-eq-true-iff (within 32 126 b) (isNameByte b) .0 h .1
 
+pub letter-name : (b : ℕ) → isLetterByte b ≡ true → isNameByte b ≡ true
+letter-name b h = go (isPlain b) refl
+  where
+    go : (p : Bool) → isPlain b ≡ p → isNameByte b ≡ true
+    go true e = plain-name b e
+    go false e = high-name b (letter-high b h e)
+
 reading-bytes : {s : Bytes} {l : List ℕ} → Reading s l → all isNameByte s ≡ true
 unfolding all
 reading-bytes end = refl
@@ -208,9 +217,16 @@ composed-named s h = name-keeps s (composed-typed s h)
 
 -- How long the composed form is, and writing it.
 module _ (s : Bytes) where
-  plain-fixed : (q : Bool) → q ≡ all isPlain s → q ≡ true → composedName s ≡ s
+  pub own-fixed : (q : Bool) → q ≡ isForm s (composed s) → q ≡ true → composedName s ≡ s
   unfolding composedName
-  plain-fixed q f e = rw (plain-composed s (sym f ∙ e))
+  own-fixed q f e = form-fixed s (composed s) (sym f ∙ e)
+
+  pub own-length : (q : Bool) → q ≡ isForm s (composed s) → q ≡ true → length s ≡ lengthAfter 0 (composed s)
+  own-length q f e = go (composed s) (sym f ∙ e)
+    where
+      go : (o : Option Bytes) → isForm s o ≡ true → length s ≡ lengthAfter 0 o
+      go none h = absurd (false≢true h)
+      go (some t) h = rw (same-eq s t h) (sym (zero-add (length t)))
 
   module _ (n : ℕ) (h : n ≡ lengthAfter 0 (composed s)) where
     none-fixed : n ≡ 0 → composedName s ≡ s
@@ -221,7 +237,7 @@ module _ (s : Bytes) where
         empty [] (b ∷ t) l k = absurd (omega arith)
         empty (b ∷ s) t l k = absurd (omega (arith, composed-long (b ∷ s) t k (omega arith)))
 
-    some-spelled : (n ≡ 0 → ⊥) → (length (composedName s) ≡ n) × (spelled s ≡ composedName s)
+    pub some-spelled : (n ≡ 0 → ⊥) → (length (composedName s) ≡ n) × (spelled s ≡ composedName s)
     some-spelled z = on-form (λ t. (length t ≡ n) × (spelled s ≡ t)) s (λ e. absurd (z (h ∙ rw e))) (λ t e. (omega (arith, h, ap (lengthAfter 0) e), spelled-composed s t e))
 
     pub size-none : n ≡ 0 → length s ≡ length (composedName s)
@@ -237,11 +253,11 @@ module _ (s : Bytes) where
       pub put-some : (n ≡ 0 → ⊥) → g ≡ written b at (spelled s) → g ≡ written b at (composedName s)
       put-some z e = rw (← some-spelled z .1) e
 
-  module _ (q : Bool) (f : q ≡ all isPlain s) (e : q ≡ true) where
-    pub size-plain : length s ≡ length (composedName s)
-    size-plain = sym (ap length (plain-fixed q f e))
+  module _ (q : Bool) (f : q ≡ isForm s (composed s)) (e : q ≡ true) where
+    pub size-own : length s ≡ length (composedName s)
+    size-own = sym (ap length (own-fixed q f e))
 
-    pub put-plain : (b g : Bytes) (at : ℕ) → g ≡ written b at s → g ≡ written b at (composedName s)
-    put-plain b g at k = rw (plain-fixed q f e) k
+    pub put-own : (b g : Bytes) (at : ℕ) → g ≡ written b at s → g ≡ written b at (composedName s)
+    put-own b g at k = rw (own-fixed q f e) k
 
-pub ruleset composing = (size-none, size-some, size-plain, put-none, put-some, put-plain)
+pub ruleset composing = (size-none, size-some, size-own, put-none, put-some, put-own)

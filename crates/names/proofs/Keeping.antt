@@ -132,24 +132,3 @@ module _ (s t : Bytes) (h : composed s ≡ some t) where
   composed-property-name n =
       let e = and-eq-true-iff (isName s) (all (isOther 46) s) .0 n in
       rw (composed-name (e .0), kept-all (isOther 46) high-other (composed-keeps s t h) (e .1))
-
--- A name is its own composed form where that is as long.
-pub composed-name-is : (s : Bytes) (n : ℕ) → n ≡ nameLength s → (ltb 0 (length s) && eqb n (length s)) ≡ isComposedName s
-unfolding isComposedName nameLength isName
-composed-name-is s n e = rw e (go (hasNameShape s) (composed s) refl refl)
-  where
-    no-length : (m : ℕ) → (ltb 0 m && eqb 0 m) ≡ false
-    no-length zero = refl
-    no-length (suc m) = rw (ne-eqb 0 (suc m) (λ q. omega arith), and-false (ltb 0 (suc m)))
-
-    same-length : (t : Bytes) → composed s ≡ some t → (b : Bool) → sameBytes s t ≡ b → eqb (0 + length t) (length s) ≡ b
-    same-length t k true h = eq-eqb (0 + length t) (length s) (omega (arith, ap length (same-eq s t h)))
-    same-length t k false h =
-        ne-eqb (0 + length t) (length s) (λ q. false≢true (sym h ∙ rw (kept-equal (composed-keeps s t k) (omega arith)) (same-refl t)))
-
-    go : (p : Bool) (o : Option Bytes) → hasNameShape s ≡ p → composed s ≡ o
-        → (ltb 0 (length s) && eqb (cond (p && isSome o) (lengthAfter 0 o) 0) (length s)) ≡ (p && isSome o && isForm s o)
-    go true none h k = no-length (length s)
-    go true (some t) h k = rw (lt-ltb 0 (length s) (shaped s h .least)) (same-length t k (sameBytes s t) refl)
-    go false none h k = no-length (length s)
-    go false (some t) h k = no-length (length s)

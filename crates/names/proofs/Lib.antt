@@ -8,5 +8,7 @@ pub mod Walking
 pub mod Ascii
 pub mod Naming
 pub mod Keeping
+pub mod OwnForm
 pub mod Composed
+pub mod NamePutting
 pub mod Examples

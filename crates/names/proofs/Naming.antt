@@ -1,20 +1,19 @@
 -- Laws of the name rule: what the functions answer.
 use Prim.Native.Nat.{ℕ, _+_, _-_, _≤_}
 use mathlib.Core.Path.{_≡_, refl, sym, _∙_}
-use mathlib.Core.Bool.{Bool, true, false, cond, not, _&&_, and-eq-true-iff}
+use mathlib.Core.Bool.{Bool, true, false, cond, not, _&&_, false≢true, and-eq-true-iff}
 use mathlib.Core.List.{[], _∷_}
 use mathlib.Core.Option.{Option, some, none}
-use native.Mathlib.Nat.{zero-add}
 use native.Mathlib.Omega.{arith}
 use lib.Dec.{ltb, leb}
 use lib.ListN.{length, getD, length-append}
 use borrow.Author.Tests.{leb-true, le-leb, lt-leb, lt-ltb, not-true, not-false}
-use Rattle.text.specs.Bytes.{Bytes, all, isBlank}
+use Rattle.text.specs.Bytes.{Bytes, same, all, isBlank}
 use Rattle.text.specs.Class.{oneOf}
 use Rattle.names.specs.Codes.{isPlain, encode}
-use Rattle.names.specs.Names.{composed, isSome, hasNameShape, isName, isSized, first, last}
+use Rattle.names.specs.Names.{composed, isSome, isForm, hasNameShape, isName, isComposedName, isSized, first, last}
 use Rattle.names.specs.Steps.{letterAt, lengthAfter, nameLength}
-use Rattle.names.proofs.Walking.{composed-split, encode-size}
+use Rattle.names.proofs.Walking.{composed-nothing, composed-split, encode-size}
 use Rattle.names.proofs.Ascii.{plain-composed}
 
 -- What the test of the shape answers.
@@ -67,15 +66,40 @@ module _ (s : Bytes) (p : Bool) (f : p ≡ hasNameShape s) where
   unfolding nameLength isName
   name-none t = rw (← f, not-true p t)
 
-  pub name-plain : not p ≡ false → (q : Bool) → q ≡ all isPlain s → q ≡ true → length s ≡ nameLength s
-  name-plain t q g e = name-long t (length s) (let k = plain-composed s (sym g ∙ e) in rw k (sym (zero-add (length s))))
+  pub unshaped : not p ≡ true → false ≡ isName s
+  unfolding isName
+  unshaped t = rw (← f, not-true p t)
 
-pub length-name : (s : Bytes) (n : ℕ) → n ≡ nameLength s → ltb 0 n ≡ isName s
-unfolding nameLength isName
-length-name s n e = rw e (go (hasNameShape s) (composed s) refl refl)
-  where
-    go : (p : Bool) (o : Option Bytes) → hasNameShape s ≡ p → composed s ≡ o → ltb 0 (cond (p && isSome o) (lengthAfter 0 o) 0) ≡ (p && isSome o)
-    go true none h k = refl
-    go true (some t) h k = lt-ltb 0 (0 + length t) (omega (arith, composed-long s t k (shaped s h .least)))
-    go false none h k = refl
-    go false (some t) h k = refl
+  pub shaped-name : not p ≡ false → (r : Bool) → r ≡ isSome (composed s) → r ≡ isName s
+  unfolding isName
+  shaped-name t r e = e ∙ rw (← f, not-false p t)
+
+  pub plain-shaped : not p ≡ false → (q : Bool) → q ≡ all isPlain s → q ≡ true → true ≡ isName s
+  plain-shaped t q e h = shaped-name t true (let k = plain-composed s (sym e ∙ h) in rw k)
+
+  pub composed-told : (q : Bool) → q ≡ isForm s (composed s) → (p && q) ≡ isComposedName s
+  unfolding isComposedName isName
+  composed-told q e = rw (e, ← f) (go p (composed s))
+    where
+      go : (p : Bool) (o : Option Bytes) → (p && isForm s o) ≡ ((p && isSome o) && isForm s o)
+      go true none = refl
+      go true (some t) = refl
+      go false o = refl
+
+-- Whether there is a composed form: the text itself, or what is gone over letter by letter has a length.
+module _ (s : Bytes) (q : Bool) (f : q ≡ isForm s (composed s)) where
+  pub own-has : q ≡ true → true ≡ isSome (composed s)
+  own-has t = go (composed s) (sym f ∙ t)
+    where
+      go : (o : Option Bytes) → isForm s o ≡ true → true ≡ isSome o
+      go none h = absurd (false≢true h)
+      go (some t) h = refl
+
+  pub walked-has : q ≡ false → (n : ℕ) → n ≡ lengthAfter 0 (composed s) → ltb 0 n ≡ isSome (composed s)
+  unfolding same
+  walked-has t n e = rw e (go s (composed s) refl (sym f ∙ t))
+    where
+      go : (s : Bytes) (o : Option Bytes) → composed s ≡ o → isForm s o ≡ false → ltb 0 (lengthAfter 0 o) ≡ isSome o
+      go s none k h = refl
+      go [] (some t) k h = absurd (false≢true (sym h ∙ let e : t ≡ [] = (let z : some t ≡ some [] = sym k ∙ composed-nothing in cc) in rw e))
+      go (b ∷ s) (some t) k h = lt-ltb 0 (0 + length t) (omega (arith, composed-long (b ∷ s) t k (omega arith)))

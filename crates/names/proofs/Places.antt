@@ -2,6 +2,7 @@
 use Prim.Native.Nat.{ℕ}
 use mathlib.Core.Path.{_≡_, refl, sym, ap, _∙_}
 use mathlib.Core.Bool.{Bool, true, false, _&&_, false≢true, and-eq-true-iff}
+use mathlib.Core.List.{List}
 use mathlib.Core.Option.{Option, some, none}
 use native.Mathlib.Omega.{arith}
 use lib.Dec.{eqb, ltb}
@@ -10,7 +11,7 @@ use borrow.Author.Tests.{eqb-true, ltb-true, ltb-false, eq-eqb}
 use Rattle.text.specs.Bytes.{all}
 use Rattle.text.proofs.Tables.{getD-tabulate}
 use Rattle.names.specs.Table.{Entry, entry, table, composition}
-use Rattle.names.specs.Steps.{letters, marks, composedLetters, slot, place, places, letterOr0, composedLetter}
+use Rattle.names.specs.Steps.{IsTable, letters, marks, composedLetters, slot, place, places, letterOr0, composedLetter}
 use Rattle.names.proofs.Entries.{all-at, composes, composition-is, at-place}
 
 -- What the table has at a place, zeros behind its end.
@@ -49,7 +50,7 @@ module _ (l m i x y : ℕ) (u : x ≡ l) (v : y ≡ m) (p : i ≡ getD places (s
     unfolding marks
     mark-is = g ∙ List·getD-map (λ e. e .mark) table i (entry 0 0 0)
 
-    pub looked-missing : (eqb a l && eqb b m) ≡ false → 0 ≡ composedLetter l m
+    looked-missing : (eqb a l && eqb b m) ≡ false → 0 ≡ composedLetter l m
     unfolding composedLetter
     looked-missing t = go (composition l m) refl
       where
@@ -59,7 +60,7 @@ module _ (l m i x y : ℕ) (u : x ≡ l) (v : y ≡ m) (p : i ≡ getD places (s
             let r = entry-there e h in
             absurd (false≢true (sym t ∙ rw (eq-eqb a l (letter-is ∙ r .0), eq-eqb b m (mark-is ∙ r .1))))
 
-    pub looked-found : (c : ℕ) → (eqb a l && eqb b m) ≡ true → c ≡ getD composedLetters i 0 → c ≡ composedLetter l m
+    looked-found : (c : ℕ) → (eqb a l && eqb b m) ≡ true → c ≡ getD composedLetters i 0 → c ≡ composedLetter l m
     unfolding composedLetter composedLetters
     looked-found c t k = go (composition l m) refl
       where
@@ -81,3 +82,11 @@ module _ (l m i x y : ℕ) (u : x ≡ l) (v : y ≡ m) (p : i ≡ getD places (s
         go : (o : Option Entry) → composition l m ≡ o → c ≡ letterOr0 o
         go none h = none-there (ltb i (length table)) refl h
         go (some e) h = here ∙ entry-there e h .2
+
+-- In the table as it is lent.
+module _ (ps ls ms cs : List ℕ) (t : IsTable ps ls ms cs) (l m i x y : ℕ) (u : x ≡ l) (v : y ≡ m) (p : i ≡ getD ps (slot x y) 0) (a b : ℕ) (f : a ≡ getD ls i 0) (g : b ≡ getD ms i 0) where
+  pub lent-missing : (eqb a l && eqb b m) ≡ false → 0 ≡ composedLetter l m
+  lent-missing = looked-missing l m i x y u v (rw (t .0) at p) a b (rw (t .1) at f) (rw (t .2) at g)
+
+  pub lent-found : (c : ℕ) → (eqb a l && eqb b m) ≡ true → c ≡ getD cs i 0 → c ≡ composedLetter l m
+  lent-found c q k = looked-found l m i x y u v (rw (t .0) at p) a b (rw (t .1) at f) (rw (t .2) at g) c q (rw (t .3) at k)

@@ -1,7 +1,7 @@
 -- Laws of UTF-8: what is written reads back, and what reads is what is written of it.
 use Prim.Native.Nat.{ℕ, _+_, _*_, _/_, _%_, _≤_}
 use mathlib.Core.Path.{_≡_, refl, sym, ap, _∙_}
-use mathlib.Core.Bool.{Bool, true, false, cond, _&&_, _||_, and-eq-true-iff, and-false, or-true}
+use mathlib.Core.Bool.{Bool, true, false, cond, _&&_, _||_, and-eq-true-iff, and-false, or-true, or-false}
 use mathlib.Core.List.{List, [], _∷_, _++_}
 use mathlib.Core.Option.{Option, some, none}
 use native.Mathlib.Omega.{arith}
@@ -46,6 +46,10 @@ wide-range c h = go (within 160 383 c) refl
 pub wide-letter : (c : ℕ) → 160 ≤ c → c ≤ 383 → isWide c ≡ true
 unfolding isWide
 wide-letter c h k = rw (true-within 160 383 c h k)
+
+pub letter-range : (c : ℕ) → isWide c ≡ true → isMark c ≡ false → (160 ≤ c) × (c ≤ 383)
+unfolding isWide
+letter-range c w m = within-true 160 383 c (sym (or-false (within 160 383 c)) ∙ (rw m at w))
 
 pub not-plain : (c : ℕ) → 127 ≤ c → isPlain c ≡ false
 unfolding isPlain

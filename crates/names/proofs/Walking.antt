@@ -17,7 +17,7 @@ use Rattle.buffer.proofs.Written.{next}
 use Rattle.buffer.proofs.Looping.{Writing, writing-none, writing-more, writing-done, writing-past}
 use Rattle.names.specs.Codes.{isMark, isPlain, isPair, read, encode, write}
 use Rattle.names.specs.Names.{compose, composed}
-use Rattle.names.specs.Steps.{composedLetter, pairOf, letter, letterOf, letterAt, spelledFrom, spelled, lengthAfter}
+use Rattle.names.specs.Steps.{composedLetter, pairOf, letter, letterOf, letterAt, spelledFrom, spelled, lengthAfter, LetterTold}
 use Rattle.names.specs.declared.Letter.{Letter}
 use Rattle.names.proofs.Reading.{encode-plain}
 use Rattle.names.proofs.Letters.{prepend, composed-step}
@@ -129,11 +129,17 @@ sizes a b c = go (isPlain a) (eqb (composedLetter a (pairOf b c)) 0) (eqb (pairO
     go false q false h = record { most = omega arith; shorter = λ k. encode-size (pairOf a b) .1 }
 
 -- The letter at a place.
-pub letter-past : (s : Bytes) (i : ℕ) → length s ≤ i → letter 0 0 ≡ letterAt (drop i s)
+letter-past : (s : Bytes) (i : ℕ) → length s ≤ i → letter 0 0 ≡ letterAt (drop i s)
 letter-past s i l = rw (drop-of-length-le s l) (sym letter-empty)
 
-pub letter-here : (s : Bytes) (i a b c : ℕ) (x : Letter) → a ≡ getD s i 0 → b ≡ getD s (i + 1) 0 → c ≡ getD s (i + 2) 0 → x ≡ letterOf a b c → x ≡ letterAt (drop i s)
+letter-here : (s : Bytes) (i a b c : ℕ) (x : Letter) → a ≡ getD s i 0 → b ≡ getD s (i + 1) 0 → c ≡ getD s (i + 2) 0 → x ≡ letterOf a b c → x ≡ letterAt (drop i s)
 letter-here s i a b c x e f g h = h ∙ rw (e, f, g, getD-drop i s 0 0, getD-drop i s 1 0, getD-drop i s 2 0, add-zero i)
+
+pub told-past : (T : Type 0) (s : Bytes) (i : ℕ) → length s ≤ i → LetterTold T (letter 0 0) (letterAt (drop i s))
+told-past T s i l = record { most = omega arith; is = λ t. letter-past s i l }
+
+pub told-here : (T : Type 0) (s : Bytes) (i a b c : ℕ) (x : Letter) → a ≡ getD s i 0 → b ≡ getD s (i + 1) 0 → c ≡ getD s (i + 2) 0 → LetterTold T x (letterOf a b c) → LetterTold T x (letterAt (drop i s))
+told-here T s i a b c x e f g h = record { most = h .most; is = λ t. letter-here s i a b c x e f g (h .is t) }
 
 -- At a place of a text.
 module _ (s : Bytes) (i : ℕ) (x : Letter) (f : x ≡ letterAt (drop i s)) where

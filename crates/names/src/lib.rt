@@ -1,19 +1,23 @@
 // Names in two spellings: the table of compositions, whether bytes are a name, and its composed form.
 ghost use mathlib.Core.Path.{_≡_};
 ghost use lib.ListN.{length, drop};
-ghost use Rattle.text.specs.Bytes.{all};
 ghost use Rattle.buffer.specs.Writing.{written};
-ghost use Rattle.names.specs.Codes.{isMark, isPlain, isWide, encode};
-ghost use Rattle.names.specs.Names.{composed, composedName, hasNameShape, isName, isPropertyName, isNamespace, isComposedName, isComposedPropertyName, isComposedNamespace};
-ghost use Rattle.names.specs.Steps.{pairOf, letterOf, letterAt, spelled, lengthAfter, nameLength};
+ghost use Rattle.names.specs.Codes.{encode};
+ghost use Rattle.names.specs.Names.{composed, composedName, isSome, hasNameShape, isName, isPropertyName, isNamespace, isComposedName, isComposedPropertyName, isComposedNamespace};
+ghost use Rattle.names.specs.Steps.{IsTable, letterPair, loneLetter, letterOf, letterAt, spelled, lengthAfter, LetterTold};
 
 pub mod composed_codes; // composed_codes.rt: the composed letters of the table
 pub mod letter_codes; // letter_codes.rt: its letters
 pub mod mark_codes; // mark_codes.rt: its marks
+pub mod own_form; // own_form.rt: whether a text is its own composed form
+pub mod putting; // putting.rt: a name judged and composed in one pass
 pub mod table; // table.rt: a letter and a mark looked up in it
 
 use buffer::put_byte;
 use buffer::put_bytes;
+use own_form::all_plain;
+use own_form::is_own_form;
+use own_form::is_plain;
 use table::composed_letter;
 use tables::wide;
 use text::Class;
@@ -28,90 +32,76 @@ pub struct Letter {
     pub width: usize,
 }
 
-// Whether a code point is one of the thirteen marks.
-fn is_mark(c: u16) -> bool
-    ensures { λ r. ⌜ r ≡ isMark c ⌝ }
+// The letter that two bytes write by themselves, U+00A0 to U+017F; 0 where they write none.
+fn letter_pair(a: u8, b: u8) -> u16
+    ensures { λ r. ⌜ r ≡ letterPair a b ⌝ }
 {
-    ((768 <= c) & (c <= 772))
-        | ((774 <= c) & (c <= 776))
-        | ((778 <= c) & (c <= 780))
-        | ((807 <= c) & (c <= 808))
-}
-
-// Whether a name may have a code point in one byte, and in two.
-fn is_plain(b: u8) -> bool
-    ensures { λ r. ⌜ r ≡ isPlain b ⌝ }
-{
-    ((32 <= b) & (b <= 126)) & in_class(Class::Name, b)
-}
-
-fn is_wide(c: u16) -> bool
-    ensures { λ r. ⌜ r ≡ isWide c ⌝ }
-{
-    ((160 <= c) & (c <= 383)) | is_mark(c)
-}
-
-// The code point of two bytes of UTF-8, 0 where they are none that a name may have.
-fn pair_of(a: u8, b: u8) -> u16
-    ensures { λ r. ⌜ r ≡ pairOf a b ⌝ }
-{
-    let c = 64 * wide(a % 32) + wide(b % 64);
-    if ((192 <= a) & (a <= 223)) & ((128 <= b) & (b <= 191)) & is_wide(c) {
-        c
+    let code = 64 * wide(a % 32) + wide(b % 64);
+    if ((194 <= a) & (a <= 197)) & ((128 <= b) & (b <= 191)) & (160 <= code) {
+        code
     } else {
         0
     }
 }
 
-// The composed letter that three bytes begin with. The table is asked only where the second is 204, as of every mark.
-fn letter_of(a: u8, b: u8, c: u8) -> Letter
-    ensures { λ r. ⌜ r ≡ letterOf a b c ⌝ }
+// The letter that a text begins with where no mark composes with its first byte, a.
+fn lone_letter(a: u8, b: u8) -> Letter
+    ensures { λ r. ⌜ r ≡ loneLetter a b ⌝ }
 {
     if is_plain(a) {
-        if b != 204 {
-            return Letter {
-                code: wide(a),
-                width: 1,
-            };
-        }
-        let code = composed_letter(wide(a), pair_of(b, c));
-        if code == 0 {
-            return Letter {
-                code: wide(a),
-                width: 1,
-            };
-        }
-        return Letter { code, width: 3 };
+        return Letter {
+            code: wide(a),
+            width: 1,
+        };
     }
-    let code = pair_of(a, b);
-    if (code == 0) | is_mark(code) {
+    let code = letter_pair(a, b);
+    if code == 0 {
         return Letter { code: 0, width: 0 };
     }
     Letter { code, width: 2 }
 }
 
+// The composed letter that three bytes begin with. The table is asked only where the second is 204, as of every mark; the third then
+// tells the mark.
+fn letter_of(
+    places: &[u8],
+    letters: &[u16],
+    marks: &[u16],
+    codes: &[u16],
+    a: u8,
+    b: u8,
+    c: u8,
+) -> Letter
+    ensures { λ r. ⌜ LetterTold (IsTable (now (places .entry)) (now (letters .entry)) (now (marks .entry)) (now (codes .entry))) r (letterOf a b c) ⌝ }
+{
+    if b != 204 {
+        return lone_letter(a, b);
+    }
+    let code = composed_letter(places, letters, marks, codes, wide(a), 640 + wide(c));
+    if code == 0 {
+        return lone_letter(a, b);
+    }
+    Letter { code, width: 3 }
+}
+
 // The composed letter at a place.
-fn letter_at(s: &[u8], i: usize) -> Letter
-    ensures { λ r. ⌜ r ≡ letterAt (drop i (now (s .entry))) ⌝ }
+fn letter_at(
+    places: &[u8],
+    letters: &[u16],
+    marks: &[u16],
+    codes: &[u16],
+    s: &[u8],
+    i: usize,
+) -> Letter
+    ensures { λ r. ⌜ LetterTold (IsTable (now (places .entry)) (now (letters .entry)) (now (marks .entry)) (now (codes .entry))) r (letterAt (drop i (now (s .entry)))) ⌝ }
 {
     if s.len() <= i {
         return Letter { code: 0, width: 0 };
     }
-    letter_of(byte_at(s, i), byte_at(s, i + 1), byte_at(s, i + 2))
-}
-
-// Whether all bytes are code points of names by themselves. It never stops before the end, so that a compiler takes many bytes at
-// a time.
-fn all_plain(s: &[u8]) -> bool
-    ensures { λ r. ⌜ r ≡ all isPlain (now (s .entry)) ⌝ }
-{
-    let mut plain = true;
-    let mut i: usize = 0;
-    while i < s.len() {
-        plain = plain & is_plain(s[i]);
-        i += 1;
-    }
-    plain
+    let a = byte_at(s, i);
+    let b = byte_at(s, i + 1);
+    let c = byte_at(s, i + 2);
+    letter_of(places, letters, marks, codes, a, b, c)
 }
 
 // How many bytes a code point has.
@@ -125,10 +115,14 @@ fn size_of(code: u16) -> usize
 fn composed_length(s: &[u8]) -> usize
     ensures { λ r. ⌜ r ≡ lengthAfter 0 (composed (now (s .entry))) ⌝ }
 {
+    let places = table::places();
+    let letters = table::letters();
+    let marks = table::marks();
+    let codes = table::codes();
     let mut n: usize = 0;
     let mut i: usize = 0;
     while i < s.len() {
-        let x = letter_at(s, i);
+        let x = letter_at(&places, &letters, &marks, &codes, s, i);
         let w = x.width;
         if w == 0 {
             return 0;
@@ -154,33 +148,34 @@ fn has_name_shape(s: &[u8]) -> bool
         & !in_class(Class::Blank, last)
 }
 
-// How long the composed form of a name is, 0 where the bytes are no name. An ASCII name is gone over once and is its own composed
-// form; any other is gone over letter by letter too.
-pub fn name_length(s: &[u8]) -> usize
-    ensures { λ r. ⌜ r ≡ nameLength (now (s .entry)) ⌝ }
+// Whether the bytes have a composed form.
+fn has_form(s: &[u8]) -> bool
+    ensures { λ r. ⌜ r ≡ isSome (composed (now (s .entry))) ⌝ }
 {
-    if !has_name_shape(s) {
-        return 0;
+    if is_own_form(s) {
+        return true;
     }
-    if all_plain(s) {
-        s.len()
-    } else {
-        composed_length(s)
-    }
+    0 < composed_length(s)
 }
 
 // Whether the bytes are a name that is its own composed form.
 pub fn is_composed_name(s: &[u8]) -> bool
     ensures { λ r. ⌜ r ≡ isComposedName (now (s .entry)) ⌝ }
 {
-    (0 < s.len()) & (name_length(s) == s.len())
+    has_name_shape(s) & is_own_form(s)
 }
 
 // Whether the bytes are a name.
 pub fn is_name(s: &[u8]) -> bool
     ensures { λ r. ⌜ r ≡ isName (now (s .entry)) ⌝ }
 {
-    0 < name_length(s)
+    if !has_name_shape(s) {
+        return false;
+    }
+    if all_plain(s) {
+        return true;
+    }
+    has_form(s)
 }
 
 // The same of a property name, and of a namespace.
@@ -228,10 +223,14 @@ fn put_code(h: &mut [u8], at: usize, code: u16)
 fn put_letters(h: &mut [u8], at: usize, s: &[u8])
     ensures { λ _. ⌜ now (h .exit) ≡ written (now (h .entry)) at (spelled (now (s .entry))) ⌝ }
 {
+    let places = table::places();
+    let letters = table::letters();
+    let marks = table::marks();
+    let codes = table::codes();
     let mut to = at;
     let mut i: usize = 0;
     while i < s.len() {
-        let x = letter_at(s, i);
+        let x = letter_at(&places, &letters, &marks, &codes, s, i);
         let w = x.width;
         if w == 0 {
             return;
@@ -245,11 +244,11 @@ fn put_letters(h: &mut [u8], at: usize, s: &[u8])
     }
 }
 
-// How long the composed form of a name is; bytes that have none stay as they are. ASCII is its own composed form.
+// How long the composed form of a name is; bytes that have none stay as they are.
 pub fn composed_size(s: &[u8]) -> usize
     ensures { λ r. ⌜ r ≡ length (composedName (now (s .entry))) ⌝ }
 {
-    if all_plain(s) {
+    if is_own_form(s) {
         return s.len();
     }
     let n = composed_length(s);
@@ -260,7 +259,7 @@ pub fn composed_size(s: &[u8]) -> usize
 pub fn put_composed(h: &mut [u8], at: usize, s: &[u8])
     ensures { λ _. ⌜ now (h .exit) ≡ written (now (h .entry)) at (composedName (now (s .entry))) ⌝ }
 {
-    if all_plain(s) {
+    if is_own_form(s) {
         put_bytes(h, at, s);
         return;
     }

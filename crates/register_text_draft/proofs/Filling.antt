@@ -1,7 +1,7 @@
 -- One text, property, page or form more in the tables.
 use Prim.Native.Nat.{ℕ, zero, suc, _+_, _-_, _%_, _≤_, _<_}
 use mathlib.Core.Path.{_≡_, refl, sym, ap, ap₂, _∙_, subst}
-use mathlib.Core.Bool.{Bool, true, false}
+use mathlib.Core.Bool.{Bool, true, false, _&&_, and-eq-true-iff}
 use mathlib.Core.List.{List, [], _∷_, _++_, append-assoc, append-nil}
 use mathlib.Core.Option.{Option, some, none}
 use native.Mathlib.Nat.{le-refl, mod-eq-of-lt, sub-self}
@@ -17,7 +17,8 @@ use Rattle.text.proofs.Tables.{length-tabulate, tabulate-ext, is-tabulate}
 use Rattle.values.specs.declared.Kind.{Kind}
 use Rattle.values.specs.declared.Scalar.{Scalar}
 use Rattle.values.specs.declared.Split.{Split}
-use Rattle.names.specs.Names.{composedName}
+use Rattle.names.specs.Names.{composed, composedName, isForm}
+use Rattle.names.proofs.Composed.{composed-empty, own-fixed}
 use Rattle.values.specs.Names.{Reference, Identifier, reference, composedReference, identifier}
 use Rattle.values.specs.Values.{mapOption, Constant, scalar, string, Value, plain, link, readScalar, readLink, readValue, kindCode, kindFrom}
 use Rattle.values.specs.Answers.{Splits, splitOf}
@@ -140,31 +141,39 @@ module _ (heap starts lens : List ℕ) (m at : ℕ) (h s n : List ℕ) (r : Ends
   abbrev linkOf : Bytes → Identifier
   linkOf v = identifier (composedReference (reference v))
 
-  -- The composed form of a part, at the front of a buffer of 64 bytes.
-  module _ (v y buf z : Bytes) (k : ℕ) (eb : buf ≡ Buffers.written (replicate 64 0) 0 (composedName y)) (ek : k ≡ length (composedName y)) (ez : z ≡ part buf 0 k) where
-    buffered : length (composedName y) ≤ 64 → z ≡ composedName y
-    buffered l = ez ∙ ap₂ (λ (b : Bytes) (n : ℕ). part b 0 n) eb ek ∙ part-there (replicate 64 0) (composedName y) 0 (omega (arith, length-replicate {A = ℕ} 64 0))
+  -- The composed form of a text, at the front of a buffer of 64 bytes.
+  buffered : (y buf z : Bytes) (k : ℕ) → buf ≡ Buffers.written (replicate 64 0) 0 (composedName y) → k ≡ length (composedName y) → z ≡ part buf 0 k → length (composedName y) ≤ 64 → z ≡ composedName y
+  buffered y buf z k eb ek ez l = ez ∙ ap₂ (λ (b : Bytes) (n : ℕ). part b 0 n) eb ek ∙ part-there (replicate 64 0) (composedName y) 0 (omega (arith, length-replicate {A = ℕ} 64 0))
 
-  module _ (v : Bytes) (i : Split) (p : Splits v i) (x name-buffer name : Bytes) (size : ℕ)
-      (ex : x ≡ part v (i .article .start) (i .article .len)) (eb : name-buffer ≡ Buffers.written (replicate 64 0) 0 (composedName x)) (ek : size ≡ length (composedName x)) (en : name ≡ part name-buffer 0 size) where
-    by-split : (space : Bytes) → linkOf v ≡ record { namespace = space; article = composedName x } → (length space ≤ 64 → Pushes (labelled space name ∷ []))
-        → Spaced (link (linkOf v)) → Pushes (identifierText (linkOf v) ∷ [])
+  -- Two names: their own composed forms, or written to buffers.
+  module _ (space name : Bytes) where
+    abbrev Named : Type 0
+    Named = length (composedName space) ≤ 64 → length (composedName name) ≤ 64 → Pushes (labelled (composedName space) (composedName name) ∷ [])
+
+    pub names-own : (p q : Bool) → p ≡ isForm space (composed space) → q ≡ isForm name (composed name) → (p && q) ≡ true → (length space ≤ 64 → Pushes (labelled space name ∷ [])) → Named
+    names-own p q e f t h k l =
+        let u = and-eq-true-iff p q .0 t in
+        let x = own-fixed space p e (u .0) in
+        rw (x, own-fixed name q f (u .1)) (h (rw x at k))
+
+    pub names-put : (x y a b : Bytes) (i j : ℕ) → x ≡ Buffers.written (replicate 64 0) 0 (composedName space) → i ≡ length (composedName space) → a ≡ part x 0 i
+        → y ≡ Buffers.written (replicate 64 0) 0 (composedName name) → j ≡ length (composedName name) → b ≡ part y 0 j → (length a ≤ 64 → Pushes (labelled a b ∷ [])) → Named
+    names-put x y a b i j ex ei ea ey ej eb h k l =
+        let u = buffered space x a i ex ei ea k in
+        let v = buffered name y b j ey ej eb l in
+        rw (← u, ← v) (h (rw (← u) at k))
+
+  module _ (v : Bytes) (i : Split) (p : Splits v i) (name : Bytes) (en : name ≡ part v (i .article .start) (i .article .len)) where
+    by-split : (space : Bytes) → linkOf v ≡ record { namespace = composedName space; article = composedName name } → Named space name → Spaced (link (linkOf v)) → Pushes (identifierText (linkOf v) ∷ [])
     by-split space is f short =
-        let near : (length space ≤ 64) × (length (composedName x) ≤ 64) = subst (λ (j : Identifier). Spaced (link j)) is short in
-        rw is (subst (λ (z : Bytes). Pushes (labelled space z ∷ [])) (buffered v x name-buffer name size eb ek en (near .1)) (f (near .0)))
+        let near : (length (composedName space) ≤ 64) × (length (composedName name) ≤ 64) = subst (λ (j : Identifier). Spaced (link j)) is short in
+        rw is (f (near .0) (near .1))
 
-    pub link-qualified : i .qualified ≡ true → (y space-buffer space : Bytes) (m : ℕ) → y ≡ part v (i .namespace .start) (i .namespace .len)
-        → space-buffer ≡ Buffers.written (replicate 64 0) 0 (composedName y) → m ≡ length (composedName y) → space ≡ part space-buffer 0 m
-        → (length space ≤ 64 → Pushes (labelled space name ∷ [])) → Spaced (link (linkOf v)) → Pushes (identifierText (linkOf v) ∷ [])
-    link-qualified e y space-buffer space m ey es em eq f short =
-        let is : linkOf v ≡ record { namespace = composedName y; article = composedName x } = ap (λ (r : Reference). identifier (composedReference r)) (sym (p .is)) ∙ rw (e, ey, ex) in
-        let near : (length (composedName y) ≤ 64) × (length (composedName x) ≤ 64) = subst (λ (j : Identifier). Spaced (link j)) is short in
-        let same : space ≡ composedName y = buffered v y space-buffer space m es em eq (near .0) in
-        by-split space (is ∙ rw same) f short
+    pub link-qualified : i .qualified ≡ true → (space : Bytes) → space ≡ part v (i .namespace .start) (i .namespace .len) → Named space name → Spaced (link (linkOf v)) → Pushes (identifierText (linkOf v) ∷ [])
+    link-qualified e space es = by-split space (ap (λ (r : Reference). identifier (composedReference r)) (sym (p .is)) ∙ rw (e, es, en))
 
-    pub link-bare : i .qualified ≡ false → (space : Bytes) → space ≡ [] → (length space ≤ 64 → Pushes (labelled space name ∷ []))
-        → Spaced (link (linkOf v)) → Pushes (identifierText (linkOf v) ∷ [])
-    link-bare e space es = by-split space (ap (λ (r : Reference). identifier (composedReference r)) (sym (p .is)) ∙ rw (e, es, ex))
+    pub link-bare : i .qualified ≡ false → (space : Bytes) → space ≡ [] → Named space name → Spaced (link (linkOf v)) → Pushes (identifierText (linkOf v) ∷ [])
+    link-bare e space es = by-split space (ap (λ (r : Reference). identifier (composedReference r)) (sym (p .is)) ∙ rw (e, es, en, composed-empty))
 
   module _ (k : Kind) (v : Bytes) (w : Value) (e : readValue k v ≡ some w) (short : Spaced w) where
     pub value-page : k ≡ Kind.Page → (Spaced (link (linkOf v)) → Pushes (identifierText (linkOf v) ∷ [])) → Pushes (valueTexts w)

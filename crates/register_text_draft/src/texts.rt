@@ -4,6 +4,7 @@ ghost use mathlib.Core.List.{List, [], _∷_};
 ghost use mathlib.Core.Option.{some};
 ghost use Prim.Native.Nat.{_+_, _%_, _≤_, _<_};
 ghost use lib.ListN.{length, set};
+ghost use Rattle.names.specs.Names.{composedName};
 ghost use Rattle.values.specs.Names.{reference, composedReference, identifier};
 ghost use Rattle.values.specs.Values.{Value, link, readValue, kindCode};
 ghost use Rattle.register_form.specs.Dictionary.{PropertyRow, PageRow, labelled};
@@ -13,6 +14,7 @@ ghost use Rattle.register_text_draft.specs.Sizes.{Spaced};
 ghost use Rattle.register_text_draft.specs.Tables.{Copied, Pushed};
 use super::Ends;
 use names::composed_size;
+use names::own_form::is_own_form;
 use names::put_composed;
 use tables::long;
 use tables::narrow;
@@ -84,6 +86,36 @@ pub fn push_text(
     }
 }
 
+// Adds the text of a namespace and a name, both composed. Most are their own composed form.
+fn push_names(
+    heap: &mut [u8],
+    starts: &mut [u32],
+    lens: &mut [u16],
+    m: u16,
+    at: u16,
+    space: &[u8],
+    name: &[u8],
+) -> Ends
+    ensures { λ r. ⌜ (length (composedName (now (space .entry))) ≤ 64 → length (composedName (now (name .entry))) ≤ 64 → Pushed (now (heap .entry)) (now (starts .entry)) (now (lens .entry)) m at (labelled (composedName (now (space .entry))) (composedName (now (name .entry))) ∷ []) (now (heap .exit)) (now (starts .exit)) (now (lens .exit)) r) ⌝ }
+{
+    if is_own_form(space) & is_own_form(name) {
+        return push_text(heap, starts, lens, m, at, space, name);
+    }
+    let mut x = [0u8; 64];
+    let mut y = [0u8; 64];
+    put_composed(&mut x, 0, space);
+    put_composed(&mut y, 0, name);
+    push_text(
+        heap,
+        starts,
+        lens,
+        m,
+        at,
+        part(&x, 0, composed_size(space)),
+        part(&y, 0, composed_size(name)),
+    )
+}
+
 // Adds the text of the link that v writes, its names composed.
 fn push_link(
     heap: &mut [u8],
@@ -99,18 +131,11 @@ fn push_link(
     let n = split.namespace;
     let a = split.article;
     let qualified = split.qualified;
-    let mut space = [0u8; 64];
-    let mut name = [0u8; 64];
-    let x = part(v, a.start, a.len);
-    put_composed(&mut name, 0, x);
-    let article = part(&name, 0, composed_size(x));
+    let name = part(v, a.start, a.len);
     if qualified {
-        let y = part(v, n.start, n.len);
-        put_composed(&mut space, 0, y);
-        let namespace = part(&space, 0, composed_size(y));
-        return push_text(heap, starts, lens, m, at, namespace, article);
+        return push_names(heap, starts, lens, m, at, part(v, n.start, n.len), name);
     }
-    push_text(heap, starts, lens, m, at, part(v, 0, 0), article)
+    push_names(heap, starts, lens, m, at, part(v, 0, 0), name)
 }
 
 // Adds the text of the value of a kind that v writes, if it has one.

@@ -8,20 +8,21 @@ use native.Mathlib.Omega.{arith}
 use lib.Dec.{ltb}
 use lib.ListN.{length, take}
 use borrow.Author.Tests.{lt-ltb, le-ltb, not-true, not-false}
-use Rattle.text.specs.Bytes.{Bytes}
+use Rattle.text.specs.Bytes.{Bytes, any}
 use Rattle.text.proofs.Tables.{count-most}
 use Rattle.values.specs.declared.Kind.{Kind}
 use Rattle.values.specs.Values.{readValue}
 use Rattle.language.specs.Answer.{numberOf, found, _>>=_}
 use Rattle.language.specs.Register.{Typing}
-use Rattle.language.specs.RegisterText.{Entry, prop, page, cat, val, close, entries, readRegister}
+use Rattle.language.specs.RegisterText.{Entry, prop, page, cat, val, close, breaksRule, readRegister}
 use Rattle.register_text_entries.specs.declared.Rows.{Rows}
 use Rattle.register_text_entries.specs.Table.{entryAt, entriesIn, Filled}
 use Rattle.register_text_entries.proofs.Reading.{filled-none, filled-few, filled-some}
 use Rattle.register_text_verdict.specs.Rows.{anyTo}
-use Rattle.register_text_verdict.specs.Checks.{declares, rowsThat, Collected, kindsIn, fails, someFails, twiceIn, innerIn, lowest, verdictOf, JudgesTyped, Prepared, Room, Judges}
+use Rattle.register_text_verdict.specs.Checks.{declares, rowsThat, Collected, kindsIn, fails, someFails, twiceIn, innerIn, lowest, verdictOf, RowsRead, ReadsRows, JudgesTyped, Prepared, Room, Judges}
 use Rattle.register_text_verdict.specs.declared.Declared.{Declared}
 use Rattle.register_text_verdict.specs.declared.Check.{Check}
+use Rattle.register_text_verdict.specs.declared.TypedRows.{TypedRows}
 use Rattle.register_text_verdict.proofs.Rows.{places-count}
 use Rattle.register_text_verdict.proofs.Verdict.{too-long, not-lines, not-ruled, verdict-rows, rule-rows}
 
@@ -71,33 +72,42 @@ pub verdict-is : (s : Bytes) (t : List ℕ) (n : ℕ) (props : List ℕ) (np : �
 unfolding verdictOf
 verdict-is s t n props np pages ng p4 g4 b5 b6 k r hp hg h6 h5 hk h = h ∙ rw (hp, hg, h5, h6, hk, both-needed s t n props np)
 
--- Judging a text as typed.
-refused-by : (s : Bytes) (t : List ℕ) (n : ℕ) → suc n ≡ numberOf (readRegister s) → JudgesTyped s t (record { number = suc n; rows = 0 })
-refused-by s t n e = record { refused = λ z. e; typed = λ z. absurd (omega arith) }
+-- Reading a text.
+unread : (s : Bytes) (t : List ℕ) (n : ℕ) → suc n ≡ numberOf (readRegister s) → ReadsRows s t (record { number = suc n; rows = 0 })
+unread s t n e = record { refused = λ z. e; read = λ z. absurd (omega arith) }
 
-pub typed-long : (s : Bytes) (t : List ℕ) → 32768 < length s → JudgesTyped s t (record { number = 1; rows = 0 })
-typed-long s t h = refused-by s t 0 (too-long s (lt-ltb 32768 (length s) h))
+pub read-long : (s : Bytes) (t : List ℕ) → 32768 < length s → ReadsRows s t (record { number = 1; rows = 0 })
+read-long s t h = unread s t 0 (too-long s (lt-ltb 32768 (length s) h))
 
 module _ (s : Bytes) (t₀ t : List ℕ) (short : length s ≤ 32768) (r : Rows) (f : Filled s t₀ t r) where
-  pub typed-broken : not (r .ok) ≡ true → JudgesTyped s t (record { number = 2; rows = 0 })
-  typed-broken h = refused-by s t 1 (not-lines s (le-ltb 32768 (length s) short) (filled-none s t₀ t r f (not-true (r .ok) h)))
+  pub read-broken : not (r .ok) ≡ true → ReadsRows s t (record { number = 2; rows = 0 })
+  read-broken h = unread s t 1 (not-lines s (le-ltb 32768 (length s) short) (filled-none s t₀ t r f (not-true (r .ok) h)))
 
-  module _ (h : not (r .ok) ≡ false) (room : 27500 ≤ length t₀) (props : List ℕ) (b : Bool) (e : b ≡ someFails Check.Rule s t (r .count) props 0) where
-    ok : r .ok ≡ true
-    ok = not-false (r .ok) h
+  pub read-whole : not (r .ok) ≡ false → 27500 ≤ length t₀ → ReadsRows s t (record { number = 0; rows = r .count })
+  read-whole h room =
+      let ok = not-false (r .ok) h in
+      record { refused = λ z. absurd (z refl); read = λ z. record { short = short; read = filled-some s t₀ t r f ok short room; few = filled-few s t₀ t r f ok short } }
 
-    read : entries s ≡ some (entriesIn s t (r .count))
-    read = filled-some s t₀ t r f ok short room
+-- A text that breaks a rule.
+pub rule-broken : (s : Bytes) (t : List ℕ) (n : ℕ) → RowsRead s t n → any breaksRule (entriesIn s t n) ≡ true → 3 ≡ numberOf (readRegister s)
+rule-broken s t n r h = not-ruled s (entriesIn s t n) (le-ltb 32768 (length s) (r .short)) (r .read) h
+
+-- Judging a text as typed.
+module _ (s : Bytes) (t : List ℕ) (r : TypedRows) (f : ReadsRows s t r) where
+  pub typed-refused : (r .number ≡ 0 → ⊥) → JudgesTyped s t r
+  typed-refused h = record { refused = f .refused; typed = λ z. absurd (h z) }
+
+  module _ (h : r .number ≡ 0) (props : List ℕ) (b : Bool) (e : b ≡ someFails Check.Rule s t (r .rows) props 0) where
+    told : any breaksRule (entriesIn s t (r .rows)) ≡ b
+    told = sym (rule-rows s t props (r .rows) 0) ∙ sym e
 
     pub typed-unruled : b ≡ true → JudgesTyped s t (record { number = 3; rows = 0 })
-    typed-unruled k = refused-by s t 2 (not-ruled s (entriesIn s t (r .count)) (le-ltb 32768 (length s) short) read (sym (rule-rows s t props (r .count) 0) ∙ sym e ∙ k))
+    typed-unruled k = record { refused = λ z. rule-broken s t (r .rows) (f .read h) (told ∙ k); typed = λ z. absurd (omega arith) }
 
-    pub typed-read : b ≡ false → JudgesTyped s t (record { number = 0; rows = r .count })
-    typed-read k =
-        record {
-          refused = λ z. absurd (z refl);
-          typed = λ z. record { short = short; read = read; ruled = sym (rule-rows s t props (r .count) 0) ∙ sym e ∙ k; few = filled-few s t₀ t r f ok short };
-        }
+    pub typed-ruled : b ≡ false → JudgesTyped s t r
+    typed-ruled k =
+        let y = f .read h in
+        record { refused = f .refused; typed = λ z. record { short = y .short; read = y .read; ruled = told ∙ k; few = y .few } }
 
 -- Judging rows.
 module _ (s : Bytes) (t : List ℕ) (n : ℕ) (props₀ props pages₀ pages : List ℕ) (np ng : ℕ) (P : Collected Declared.Property t n props₀ props np) (G : Collected Declared.Page t n pages₀ pages ng) (room : Room props₀ pages₀) (r : Bytes) (p : Prepared r s t n) where

@@ -85,7 +85,18 @@ twiceIn s t rows m = twiceTo m (λ a b. sameDeclared (entryAt s t (getD rows a 0
 abbrev pub innerIn : List ℕ → ℕ → ℕ
 innerIn t n = countTo n (λ i. isInner (entryAt [] t i))
 
--- The first n rows of t are the entries of the text s, whose names and values keep their rules as typed.
+-- The first n rows of t are the entries of the text s.
+pub record RowsRead (s : Bytes) (t : List ℕ) (n : ℕ) : Type 0 where
+  pub short : length s ≤ 32768
+  pub read : entries s ≡ some (entriesIn s t n)
+  pub few : n ≤ 5500
+
+-- What reading a text answers, where its table has room: 1 or 2, or its entries are in the table.
+pub record ReadsRows (s : Bytes) (t : List ℕ) (r : TypedRows) : Type 0 where
+  pub refused : (r .number ≡ 0 → ⊥) → r .number ≡ numberOf (readRegister s)
+  pub read : r .number ≡ 0 → RowsRead s t (r .rows)
+
+-- The same, and their names and values keep their rules as typed.
 pub record Typed (s : Bytes) (t : List ℕ) (n : ℕ) : Type 0 where
   pub short : length s ≤ 32768
   pub read : entries s ≡ some (entriesIn s t n)

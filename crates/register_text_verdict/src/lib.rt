@@ -4,7 +4,7 @@ ghost use mathlib.Core.Bool.{_&&_};
 ghost use Prim.Native.Nat.{_≤_};
 ghost use lib.ListN.{length};
 ghost use Rattle.text.specs.Bytes.{Bytes};
-ghost use Rattle.register_text_verdict.specs.Checks.{Collected, someFails, lowest, verdictOf, rowRoom, JudgesTyped, Prepared, Judges, Room};
+ghost use Rattle.register_text_verdict.specs.Checks.{Collected, someFails, lowest, verdictOf, rowRoom, ReadsRows, JudgesTyped, Prepared, Judges, Room};
 ghost use Rattle.register_text_verdict.specs.declared.Check.the-variants.{Undeclared};
 
 pub mod checks; // checks.rt: what one row, or two, must keep
@@ -40,7 +40,7 @@ pub enum Piece {
     Nothing,
 }
 
-// The verdict on a text as typed, and how many rows it has.
+// A number that refuses a text as typed, or 0, and how many rows it has.
 pub struct TypedRows {
     pub number: usize,
     pub rows: usize,
@@ -114,9 +114,9 @@ pub fn judge_rows(
     lowest_of(alike, undeclared, unfit, over)
 }
 
-// Reads a text into the rows of a table, and judges its names and values as typed: 0, or the lowest of 1 to 3.
-pub fn judge_typed(s: &[u8], t: &mut [u16]) -> TypedRows
-    ensures { λ r. ⌜ (rowRoom ≤ length (now (t .entry)) → JudgesTyped (now (s .entry)) (now (t .exit)) r) ⌝ }
+// Reads a text into the rows of a table: 0, or 1 or 2.
+pub fn read_rows(s: &[u8], t: &mut [u16]) -> TypedRows
+    ensures { λ r. ⌜ (rowRoom ≤ length (now (t .entry)) → ReadsRows (now (s .entry)) (now (t .exit)) r) ⌝ }
 {
     if 32768 < s.len() {
         return TypedRows { number: 1, rows: 0 };
@@ -125,12 +125,25 @@ pub fn judge_typed(s: &[u8], t: &mut [u16]) -> TypedRows
     if !read.ok {
         return TypedRows { number: 2, rows: 0 };
     }
-    let n = read.count;
+    TypedRows {
+        number: 0,
+        rows: read.count,
+    }
+}
+
+// The same, and judges its names and values as typed: 0, or the lowest of 1 to 3.
+pub fn judge_typed(s: &[u8], t: &mut [u16]) -> TypedRows
+    ensures { λ r. ⌜ (rowRoom ≤ length (now (t .entry)) → JudgesTyped (now (s .entry)) (now (t .exit)) r) ⌝ }
+{
+    let read = read_rows(s, t);
+    if read.number != 0 {
+        return read;
+    }
     let none = [0u16; 1]; // the rule asks for no property
-    if some_row(s, t, n, &none, 0, Check::Rule) {
+    if some_row(s, t, read.rows, &none, 0, Check::Rule) {
         return TypedRows { number: 3, rows: 0 };
     }
-    TypedRows { number: 0, rows: n }
+    read
 }
 
 // The verdict on the first n rows, whose names are composed: 0, or the lowest of 4 to 7. Which rows are properties and pages is then in

@@ -1,7 +1,7 @@
 -- Laws of the table of rules: what the bits of its digits tell of a text, and its class by them.
 use Prim.Native.Nat.{ℕ, suc, _+_, _%_, _^_, _≤_, _<_}
 use mathlib.Core.Path.{_≡_, refl, sym, ap, ap₂, _∙_}
-use mathlib.Core.Bool.{Bool, true, false, cond, not, _&&_, _||_, and-assoc, and-true, and-false, and-eq-true-iff}
+use mathlib.Core.Bool.{Bool, true, false, cond, not, _&&_, _||_, and-assoc, and-true, and-false, and-eq-true-iff, false≢true}
 use mathlib.Core.List.{List, [], _∷_}
 use native.Mathlib.Numerals.{add-one}
 use native.Mathlib.Omega.{arith}
@@ -17,10 +17,11 @@ use Rattle.text.proofs.Laws.{any-three}
 use Rattle.text.proofs.Tables.{getD-tabulate}
 use Rattle.text.proofs.Keys.{Small}
 use Rattle.names.specs.Codes.{isPlain}
-use Rattle.names.specs.Names.{composed, isSome, isForm, hasNameShape, isSized, first, last, isName, isComposedName}
-use Rattle.names.proofs.Reading.{plain-range}
-use Rattle.names.proofs.Ascii.{isAscii, ascii-composed-name}
-use Rattle.names.proofs.Composed.{plain-name}
+use Rattle.names.specs.Names.{composed, isForm, hasNameShape, isSized, first, last, isComposedName}
+use Rattle.names.specs.Steps.{isLetterByte, pairedFrom}
+use Rattle.names.proofs.Naming.{composed-told}
+use Rattle.names.proofs.OwnForm.{own-told, own-plain, plain-letter}
+use Rattle.names.proofs.Composed.{plain-name, letter-name}
 use Rattle.values.specs.Names.{isValue}
 use Rattle.values.specs.Answers.{hasBareEnds}
 use Rattle.values.specs.ByteRules.{ruleOf, ruleTable, areBelow, RuledOut, nameClass}
@@ -70,9 +71,9 @@ module _ (t : List ℕ) (s : Bytes) where
 -- What the table has for a byte.
 digit-is : (b : ℕ) → b < 256 → getD ruleTable b 0 % 16 ≡ ruleOf b
 unfolding ruleTable ruleOf
-digit-is b l = ap (λ (n : ℕ). n % 16) (getD-tabulate 256 (λ n. 48 + ruleOf n) 0 b l) ∙ go (isPlain b) (ltb 127 b) (isValueByte b)
+digit-is b l = ap (λ (n : ℕ). n % 16) (getD-tabulate 256 (λ n. 48 + ruleOf n) 0 b l) ∙ go (isPlain b) (isLetterByte b) (isValueByte b)
   where
-    go : (p q r : Bool) → _≡_ {A = ℕ} ((48 + cond p 0 (cond q 4 (cond r 1 2))) % 16) (cond p 0 (cond q 4 (cond r 1 2)))
+    go : (p q r : Bool) → _≡_ {A = ℕ} ((48 + cond p 0 (cond q 1 (cond r 2 4))) % 16) (cond p 0 (cond q 1 (cond r 2 4)))
     go true q r = refl
     go false true r = refl
     go false false true = refl
@@ -80,45 +81,45 @@ digit-is b l = ap (λ (n : ℕ). n % 16) (getD-tabulate 256 (λ n. 48 + ruleOf n
 
 plain-digit : (b : ℕ) → b < 256 → ltb (getD ruleTable b 0 % 16) 1 ≡ isPlain b
 unfolding ruleOf
-plain-digit b l = rw (digit-is b l) (go (isPlain b) (ltb 127 b) (isValueByte b))
+plain-digit b l = rw (digit-is b l) (go (isPlain b) (isLetterByte b) (isValueByte b))
   where
-    go : (p q r : Bool) → ltb (cond p 0 (cond q 4 (cond r 1 2))) 1 ≡ p
+    go : (p q r : Bool) → ltb (cond p 0 (cond q 1 (cond r 2 4))) 1 ≡ p
     go true q r = refl
     go false true r = refl
     go false false true = refl
     go false false false = refl
 
-ascii-digit : (b : ℕ) → b < 256 → ltb (getD ruleTable b 0 % 16) 4 ≡ ltb b 128
+letter-digit : (b : ℕ) → b < 256 → ltb (getD ruleTable b 0 % 16) 2 ≡ isLetterByte b
 unfolding ruleOf
-ascii-digit b l = rw (digit-is b l) (go (isPlain b) (ltb 127 b) (isValueByte b) refl refl)
+letter-digit b l = rw (digit-is b l) (go (isPlain b) (isLetterByte b) (isValueByte b) refl refl)
   where
-    go : (p q r : Bool) → isPlain b ≡ p → ltb 127 b ≡ q → ltb (cond p 0 (cond q 4 (cond r 1 2))) 4 ≡ ltb b 128
-    go true q r e f = sym (lt-ltb b 128 (omega (arith, plain-range b e)))
-    go false true r e f = sym (le-ltb b 128 (omega (arith, ltb-true 127 b f)))
-    go false false true e f = sym (lt-ltb b 128 (omega (arith, ltb-false 127 b f)))
-    go false false false e f = sym (lt-ltb b 128 (omega (arith, ltb-false 127 b f)))
+    go : (p q r : Bool) → isPlain b ≡ p → isLetterByte b ≡ q → ltb (cond p 0 (cond q 1 (cond r 2 4))) 2 ≡ q
+    go true q r e f = sym (plain-letter b e) ∙ f
+    go false true r e f = refl
+    go false false true e f = refl
+    go false false false e f = refl
 
-value-digit : (b : ℕ) → b < 256 → ltb (getD ruleTable b 0 % 16) 2 ≡ (ltb b 128 && isValueByte b)
+value-digit : (b : ℕ) → b < 256 → ltb (getD ruleTable b 0 % 16) 4 ≡ isValueByte b
 unfolding ruleOf
-value-digit b l = rw (digit-is b l) (go (isPlain b) (ltb 127 b) (isValueByte b) refl refl refl)
+value-digit b l = rw (digit-is b l) (go (isPlain b) (isLetterByte b) (isValueByte b) refl refl refl)
   where
-    go : (p q r : Bool) → isPlain b ≡ p → ltb 127 b ≡ q → isValueByte b ≡ r → ltb (cond p 0 (cond q 4 (cond r 1 2))) 2 ≡ (ltb b 128 && r)
-    go true q r e f g = rw (lt-ltb b 128 (omega (arith, plain-range b e))) (sym (name-byte b (plain-name b e)) ∙ g)
-    go false true r e f g = rw (le-ltb b 128 (omega (arith, ltb-true 127 b f)))
-    go false false true e f g = rw (lt-ltb b 128 (omega (arith, ltb-false 127 b f)))
-    go false false false e f g = rw (lt-ltb b 128 (omega (arith, ltb-false 127 b f)))
+    go : (p q r : Bool) → isPlain b ≡ p → isLetterByte b ≡ q → isValueByte b ≡ r → ltb (cond p 0 (cond q 1 (cond r 2 4))) 4 ≡ r
+    go true q r e f g = sym (name-byte b (plain-name b e)) ∙ g
+    go false true r e f g = sym (name-byte b (letter-name b f)) ∙ g
+    go false false true e f g = refl
+    go false false false e f g = refl
 
 all-ext : (p q : ℕ → Bool) → ((b : ℕ) → b < 256 → p b ≡ q b) → (s : Bytes) → Small s → all p s ≡ all q s
 unfolding all
 all-ext p q h [] t = refl
 all-ext p q h (b ∷ s) t = ap₂ _&&_ (h b (t 0)) (all-ext p q h s (λ i. t (suc i)))
 
-ascii-values : (s : Bytes) → isAscii s ≡ true → all (λ b. ltb b 128 && isValueByte b) s ≡ all isValueByte s
+letters-values : (s : Bytes) → all isLetterByte s ≡ true → all isValueByte s ≡ true
 unfolding all
-ascii-values [] h = refl
-ascii-values (b ∷ s) h =
-    let e = and-eq-true-iff (ltb b 128) (isAscii s) .0 h in
-    rw (e .0, ascii-values s (e .1))
+letters-values [] h = refl
+letters-values (b ∷ s) h =
+    let e = and-eq-true-iff (isLetterByte b) (all isLetterByte s) .0 h in
+    rw (name-byte b (letter-name b (e .0)), letters-values s (e .1))
 
 -- What the bits tell of a text.
 module _ (t : List ℕ) (s : Bytes) (out : ℕ) (e : t ≡ ruleTable) (small : Small s) (r : RuledOut t s out) where
@@ -126,16 +127,13 @@ module _ (t : List ℕ) (s : Bytes) (out : ℕ) (e : t ≡ ruleTable) (small : S
   unfolding areBelow
   ruled-plain = r .below 0 ∙ rw e (all-ext (λ b. ltb (getD ruleTable b 0 % 16) 1) isPlain plain-digit s small)
 
-  ruled-ascii : ltb out 4 ≡ isAscii s
+  ruled-letters : ltb out 2 ≡ all isLetterByte s
   unfolding areBelow
-  ruled-ascii = r .below 2 ∙ rw e (all-ext (λ b. ltb (getD ruleTable b 0 % 16) 4) (λ b. ltb b 128) ascii-digit s small)
+  ruled-letters = r .below 1 ∙ rw e (all-ext (λ b. ltb (getD ruleTable b 0 % 16) 2) isLetterByte letter-digit s small)
 
-  ruled-value : isAscii s ≡ true → ltb out 2 ≡ all isValueByte s
+  ruled-value : ltb out 4 ≡ all isValueByte s
   unfolding areBelow
-  ruled-value h =
-      r .below 1
-      ∙ rw e (all-ext (λ b. ltb (getD ruleTable b 0 % 16) 2) (λ b. ltb b 128 && isValueByte b) value-digit s small)
-      ∙ ascii-values s h
+  ruled-value = r .below 2 ∙ rw e (all-ext (λ b. ltb (getD ruleTable b 0 % 16) 4) isValueByte value-digit s small)
 
 -- A text of class 2 is a composed name.
 pub class-two : (s : Bytes) → eqb (nameClass s) 2 ≡ isComposedName s
@@ -146,19 +144,10 @@ class-two s = go (isComposedName s) (isValue s)
     go false true = refl
     go false false = refl
 
--- The class, by the two tests.
-module _ (s : Bytes) (p : Bool) (e : p ≡ isComposedName s) where
-  pub wide-name : p ≡ true → 2 ≡ nameClass s
-  wide-name h = rw (← e, h)
-
-  module _ (h : p ≡ false) (q : Bool) (f : q ≡ isValue s) where
-    pub wide-value : q ≡ true → 1 ≡ nameClass s
-    wide-value k = rw (← e, h, ← f, k)
-
-    pub wide-neither : q ≡ false → 0 ≡ nameClass s
-    wide-neither k = rw (← e, h, ← f, k)
-
-pub ruleset wide = (wide-name, wide-value, wide-neither)
+begun-value : (a b c : Bool) → not (a || b || c) ≡ true → not b ≡ true
+begun-value true b c h = absurd (false≢true h)
+begun-value false true c h = absurd (false≢true h)
+begun-value false false c h = refl
 
 named : (z n o p q : Bool) → ((z && o && p && q) && n) ≡ ((z && (p && q)) && (n && o))
 named true true true p q = rw (and-true (p && q))
@@ -182,12 +171,14 @@ module _ (s : Bytes) (a d : Bool) (e : a ≡ isSized s) (g : d ≡ hasBareEnds s
   unfolding isValue
   value-sorted = rw (e, g) (sorted (isSized s) (all isValueByte s) (not (eqb (first s) 126)) (not (isBlank (first s))) (not (isBlank (last s))))
 
-  no-name : not (a && d) ≡ true → isComposedName s ≡ false
-  unfolding isComposedName isName
-  no-name h = rw (shape-sorted (isSome (composed s)), not-true (a && d) h)
+  abbrev begun : ℕ → Bool
+  begun x = not (eqb x 33 || eqb x 126 || eqb x 43)
+
+  name-sorted : isComposedName s ≡ ((a && d) && (isForm s (composed s) && not (oneOf "!~+" (first s))))
+  name-sorted = sym (composed-told s (hasNameShape s) refl (isForm s (composed s)) refl) ∙ shape-sorted (isForm s (composed s))
 
   pub class-unfit : not (a && d) ≡ true → 0 ≡ nameClass s
-  class-unfit h = rw (no-name h, value-sorted, not-true (a && d) h)
+  class-unfit h = rw (name-sorted, value-sorted, not-true (a && d) h)
 
   module _
       (x out : ℕ)
@@ -197,24 +188,46 @@ module _ (s : Bytes) (a d : Bool) (e : a ≡ isSized s) (g : d ≡ hasBareEnds s
       (t : List ℕ)
       (r : RuledOut t s out)
       (p : t ≡ ruleTable)
-      (low : out < 4)
     where
-      ascii : isAscii s ≡ true
-      ascii = sym (ruled-ascii t s out p small r) ∙ lt-ltb out 4 low
+      name-told : (q : Bool) → isForm s (composed s) ≡ q → isComposedName s ≡ (q && begun x)
+      name-told q k = name-sorted ∙ rw (not-false (a && d) h, k, ← f, any-three (eqb x) 33 126 43)
 
-      name-told : (q : Bool) → (ltb out 1 && not (eqb x 33 || eqb x 126 || eqb x 43)) ≡ q → isComposedName s ≡ q
-      name-told q k =
-          ascii-composed-name s ascii ∙ shape-sorted (all isPlain s)
-          ∙ rw (not-false (a && d) h, ← ruled-plain t s out p small r, ← f, any-three (eqb x) 33 126 43) k
+      value-told : (q : Bool) → (ltb out 4 && not (eqb x 126)) ≡ q → isValue s ≡ q
+      value-told q k = value-sorted ∙ rw (not-false (a && d) h, ← ruled-value t s out p small r, ← f) k
 
-      value-told : (q : Bool) → (ltb out 2 && not (eqb x 126)) ≡ q → isValue s ≡ q
-      value-told q k = value-sorted ∙ rw (not-false (a && d) h, ← ruled-value t s out p small r ascii, ← f) k
+      pub class-plain : (begun x && ltb out 1) ≡ true → 2 ≡ nameClass s
+      class-plain k =
+          let u = and-eq-true-iff (begun x) (ltb out 1) .0 k in
+          rw (name-told true (sym (own-plain s (ltb out 1) (ruled-plain t s out p small r) (u .1))), u .0)
 
-      pub class-name : (ltb out 1 && not (eqb x 33 || eqb x 126 || eqb x 43)) ≡ true → 2 ≡ nameClass s
-      class-name k = rw (name-told true k)
+      module _ (k : (begun x && ltb out 2) ≡ true) (q : Bool) (w : q ≡ pairedFrom 0 s) where
+        u : (begun x ≡ true) × (ltb out 2 ≡ true)
+        u = and-eq-true-iff (begun x) (ltb out 2) .0 k
 
-      pub class-value : (ltb out 1 && not (eqb x 33 || eqb x 126 || eqb x 43)) ≡ false → (ltb out 2 && not (eqb x 126)) ≡ true → 1 ≡ nameClass s
-      class-value k l = rw (name-told false k, value-told true l)
+        letters : all isLetterByte s ≡ true
+        letters = sym (ruled-letters t s out p small r) ∙ u .1
 
-      pub class-neither : (ltb out 1 && not (eqb x 33 || eqb x 126 || eqb x 43)) ≡ false → (ltb out 2 && not (eqb x 126)) ≡ false → 0 ≡ nameClass s
-      class-neither k l = rw (name-told false k, value-told false l)
+        form : isForm s (composed s) ≡ q
+        form = sym (own-told s true q (sym letters) w)
+
+        pub class-paired : q ≡ true → 2 ≡ nameClass s
+        class-paired e = rw (name-told true (form ∙ e), u .0)
+
+        pub class-unpaired : q ≡ false → 1 ≡ nameClass s
+        class-unpaired e =
+            let v : isValue s ≡ true = value-sorted ∙ rw (not-false (a && d) h, letters-values s letters, ← f) (begun-value (eqb x 33) (eqb x 126) (eqb x 43) (u .0)) in
+            rw (name-told false (form ∙ e), v)
+
+      no-name : (begun x && ltb out 2) ≡ false → isComposedName s ≡ false
+      no-name k = go (begun x) (ltb out 2) refl refl
+        where
+          go : (b l : Bool) → begun x ≡ b → ltb out 2 ≡ l → isComposedName s ≡ false
+          go true true e g = absurd (false≢true (sym k ∙ rw (e, g)))
+          go true false e g = name-told false (sym (own-told s false (pairedFrom 0 s) (sym g ∙ ruled-letters t s out p small r) refl))
+          go false l e g = name-told (isForm s (composed s)) refl ∙ rw e (and-false (isForm s (composed s)))
+
+      pub class-value : (begun x && ltb out 2) ≡ false → (ltb out 4 && not (eqb x 126)) ≡ true → 1 ≡ nameClass s
+      class-value k l = rw (no-name k, value-told true l)
+
+      pub class-neither : (begun x && ltb out 2) ≡ false → (ltb out 4 && not (eqb x 126)) ≡ false → 0 ≡ nameClass s
+      class-neither k l = rw (no-name k, value-told false l)

@@ -10,11 +10,13 @@ use Rattle.text.specs.Class.{isValueByte}
 use Rattle.text.specs.Table.{tabulate}
 use Rattle.names.specs.Codes.{isPlain}
 use Rattle.names.specs.Names.{isComposedName}
+use Rattle.names.specs.Steps.{isLetterByte}
 use Rattle.values.specs.Names.{isValue}
 
--- Of a byte: 0 where a name may have it by itself, 1 where only a value may, 2 where neither may, 4 from 128 up, where a name has pairs.
+-- Of a byte: 0 where a name may have it by itself, 1 where a composed name may have it in a pair, 2 where only a value may, 4 where neither
+-- may.
 unfoldable pub ruleOf : ℕ → ℕ
-ruleOf b = cond (isPlain b) 0 (cond (ltb 127 b) 4 (cond (isValueByte b) 1 2))
+ruleOf b = cond (isPlain b) 0 (cond (isLetterByte b) 1 (cond (isValueByte b) 2 4))
 
 -- Of each byte, as a digit in ASCII.
 unfoldable pub ruleTable : List ℕ

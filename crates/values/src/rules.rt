@@ -3,16 +3,16 @@ ghost use mathlib.Core.Path.{_≡_};
 ghost use Rattle.values.specs.ByteRules.{ruleTable, RuledOut, nameClass};
 use crate::has_bare_ends;
 use crate::is_sized;
-use crate::is_value;
-use names::is_composed_name;
+use names::own_form::all_paired;
 use text::byte_at;
 use text::widen;
 
-// A digit for each byte: 0 where a name may have it by itself, 1 where only a value may, 2 where neither may, 4 from 128 up.
+// A digit for each byte: 0 where a name may have it by itself, 1 where a composed name may have it in a pair, 2 where only a value may,
+// 4 where neither may.
 pub fn byte_rules() -> [u8; 256]
     ensures { λ r. ⌜ r ≡ ruleTable ⌝ }
 {
-    *b"2222222222222222222222222222222200210000000000000000000000102020000000000000000000000000000202010000000000000000000000000001210244444444444444444444444444444444444444444444444444444444444444444444444444444444444444444444444444444444444444444444444444444444"
+    *b"4444444444444444444444444444444400420000000000000000000000204040000000000000000000000000000404020000000000000000000000000002420411111111111111111111111111111111111111111111111111111111111111112211112222222222222222222222222222222222222222222222222222222222"
 }
 
 // The digits of all bytes by a table, their bits put together.
@@ -28,16 +28,6 @@ fn ruled_out<'a>(rules: &'a [u8], s: &'a [u8]) -> u8
     out % 16
 }
 
-// The class of a text that may have bytes from 128 up.
-fn wide_class(s: &[u8]) -> u16
-    ensures { λ r. ⌜ r ≡ nameClass (now (s .entry)) ⌝ }
-{
-    if is_composed_name(s) {
-        return 2;
-    }
-    if is_value(s) { 1 } else { 0 }
-}
-
 // 2 for a composed name, 1 for a value that is none, 0 for any other text. ASCII is gone over once.
 pub fn name_class<'a>(rules: &'a [u8], s: &'a [u8]) -> u16
     ensures { λ r. ⌜ (now (rules .entry) ≡ ruleTable → r ≡ nameClass (now (s .entry))) ⌝ }
@@ -48,11 +38,15 @@ pub fn name_class<'a>(rules: &'a [u8], s: &'a [u8]) -> u16
     }
     let first = byte_at(s, 0);
     let out = ruled_out(rules, s);
-    if 4 <= out {
-        return wide_class(s);
-    }
-    if (out < 1) & !((first == 33) | (first == 126) | (first == 43)) {
+    let begun = !((first == 33) | (first == 126) | (first == 43));
+    if begun & (out < 1) {
         return 2;
     }
-    if (out < 2) & (first != 126) { 1 } else { 0 }
+    if begun & (out < 2) {
+        if all_paired(s) {
+            return 2;
+        }
+        return 1;
+    }
+    if (out < 4) & (first != 126) { 1 } else { 0 }
 }

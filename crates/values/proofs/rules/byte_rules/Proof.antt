@@ -1,3 +1,4 @@
+use Rattle.names.specs.Steps.{isLetterByte}
 use mathlib.Core.Path.{refl}
 use Rattle.text.specs.Bytes.{any}
 use Rattle.text.specs.Class.{isNameByte, isValueByte}
@@ -8,7 +9,7 @@ use Rattle.values.proofs.rules.byte_rules.Statement.{statement}
 use Rattle.values.proofs.rules.byte_rules.Tie as tie
 
 returns : tie.Need-returns
-unfolding tabulate any isNameByte isValueByte isPlain ruleOf ruleTable
+unfolding tabulate any isNameByte isValueByte isPlain ruleOf ruleTable isLetterByte
 returns c = refl
 
 pub byte-rules-spec : {M : Type 1} → statement M

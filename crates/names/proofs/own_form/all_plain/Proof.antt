@@ -4,8 +4,8 @@ use lib.ListN.{length}
 use borrow.Author.Needs.{needs}
 use Rattle.names.specs.Codes.{isPlain}
 use Rattle.names.proofs.Walking.{Testing, tested-more, tested-all}
-use Rattle.names.proofs.all_plain.Statement.{statement}
-use Rattle.names.proofs.all_plain.Tie as tie
+use Rattle.names.proofs.own_form.all_plain.Statement.{statement}
+use Rattle.names.proofs.own_form.all_plain.Tie as tie
 
 abbrev Inv-loop : tie.InvT-loop
 Inv-loop s plain₀ i₀ plain i = Testing isPlain s plain i

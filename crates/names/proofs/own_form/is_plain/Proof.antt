@@ -1,7 +1,7 @@
 use Rattle.names.specs.Codes.{isPlain}
 use borrow.Author.Needs.{needs}
-use Rattle.names.proofs.is_plain.Statement.{statement}
-use Rattle.names.proofs.is_plain.Tie as tie
+use Rattle.names.proofs.own_form.is_plain.Statement.{statement}
+use Rattle.names.proofs.own_form.is_plain.Tie as tie
 
 in-class-requires : tie.Need-in-class-requires
 in-class-requires c κs = search needs
