@@ -1,6 +1,7 @@
 """The papers' own examples with their answers, in the vectors' shape: `cases.py` runs them."""
 import sys
 
+import accents
 from vectors import run
 
 SAMPLE = '''(prop "Brought by" page)
@@ -181,20 +182,37 @@ def accepted(label, register, pages, query, places, **more):
             'query_number': 0, 'count': len(places), 'marks': marks, **more}
 
 
+def register_refused(number, label, register):
+    return {'label': label, 'register': register, 'query': '', 'register_number': number}
+
+
+def query_refused(number, query):
+    return {'label': query[:60], 'register': SAMPLE, 'register_number': 0, 'query': query, 'query_number': number}
+
+
+def second_run(register, query, second, number, marks):
+    return {'label': f'{query} on another register', 'register': register, 'register_number': 0, 'query': query,
+            'query_number': 0, 'second': second, 'second_number': number, 'second_direct': marks}
+
+
+def accented():
+    """Request 4 (Ask 4): accented names typed two ways."""
+    for shape, some in ((accepted, accents.accepted()), (register_refused, accents.registers_refused()),
+                        (query_refused, accents.queries_refused()), (second_run, accents.second_runs())):
+        yield from (shape(*one) for one in some)
+
+
 def cases():
     for letter, query, places in LETTERED:
         yield accepted(letter, SAMPLE, 6, query, places)
-    for number, label, register in REGISTERS_REFUSED:
-        yield {'label': label, 'register': register, 'query': '', 'register_number': number}
-    for number, query in QUERIES_REFUSED:
-        yield {'label': query[:60], 'register': SAMPLE, 'register_number': 0, 'query': query, 'query_number': number}
+    yield from (register_refused(*one) for one in REGISTERS_REFUSED)
+    yield from (query_refused(*one) for one in QUERIES_REFUSED)
     for query, places, nodes in ACCEPTED:
         yield accepted(query[:60], SAMPLE, 6, query, places, nodes=nodes)
     for query, places in SECTION:
         yield accepted(query, TABLE, 11, query, places)
-    for register, query, second, number, marks in SECOND_RUNS:
-        yield {'label': f'{query} on another register', 'register': register, 'register_number': 0, 'query': query,
-               'query_number': 0, 'second': second, 'second_number': number, 'second_direct': marks}
+    yield from (second_run(*one) for one in SECOND_RUNS)
+    yield from accented()
 
 
 if __name__ == '__main__':

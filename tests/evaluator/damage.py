@@ -1,10 +1,12 @@
 """Forms that are changed, and forms of what is no register."""
 import tree_form
 from form import BYTES, FORMS, PAGES, PROPS, SIZE, STARTS, TERMS, TEXTS, encode
-from register import page_of, register_of
+from register import listed, page_of, register_of
+from respell import with_marks
 
 ROWS = ((PROPS, 3, 0), (PAGES, 2, 2), (STARTS, 2, 2), (FORMS, 2, None), (TERMS, 9, 4), (TEXTS, 2, 6))  # where, size, where the count is
-BAD_NAMES = [b'', b'a:b', b'a ', b' a', b'!a', b'~a', b'+', b'a_b', b'a"', b'\x7f', b'n' * 65, b'a\0', b'a\n', b'a]', b'a|']
+BAD_NAMES = [b'', b'a:b', b'a ', b' a', b'!a', b'~a', b'+', b'a_b', b'a"', b'\x7f', b'n' * 65, b'a\0', b'a\n', b'a]', b'a|', b'\xc2\x80', b'\xff',
+             b'a\xcc\x88', b'b\xcc\x88', b'\xc3\xa4\xcc\x88']
 BAD_STRINGS = [b'', b' x', b'x ', b'~x', b'x"', b'<', b'>', b'[', b'\x1f', b'x' * 65, b'x\n']
 
 
@@ -103,3 +105,31 @@ def form_of_broken(rng, register):
     """The form that a register would have if it were one, where it fits."""
     held = encode(broken(rng, register))
     return held if len(held) == SIZE else held[:SIZE]
+
+
+def with_names(thing, change):
+    """The lists of a register, a core query or the nodes of a tree, each name changed; strings, and the values of a tree, stay."""
+    if isinstance(thing, bytes):
+        return change(thing)
+    if not isinstance(thing, (list, tuple)) or thing[:1] in ((b'string',), (tree_form.VALUE,)):
+        return thing
+    parts = [with_names(part, change) for part in thing]
+    return thing._make(parts) if hasattr(thing, '_make') else type(thing)(parts)
+
+
+def uncomposed(rng, thing):
+    """The same with one name that is not composed, wherever that name stands; None where it has no accented name."""
+    found = set()
+    with_names(thing, found.add)
+    names = sorted(name for name in found if len(name) < len(with_marks(name)) <= 64)
+    if not names:
+        return None
+    chosen = rng.choice(names)
+    return with_names(thing, lambda name: with_marks(name) if name == chosen else name)
+
+
+def uncomposed_register(rng, register):
+    """The form that it would have, where it fits."""
+    found = uncomposed(rng, listed(register))
+    held = encode(register_of(found[0], [page_of(*page) for page in found[1]])) if found else b''
+    return held if len(held) == SIZE else None

@@ -2,6 +2,7 @@
 import random
 import sys
 
+import accents
 import generate
 from cases import SAMPLE, TABLE
 from form import BIAS, BYTES, FORMS, PAGES, PROPS, SIZE, STARTS, TERMS, TEXTS, decode, encode
@@ -86,6 +87,16 @@ def round_trips(tally, seed):
         tally.want(f'no round trip: {text[:200]}', len(held) == SIZE and is_register(register) and same(decode(held), register))
         number, again = register_call(other)
         tally.want(f'respelled as {number}: {other[:200]}', encode(again) == held if number == 0 else number in (1, 7))
+
+
+def spellings(tally):
+    """Names typed in two ways are one, and strings two (request 4)."""
+    tally.want('two spellings, two forms', len({encode(register_from(accents.bakeries(ways))) for ways in accents.BAKERIES_TYPED}) == 1)
+    one, other = (accents.typed(way, 'é') for way in accents.WAYS)
+    for kind, count in (('page', 1), ('string', 2)):
+        found = register_from(f'(prop "{one}" {kind})\n(page "" "a" (cat "{one}") (cat "{other}") (val "{one}" "{one}") (val "{other}" "{other}"))\n')
+        page = decode(encode(found)).pages[0]
+        tally.want(f'a {kind} in two spellings', len(page.held) == count and page.categories == [one.encode('latin-1')])
 
 
 def lengths(tally):
@@ -217,6 +228,7 @@ def main(words):
     rng = random.Random(f'changes {seed}')
     by_hand(tally)
     stated(tally)
+    spellings(tally)
     lengths(tally)
     round_trips(tally, seed)
     every_byte(tally, rng, register_from(SAMPLE), 1)

@@ -1,4 +1,5 @@
 """Trees that some text has, and trees that miss it by one thing: `odd_trees()` yields (label, whether it is held, bytes)."""
+from accents import held_names
 from tree_form import (AND, BAR, BARE, CATEGORY, EXISTS, LINK, NAMESPACE, NODE, NODES, OR, PROPERTY, QUALIFIED, SIZE, STRINGS, SUBQUERY, VALUE,
                        Node, lay, spelling)
 
@@ -105,7 +106,7 @@ def first_pieces():
 
 def names():
     for name, held in ((b'a ', False), (b' a', False), (b'a b', True), (b'', False), (b'a:b', False), (b'+', False), (b'!a', False), (b'a.b', True),
-                       (b'a]', False), (b'a|', False), (b'a<', False), (b'a\n', False), (b'\xff', False), (b'\xc3\xa4', True), (b'a\xcc\x88', False), (b'n' * 64, True), (b'n' * 65, False)):
+                       (b'a]', False), (b'a|', False), (b'a<', False), (b'a\n', False), (b'\xff', False), (b'n' * 64, True), (b'n' * 65, False), *held_names()):
         yield f'bare {name}', held, bare(name)
         yield f'>> {name}', held, bare(name, b'>>')
         yield f'category {name}', held, category(name)
@@ -114,7 +115,8 @@ def names():
         yield f'qualified {name}', held, qualified(b'T', name)
         yield f'property {name}', held and b'.' not in name, chain(EXISTENCE, name)
         yield f'a chain from {name}', held and b'.' not in name, chain(EXISTENCE, name, b'P')
-    for text, held in ((b'a ', False), (b' a', False), (b'', False), (b'a:b', True), (b'_', True), (b'x' * 64, True), (b'x' * 65, False), (b'"', False)):
+    for text, held in ((b'a ', False), (b' a', False), (b'', False), (b'a:b', True), (b'_', True), (b'x' * 64, True), (b'x' * 65, False), (b'"', False),
+                       (b'a\xcc\x88', True), (b'\xcc\x88', True), (b'\xff', True)):
         yield f'value {text}', held, chain(value(text, b'<'), b'P')
     for count, held in ((1, True), (8, True), (9, False)):
         yield f'{count} names', held, chain(value(b'1'), *[b'P'] * count)

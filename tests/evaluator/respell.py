@@ -8,14 +8,18 @@ from values import read_value, spelling
 WORDS = {True: [b'true', b'yes', b'1'], False: [b'false', b'no', b'0']}
 COLONS = [b':', b':', b' :', b': ', b' : ', b'  :', b':  ', b'  :  ']
 MAIN = [b'', b'', b'', b':', b':', b': ', b':  ']  # before a name of the main namespace
-
-
 LETTER = re.compile(rb'[\xc3-\xc5][\x80-\xbf]')
 
 
+def with_marks(name):
+    """A name with each accented letter as a letter and a mark."""
+    return unicodedata.normalize('NFD', name.decode()).encode()
+
+
 def retyped(rng, text):
-    """Some accented letters as a letter and a mark."""
-    return LETTER.sub(lambda found: unicodedata.normalize('NFD', found[0].decode()).encode() if rng.random() < 0.5 else found[0], text)
+    """Some accented letters, or all of them, as a letter and a mark."""
+    share = rng.choice([0.2, 0.5, 1])
+    return LETTER.sub(lambda found: with_marks(found[0]) if rng.random() < share else found[0], text)
 
 
 def typed(rng, name):

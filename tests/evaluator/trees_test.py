@@ -2,6 +2,7 @@
 import random
 import sys
 
+import accents
 import generate
 import query_form
 from cases import SAMPLE, cases
@@ -46,6 +47,13 @@ def trees_by_hand(tally):
     tally.want('groups leave no trace', tree_of(b'<q><q>[[a]]</q> AND [[b]]</q>[[c]]') == tree_of(b'[[a]][[b]]  [[c]]'))
     tally.want('a group that counts', tree_of(b'[[a]]<q>[[b]][[c]]</q>') != tree_of(b'[[a]][[b]][[c]]'))
     tally.want('a written colon', tree_of(b'[[:a]]') != tree_of(b'[[a]]'))
+
+
+def spellings(tally):
+    """Names typed in two ways are one; a value stays as typed, since it may be a string (request 4)."""
+    for text, same in (('[[Bäckerei||Köln:+||>Süd:é]] OR [[Käufe.Gehört zu::<q>[[Category:Händler]]</q>||+]]', True), ('[[Käufe::é]]', False)):
+        one, other = (tree_of(accents.typed(way, text).encode('latin-1')) for way in accents.WAYS)
+        tally.want(f'spellings of {text}', (one == other) == same)
 
 
 def query_by_hand(tally):
@@ -152,6 +160,7 @@ def refusals(tally):
 def main(words):
     tally, seed = Tally(), words[0] if words else '7'
     trees_by_hand(tally)
+    spellings(tally)
     query_by_hand(tally)
     stated(tally)
     round_trips(tally, seed)

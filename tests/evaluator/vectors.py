@@ -1,10 +1,10 @@
 """Runs the vectors: `vectors.py PATH` prints what differs, and last how many passed and failed."""
-import json
 import sys
 
 from ask import ask, direct
 from query import nodes, query_call
 from register import register_call
+from stored import load
 
 
 def digits(marks):
@@ -57,8 +57,7 @@ def run(cases):
 def main(words):
     if len(words) != 1:
         sys.exit(__doc__)
-    with open(words[0], encoding='utf-8') as lines:
-        sys.exit(1 if run(json.loads(line) for line in lines if line.strip()) else 0)
+    sys.exit(1 if run(load(words[0])) else 0)
 
 
 if __name__ == '__main__':

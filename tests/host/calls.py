@@ -1,7 +1,6 @@
 """Runs the calls from C on many cases and compares every number, mark and form with the separate evaluator.
 
-`calls.py HOST VECTORS SEED COUNT`: the papers' examples, the vectors, edges, forged forms, and COUNT random cases."""
-import json
+`calls.py HOST VECTORS SEED COUNT`: the papers' examples, the vectors, edges, names in two spellings, forged forms, and COUNT random cases."""
 import os
 import random
 import subprocess
@@ -23,6 +22,8 @@ from joins import made_joins
 from query import nodes, query_call
 from reading import read_query
 from register import register_call
+from spellings import made_spellings, uncomposed_forms, wanting
+from stored import load
 from trees import made_trees
 
 CHUNK = 500
@@ -86,9 +87,7 @@ def run_host(host, made):
 
 def run_stated(job):
     host, vectors = job
-    with open(vectors, encoding='utf-8') as lines:
-        found = [json.loads(line) for line in lines] + list(cases.cases())
-    return run_host(host, [*map(stated, found), *handmade()])
+    return run_host(host, [*map(stated, [*load(vectors), *cases.cases()]), *handmade()])
 
 
 def run_joins(job):
@@ -97,6 +96,10 @@ def run_joins(job):
 
 def run_trees(job):
     return run_host(job, list(made_trees()))
+
+
+def run_spellings(job):
+    return run_host(job, list(made_spellings()))
 
 
 def run_drawn(job):
@@ -108,6 +111,9 @@ def run_drawn(job):
         events += counting.drawn(texts, made[-1][1])
         if number % 4 == 0:
             made += forged(rng, *texts)
+            for refusal, one in uncomposed_forms(rng, *texts[:2]):
+                made.append(wanting(one, refusal))
+                events['uncomposed', refusal] += 1
     return (*run_host(host, made), events)
 
 
@@ -121,7 +127,8 @@ def main(host, vectors, seed, count):
     count = int(count)
     jobs = [(host, f'{seed} {start}', min(CHUNK, count - start)) for start in range(0, count, CHUNK)]
     with Pool(min(2, os.cpu_count() or 1)) as pool:
-        first = [pool.apply_async(run, (job,)) for run, job in ((run_joins, host), (run_trees, host), (run_stated, (host, vectors)))]
+        first = [pool.apply_async(run, (host,)) for run in (run_joins, run_trees, run_spellings)]
+        first.append(pool.apply_async(run_stated, ((host, vectors),)))
         results = [*pool.imap_unordered(run_drawn, jobs)]
         drawn, calls = (sum((result[at] for result in results), Counter()) for at in (3, 2))
         results += [one.get() for one in first]

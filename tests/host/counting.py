@@ -1,17 +1,23 @@
-"""What drawn cases come to: how often each call answers each number, a join is over each limit, and a query selects pages."""
+"""What drawn cases come to: how often each call answers each number, a join is over each limit, a query selects pages, and names are typed in two
+spellings."""
 from collections import Counter
 
 from records import query_call, register_call  # finds the evaluator
 from ask import selected
 from join import all_of_both
 from register import limits_passed
+from typed_names import in_query, in_register, in_two_spellings, marked
 
 READ = [0, *range(12, 17)]
 NUMBERS = {'register': [*range(9)], 'read': [*READ, 33], 'fit': [0, 11, *range(17, 21), 34], 'query': [0, *range(11, 21)], 'ask': [0, *range(21, 25)], 'join': [0, 7, 8, 22, 32]}
 LIMITS = ['properties', 'pages', 'forms', 'bytes']
 # By the evaluator: a drawn case lends buffers long enough and held forms that are forms. All other numbers are counted by the host.
+# Names are typed with combining marks in one place and composed in another, or in 64 bytes with such marks, or are not composed in a held form
+# and refused by the number there.
 DRAWN = {'register': [*range(8)], 'read': READ, 'query': [0, *range(12, 20)], 'join': [0, 7, 32], 'over': LIMITS,
-         'marks': ['all', 'none', 'some'], 'nested': ['none', 'some']}
+         'marks': ['all', 'none', 'some'], 'nested': ['none', 'some'],
+         'two spellings': ['in a join', 'in a query and its register', 'in a register', 'in a tree'],
+         '64 bytes with marks': ['in a query', 'in a register'], 'uncomposed': [11, 21, 22, 34]}
 # At least so many in a hundred: of the queries accepted for a register and run on it, those that mark some of its pages and not all; of the
 # subqueries that are inside another in the core queries of these (so a chain and a link are subqueries too), those that select a page of it.
 SHARES = {('marks', 'some'): 50, ('nested', 'some'): 25}
@@ -34,17 +40,38 @@ def runs_drawn(first, query, marks):
     yield from (('nested', 'some' if pages else 'none') for inside, pages in subqueries if inside)
 
 
+def names_drawn(texts, words):
+    """How the names of accepted texts are typed."""
+    first, query, second = texts
+    one, two = (in_register(text) if word == '0' else set() for text, word in zip((first, second), words))
+    asked = in_query(query, register_call(first)[1].kinds) if words[0] == '0' == words[2] else set()
+    joined = two if number_behind('join', words) == 0 else set()
+    pairs = ('in a register', one, one), ('in a register', two, two), ('in a query and its register', asked, one), ('in a join', one, joined)
+    yield from (('two spellings', place) for place, some, others in pairs if in_two_spellings(some, others))
+    if number_behind('read', words) == 0 and marked(in_query(query, {})):
+        yield 'two spellings', 'in a tree'
+    for place, some in (('in a register', one), ('in a register', two), ('in a query', asked)):
+        if any(len(name) == 64 for name in marked(some)):
+            yield '64 bytes with marks', place
+
+
+def number_behind(word, words):
+    """The refusal, or None where the call was not made."""
+    return -int(words[words.index(word) + 1]) if word in words else None
+
+
 def drawn(texts, line):
     """The events of a drawn case, by the line that the evaluator gives."""
     first, query, second = texts
     words = line.split()
     found = Counter(('register', -int(word)) for word in words[:2])
-    found['read', -int(words[words.index('read') + 1])] += 1
+    found['read', number_behind('read', words)] += 1
     if words[0] == '0':
         found['query', -int(words[2])] += 1
         found.update(runs_drawn(first, query, words[4]) if words[2] == '0' else ())
     if 'join' in words:
-        found.update(joins_drawn(first, second, -int(words[words.index('join') + 1])))
+        found.update(joins_drawn(first, second, number_behind('join', words)))
+    found.update(names_drawn(texts, words))
     return found
 
 

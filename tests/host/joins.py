@@ -132,6 +132,8 @@ def single_bytes():
     text = b'[[Category:a]] OR [[a]] OR [[b]]'  # of two pages, all kinds
     query = query_form.held_query(query_call(register_call(b'')[1], text)[1])
     yield from edit_cases(query, b'[[S::a]] OR [[N::>7]] OR [[L::T:a]] OR [[B::1]]', laid(), all_edits_of(laid()))
+    accented = held_register(b'(prop "\xc3\xbc" page)\n(page "\xc3\x96" "\xc5\xbfa" (cat "\xc3\xa9") (val "\xc3\xbc" "\xc3\x96:\xc5\xbfa"))\n')
+    yield from edit_cases(query, b'[[u\xcc\x88::\xc3\x96:\xc5\xbfa]]', accented, all_edits_of(accented))
 
 
 def made_joins():

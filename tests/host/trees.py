@@ -99,7 +99,7 @@ def edit_cases(tree, held, edits):
 def single_bytes():
     """Small trees with each byte that they use changed to every other value and each byte behind them once; some bytes of large ones."""
     rng = random.Random('single bytes of trees')
-    for text in (b'[[D1||Talk:+]]', b'[[Category:Note]]OR[[!a]]', b'[[Brought by.In region::+||>D]]'):
+    for text in (b'[[D1||Talk:+]]', b'[[Category:Note]]OR[[!a]]', b'[[Brought by.In region::+||>D]]', b'[[\xc3\x96:\xc5\xbfa||\xc3\xa9]]'):
         tree = tree_of(text)
         yield from edit_cases(tree, HELD_SAMPLE, other_bytes(tree, used_places(tree)))
         yield from edit_cases(tree, HELD_SAMPLE, [(at, rng.randrange(1, 256)) for at in sorted({*range(TREE)} - {*used_places(tree)})])

@@ -8,9 +8,11 @@ from library import Library  # finds the evaluator
 import cases
 import generate
 import query_form
+import spellings
 import tree_form
 from ask import ask
 from damage import damaged, damaged_tree, form_of_broken
+from damaged_queries import damaged_query
 from form import SIZE, decode, encode
 from forms_test import Tally, sized
 from join import join
@@ -19,6 +21,7 @@ from odd_trees import odd_trees
 from query import fit_call, query_call
 from reading import read_query
 from register import page_of, register_call, register_of
+from respell import typed
 
 
 def compare_register(tally, library, text):
@@ -95,6 +98,13 @@ def compare_form(tally, library, held, other, label):
         tally.want(f'22 {label}', library.join(held, other)[0] == 22 and library.join(other, held)[0] == 22)
 
 
+def compare_held_query(tally, library, query, register, held, label):
+    """Bytes that are perhaps a held query."""
+    number, marks = ask(query_form.read_query(query), register)
+    found = library.ask(query, held, len(register.pages))
+    tally.want(f'held query {label}', found == (number, -number if number else sum(marks), marks))
+
+
 def compare_case(tally, library, rng, texts, damages, label):
     first, query, second = texts
     (one, held_one), (two, held_two) = (compare_register(tally, library, text) for text in (first, second))
@@ -104,6 +114,7 @@ def compare_case(tally, library, rng, texts, damages, label):
     for register, held in ((one, held_one), (two, held_two)):
         if core and register:
             compare_ask(tally, library, core, made, register, held, f'{label} {query[:100]}')
+            compare_held_query(tally, library, damaged_query(rng, made), register, held, f'{label} damaged')
     if one and two:
         compare_join(tally, library, one, two, label)
         for number in range(damages):
@@ -123,9 +134,31 @@ def tree_edges(tally, library):
         tally.want(f'{label} is stated', (found[0] != 34) == is_tree)
 
 
+def name_edges(tally, library):
+    """Names as typed and as held, by themselves and in every place."""
+    kinds = [(b'P', b'page'), (b'S', b'string'), ('\u00e4'.encode(), b'number')]
+    register = register_of(kinds, [page_of(b'', '\u00e4'.encode(), [], [(b'S', (b'string', 'a\u0308'.encode()))])])
+    held, rng = encode(register), random.Random('names')
+    for name in spellings.all_names():
+        compare_read(tally, library, b'[[%s]]' % name)
+        compare_fit(tally, library, next(spellings.trees(name)), register, held, name)
+    for name in spellings.SOME:
+        for tree in spellings.trees(name):
+            compare_fit(tally, library, tree, register, held, name)
+        for query in spellings.queries(name):
+            compare_held_query(tally, library, query, register, held, name)
+        for broken in spellings.registers(name):
+            compare_form(tally, library, encode(broken), held, name)
+        for text in spellings.texts(name, typed(rng, name)):
+            compare_register(tally, library, text)
+        for body in (b'[[%s:+]]', b'[[Category:%s]]', b'[[!%s:a]]', b'[[%s::+]]', b'[[P.%s::1]]', b'[[P::%s]]', b'[[P::>%s: b]]', b'[[S::%s]]'):
+            compare_query(tally, library, register, held, body % name)
+
+
 def edges(tally, library):
     """Forms that are written by hand, limits of a join and of a form, and registers that no text gives."""
     tree_edges(tally, library)
+    name_edges(tally, library)
     for label, is_form, held in odd_forms():
         tally.want(f'{label} is stated', library.is_register(held) == is_form)
         compare_form(tally, library, held, bytes(SIZE), label)
