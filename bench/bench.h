@@ -37,6 +37,9 @@ struct calls {
 enum { PROVED, PLAIN, LOOPS, FIRST, IMPLEMENTATIONS };
 extern const struct calls calls_of[IMPLEMENTATIONS];
 static inline int is_built(int i) { return calls_of[i].held > 0; }
+/* The library before it composed names. It has a table of its own. */
+extern const struct calls calls_before;
+static inline int is_before_built(void) { return calls_before.held > 0; }
 
 /* The same question as a query text and as SQL. */
 struct question {
@@ -67,6 +70,16 @@ struct work {
     struct statement *statement;
 };
 
+/* One run of a call on these. */
+void make_register(const struct work *w);
+void make_query(const struct work *w);
+void make_tree(const struct work *w);
+void fit_tree(const struct work *w);
+void make_and_fit(const struct work *w);
+void run_query(const struct work *w);
+void make_join(const struct work *w);
+void test_form(const struct work *w);
+
 enum { COLUMNS = IMPLEMENTATIONS + 1, SQLITE = IMPLEMENTATIONS };
 /* Those up to JOIN are calls; then what is timed beside them. */
 enum call { REGISTER, READ, FIT, QUERY, ASK, JOIN, READ_AND_FIT, TEST, CALLS };
@@ -82,6 +95,8 @@ struct row {
     double us[COLUMNS];
 };
 
+/* Times those that run, batch by batch in turn: microseconds. */
+void time_in_turn(void (*run)(const struct work *), const struct work *w, const int *runs, int count, int batches, double *us);
 /* Times the columns that run, fills the row in and prints it. */
 void time_row(struct row row, void (*run)(const struct work *), const struct work w[COLUMNS], const int runs[COLUMNS]);
 void print_head(void);
@@ -102,8 +117,15 @@ typedef const struct register_text *text_pair[2];
 void measure_stacks(const struct register_text *const *texts, size_t text_count, const text_pair *pairs, size_t pair_count, struct stacks *out);
 void print_stacks(const struct stacks *stacks);
 
+/* A register text and questions to it, before and now. The register call and the asks may take `most` times as long. */
+void print_before_head(void);
+void time_before(const char *subject, const struct register_text *text, const struct question *questions, size_t count, double most);
+void figures_before(void);
+
 /* What is asked of the times and stacks, and whether it is met. */
 void print_figures(const struct stacks *stacks);
+/* `most` is whether the figure is the most that is allowed, and not the least that is wanted. */
+void print_figure(const char *what, const char *where, double found, int most, double wanted);
 
 _Noreturn void stop(const char *what);
 

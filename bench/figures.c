@@ -6,11 +6,10 @@
 
 static int missed;
 
-/* `most` is whether the figure is the most that is allowed, and not the least that is wanted. */
-static void print_figure(const char *what, const char *where, double found, int most, double wanted) {
+void print_figure(const char *what, const char *where, double found, int most, double wanted) {
     int met = most ? found <= wanted : found >= wanted;
     missed += !met;
-    printf("| %s | %s | %.*f | %s %.0f | %s |\n", what, where, wanted < 100 ? 2 : 0, found, most ? "at most" : "at least", wanted, met ? "met" : "missed");
+    printf("| %s | %s | %.*f | %s %g | %s |\n", what, where, wanted < 100 ? 2 : 0, found, most ? "at most" : "at least", wanted, met ? "met" : "missed");
 }
 
 static const struct row *row_at(const char *subject, enum call call, const char *label) {
@@ -78,5 +77,9 @@ void print_figures(const struct stacks *stacks) {
     figure_of_worst(REGISTER, "register calls on the worst inputs beside the full register's", row_at("full", REGISTER, NULL), 4);
     figure_of_worst(JOIN, "joins of the worst inputs beside the full register's", row_at("full", JOIN, NULL), 4);
     figure_of_stacks(stacks);
-    printf("\n%d figures missed%s.\n", missed, is_built(FIRST) ? "" : "; the first handover is not in this run (FIRST=1)");
+    figures_before();
+    printf("\n%d figures missed", missed);
+    if (!is_built(FIRST)) printf("; the first handover is not in this run (FIRST=1)");
+    if (!is_before_built()) printf("; the library before it composed names is not in this run (BEFORE=1)");
+    puts(".");
 }

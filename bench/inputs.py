@@ -1,17 +1,23 @@
 """Writes the register texts of the benchmark: `inputs.py DIRECTORY`.
 
 `sample.txt`, `full.txt` and the inputs that must not be slow: `NAME.txt`, as much as one text holds, and `NAME-1.txt` and `NAME-2.txt`, which
-are joined. The full register has halves likewise."""
+are joined. The full register has halves likewise. Registers full of accented names: `NAME-composed.txt`, and `NAME-typed.txt` with each
+of their letters typed as a letter and a mark; `NAME-composed-queries.txt` and `NAME-typed-queries.txt`, a query a line."""
 import os
 import string
 import sys
+import unicodedata
 
 sys.path.insert(0, os.path.join(os.path.dirname(os.path.abspath(__file__)), '..', 'tests', 'evaluator'))
 
 from cases import SAMPLE
 
+MOST_BYTES = 32768
 LETTERS = string.ascii_letters + string.digits
-LAST_BYTES = LETTERS + ''.join(map(chr, range(128, 194)))
+LAST_BYTES = LETTERS + '-='
+# The letters from U+00C0 to U+017F that are a letter and a mark.
+ACCENTED = [chr(code) for code in range(0xC0, 0x180) if unicodedata.normalize('NFD', chr(code)) != chr(code)]
+N, L, S, C, D = '\u00d1\u0139\u015a\u010d\u010f'  # what the full register names N, L, S, c and d
 
 
 def full_register(places=range(256)):
@@ -59,9 +65,9 @@ def short_categories():
 
 
 def long_name(number):
-    """A name of 64 bytes. A last byte has fewer than 256 values, so that the one before it has two."""
+    """A name of 64 bytes. A last byte has fewer than 256 values, so that the one before it has four."""
     number = number * 37 % 256
-    return 'all of these names are alike up to their last two bytes, these' + ' -'[number // 128] + LAST_BYTES[number % 128]
+    return 'all of these names are alike up to their last two bytes, these' + ' ,-='[number // 64] + LAST_BYTES[number % 64]
 
 
 def names(numbers, links=255):
@@ -75,10 +81,46 @@ def names(numbers, links=255):
 
 def properties(places):
     """64 link properties with names of 64 bytes that differ in the last one, and pages that link to the next under the last of them."""
-    names = ['all of these names are alike up to their last two bytes, these ' + last for last in LETTERS + '-=']
+    names = ['all of these names are alike up to their last two bytes, these ' + last for last in LAST_BYTES]
     lines = [f'(prop "{name}" page)\n' for name in names]
     lines += [f'(page "" "p{i}" (val "{names[-1]}" "p{(i + 1) % 256}"))\n' for i in places]
     return ''.join(lines)
+
+
+def accented(number, length=2):
+    """A name of accented letters for a number below 256; the first two say which."""
+    letters_behind = (ACCENTED[(number + 31 * place) % len(ACCENTED)] for place in range(2, length))
+    return ACCENTED[number % 16] + ACCENTED[number // 16] + ''.join(letters_behind)
+
+
+def accented_register(count):
+    """The full register's shape with accented names only, and queries: a category, a link."""
+    lines = [f'(prop "{N}" number)\n', f'(prop "{L}" page)\n', f'(prop "{S}" string)\n']
+    for i in range(count):
+        forms = f' (cat "{C}{ACCENTED[i % 8]}") (cat "{D}{ACCENTED[i % 3]}") (val "{N}" "{i}") (val "{L}" "{accented(i * 7 % count)}")'
+        forms += ''.join(f' (val "{S}" "{(i + k) % 10}")' for k in range(4))
+        lines.append(f'(page "" "{accented(i)}"{forms})\n')
+    return ''.join(lines), [f'[[Category:{C}{ACCENTED[5]}]]', f'[[{L}::{accented(5)}]]']
+
+
+def long_accented_register(count):
+    """Names of 21 accented letters and another, 64 bytes as typed, each page with a category and a link to another page."""
+    names = [accented(i, 21) + 'e' for i in range(count)]
+    lines = [f'(prop "{L}" page)\n']
+    lines += [f'(page "" "{names[i]}" (cat "{C}{ACCENTED[i % 8]}") (val "{L}" "{names[i * 7 % count]}"))\n' for i in range(count)]
+    return ''.join(lines), [f'[[Category:{C}{ACCENTED[5]}]]', f'[[{L}::{names[5]}]]']
+
+
+def typed(text):
+    return unicodedata.normalize('NFD', text)
+
+
+def accents():
+    """(name, text); as many pages as there may be, or as fit as typed."""
+    for name, make in (('accents', accented_register), ('long-accents', long_accented_register)):
+        text, queries = next(made for made in map(make, range(256, 0, -1)) if len(typed(made[0]).encode()) <= MOST_BYTES)
+        lines = ''.join(query + '\n' for query in queries)
+        yield from ((f'{name}-composed', text), (f'{name}-composed-queries', lines), (f'{name}-typed', typed(text)), (f'{name}-typed-queries', typed(lines)))
 
 
 def texts():
@@ -93,11 +135,12 @@ def texts():
                               ('properties', properties, 256)):
         for half in (0, 1):
             yield f'{name}-{half + 1}', make(range(half * count // 2, (half + 1) * count // 2))
+    yield from accents()
 
 
 def main(directory):
     for name, text in texts():
-        with open(os.path.join(directory, name + '.txt'), 'w', encoding='latin-1', newline='') as out:
+        with open(os.path.join(directory, name + '.txt'), 'w', encoding='utf-8', newline='') as out:
             out.write(text)
 
 

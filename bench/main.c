@@ -5,7 +5,7 @@
 
 #include "bench.h"
 
-enum { MOST_WORST_QUESTIONS = 3 };
+enum { MOST_WORST_QUESTIONS = 3, ACCENT_QUESTIONS = 2 };
 
 /* A text, or two that are joined, or both. */
 struct subject {
@@ -14,51 +14,6 @@ struct subject {
     struct register_text text, half[2];
     uint8_t held[IMPLEMENTATIONS][HELD_BYTES], held_half[2][IMPLEMENTATIONS][HELD_BYTES];
 };
-
-static void make_register(const struct work *w) {
-    static uint8_t held[HELD_BYTES];
-    if (w->calls == NULL) base_free(base_load(w->text, w->len));
-    else if (w->calls->reg(w->text, w->len, held, w->calls->held) != 0) stop("a register is refused");
-}
-
-static void make_query(const struct work *w) {
-    static uint8_t query[QUERY_BYTES];
-    if (w->calls == NULL) statement_free(base_prepare(w->base, w->question->sql));
-    else if (w->calls->query(w->held, w->calls->held, w->text, w->len, query, sizeof query) != 0) stop("a query is refused");
-}
-
-static void make_tree(const struct work *w) {
-    static uint8_t tree[TREE_BYTES];
-    if (w->calls->read(w->text, w->len, tree, sizeof tree) != 0) stop("a text is refused");
-}
-
-static void fit_tree(const struct work *w) {
-    static uint8_t query[QUERY_BYTES];
-    if (w->calls->fit(w->tree, TREE_BYTES, w->held, w->calls->held, query, sizeof query) != 0) stop("a tree is refused");
-}
-
-static void make_and_fit(const struct work *w) {
-    static uint8_t tree[TREE_BYTES];
-    struct work made = *w;
-    if (w->calls->read(w->text, w->len, tree, sizeof tree) != 0) stop("a text is refused");
-    made.tree = tree;
-    fit_tree(&made);
-}
-
-static void run_query(const struct work *w) {
-    static uint8_t marks[MARK_BYTES];
-    if (w->calls == NULL) statement_run(w->statement, marks);
-    else if (w->calls->ask(w->query, QUERY_BYTES, w->held, w->calls->held, marks, sizeof marks) < 0) stop("an ask is refused");
-}
-
-static void make_join(const struct work *w) {
-    static uint8_t held[HELD_BYTES];
-    if (w->calls->join(w->held, w->calls->held, w->second, w->calls->held, held, w->calls->held) != 0) stop("a join is refused");
-}
-
-static void test_form(const struct work *w) {
-    if (!w->calls->test(w->held, w->calls->held)) stop("a form is refused");
-}
 
 static struct row row_of(const struct subject *on, enum call call) { return (struct row){.subject = on->name, .call = call, .worst = on->worst}; }
 
@@ -147,6 +102,7 @@ static void time_register(struct subject *on, int with_sqlite) {
     int runs[COLUMNS] = {[SQLITE] = with_sqlite};
     for (int i = 0; i < COLUMNS; i++) w[i] = (struct work){.calls = i == SQLITE ? NULL : &calls_of[i], .text = on->text.at, .len = on->text.len};
     for (int i = 0; i < IMPLEMENTATIONS; i++) runs[i] = is_built(i), make_form(i, &on->text, on->held[i]);
+    if (memcmp(on->held[PROVED], on->held[PLAIN], calls_of[PLAIN].held) != 0) stop("the forms differ");
     time_row(row_of(on, REGISTER), make_register, w, runs);
 }
 
@@ -188,6 +144,14 @@ static void time_worst(struct subject *on, const struct question *questions, siz
     for (size_t i = 0; i < count && questions[i].label != NULL; i++) time_question(on, &questions[i], NULL, runs);
 }
 
+/* Names with accents: a register call on a text, and questions to it. */
+static void time_accents(struct subject *on, const struct question questions[ACCENT_QUESTIONS]) {
+    static const int runs[COLUMNS] = {1, 1, 1};
+    time_register(on, 0);
+    time_test(on);
+    for (int i = 0; i < ACCENT_QUESTIONS; i++) time_question(on, &questions[i], NULL, runs);
+}
+
 static void read_text(struct register_text *out, const char *directory, const char *name, const char *end) {
     char path[4096];
     snprintf(path, sizeof path, "%s/%s%s.txt", directory, name, end);
@@ -200,6 +164,20 @@ static void read_text(struct register_text *out, const char *directory, const ch
 static void read_subject(struct subject *out, const char *directory, const char *file, int with_halves) {
     read_text(&out->text, directory, file, "");
     for (int half = 0; half < 2 && with_halves; half++) read_text(&out->half[half], directory, file, half == 0 ? "-1" : "-2");
+}
+
+/* A query a line. */
+static void read_questions(struct question out[ACCENT_QUESTIONS], const char *directory, const char *file) {
+    static const char *const labels[ACCENT_QUESTIONS] = {"category", "a link"};
+    struct register_text text;
+    read_text(&text, directory, file, "-queries");
+    const uint8_t *at = text.at, *end = text.at + text.len, *line;
+    for (int i = 0; i < ACCENT_QUESTIONS; i++, at = line + 1) {
+        line = memchr(at, '\n', (size_t)(end - at));
+        if (line == NULL || (size_t)(line - at) >= sizeof out[i].query) stop("no query");
+        out[i] = (struct question){.label = labels[i]};
+        memcpy(out[i].query, at, (size_t)(line - at));
+    }
 }
 
 /* The inputs that must not be slow, and what is asked of them. The names of the last two have 64 bytes. */
@@ -224,9 +202,32 @@ static const struct {
 };
 enum { WORST_COUNT = sizeof WORST / sizeof *WORST };
 
+/* Registers full of accented names, each twice: as they are held, and with every letter typed as a letter and a mark. */
+static const struct {
+    const char *file, *name;
+} ACCENTS[] = {
+    {"accents-composed", "accented names"}, {"accents-typed", "accented names typed with marks"},
+    {"long-accents-composed", "long accented names"}, {"long-accents-typed", "long accented names typed with marks"},
+};
+enum { ACCENT_COUNT = sizeof ACCENTS / sizeof *ACCENTS, TEXT_COUNT = 1 + WORST_COUNT + ACCENT_COUNT };
+
+/* What request 4 may cost. */
+static const double MOST_ON_FULL = 1.1, MOST_ON_ACCENTS = 2;
+
+static void compare_before(const struct subject *full, const struct subject accents[ACCENT_COUNT], struct question questions[][ACCENT_QUESTIONS]) {
+    struct question of_full[QUESTIONS + 1];
+    write_questions(1, of_full);
+    of_full[QUESTIONS] = (struct question){.label = "a link", .query = "[[L::p5]]"};
+    print_before_head();
+    time_before(full->name, &full->text, of_full, QUESTIONS + 1, MOST_ON_FULL);
+    for (int i = 0; i < ACCENT_COUNT; i++) time_before(accents[i].name, &accents[i].text, questions[i], ACCENT_QUESTIONS, MOST_ON_ACCENTS);
+    putchar('\n');
+}
+
 int main(int argc, char **argv) {
-    static struct subject sample = {.name = "sample"}, full = {.name = "full"}, worst[WORST_COUNT];
-    const struct register_text *texts[WORST_COUNT + 1] = {&full.text};
+    static struct subject sample = {.name = "sample"}, full = {.name = "full"}, worst[WORST_COUNT], accents[ACCENT_COUNT];
+    static struct question accent_questions[ACCENT_COUNT][ACCENT_QUESTIONS];
+    const struct register_text *texts[TEXT_COUNT] = {&full.text};
     text_pair pairs[WORST_COUNT + 1] = {{&full.half[0], &full.half[1]}};
     struct stacks stacks;
     if (argc != 2) stop("give the directory of the register texts");
@@ -240,11 +241,19 @@ int main(int argc, char **argv) {
         worst[i].name = WORST[i].name, worst[i].worst = 1;
         read_subject(&worst[i], argv[1], WORST[i].file, 1);
         time_worst(&worst[i], WORST[i].questions, MOST_WORST_QUESTIONS);
-        texts[i + 1] = &worst[i].text;
+        texts[1 + i] = &worst[i].text;
         for (int half = 0; half < 2; half++) pairs[i + 1][half] = &worst[i].half[half];
     }
+    for (int i = 0; i < ACCENT_COUNT; i++) {
+        accents[i].name = ACCENTS[i].name;
+        read_subject(&accents[i], argv[1], ACCENTS[i].file, 0);
+        read_questions(accent_questions[i], argv[1], ACCENTS[i].file);
+        time_accents(&accents[i], accent_questions[i]);
+        texts[1 + WORST_COUNT + i] = &accents[i].text;
+    }
     putchar('\n');
-    measure_stacks(texts, WORST_COUNT + 1, pairs, WORST_COUNT + 1, &stacks);
+    if (is_before_built()) compare_before(&full, accents, accent_questions);
+    measure_stacks(texts, TEXT_COUNT, pairs, WORST_COUNT + 1, &stacks);
     print_stacks(&stacks);
     putchar('\n');
     print_figures(&stacks);

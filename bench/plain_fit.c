@@ -7,6 +7,7 @@ struct fitter {
     uint8_t prop[MOST_TREE]; /* the number of the property that a node names */
     bool unfit;
     struct core *out;
+    struct room room;
 };
 
 static void emit(struct fitter *f, struct node node) {
@@ -44,7 +45,7 @@ static void emit_subquery(struct fitter *f, unsigned prop) {
 static void emit_piece(struct fitter *f, const struct tree_node *n, unsigned prop) {
     struct node node = {.tag = VALUE, .name = prop_name(f, prop)};
     const struct reference *to = &node.constant.page;
-    if (!read_value(kind_at(f->v, prop), n->name, &node.constant)) {
+    if (!read_value(kind_at(f->v, prop), n->name, &f->room, &node.constant)) {
         f->unfit = true;
     } else if (node.constant.kind == PAGE) {
         emit_reference(f, n->comparator, to->written, to->namespace, to->name);
@@ -91,7 +92,8 @@ static bool find_props(struct fitter *f) {
 /* Returns 0 or a refusal from 17 to 20. */
 static int fit(const struct tree *tree, const struct view *v, uint8_t *held, size_t len) {
     struct core core;
-    struct fitter f = {.tree = tree, .v = v, .out = &core};
+    uint8_t room[MOST_TEXT];
+    struct fitter f = {.tree = tree, .v = v, .out = &core, .room = {room}};
     core.count = 0;
     if (!find_props(&f)) return 17;
     emit_tree(&f, tree->count - 1, 0);

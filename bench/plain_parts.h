@@ -32,19 +32,30 @@ struct value {
 
 #define BIAS 1000000000000000u
 
-/* Which rules a text keeps: that for names, for values, for property names. */
+/* Which rules a text keeps: that for names, for values, for property names. These are names as forms hold them, composed. */
 enum { IS_NAME = 1, IS_VALUE = 2, IS_PROPERTY = 4 };
 uint8_t rules_of(struct span s);
-
 bool is_name(struct span s);
 bool is_namespace(struct span s);
 bool is_property_name(struct span s);
 bool is_value(struct span s);
+
+/* Where the composed forms go of names that are typed with marks. They are shorter, so that a text's length is room for all of its names. */
+struct room {
+    uint8_t *at;
+};
+
+/* A name as it is typed: false where it breaks its rule, else it is composed. */
+bool compose_name(struct span *s, struct room *room);
+bool compose_namespace(struct span *s, struct room *room);
+bool compose_property_name(struct span *s, struct room *room);
+
 struct span trimmed(struct span s);
 bool is_word(struct span s, const char *word);
 bool split_at_colon(struct span s, struct span *before, struct span *after);
-bool read_reference(struct span s, struct reference *out);
-bool read_value(enum kind kind, struct span s, struct value *out);
+/* The names of a page are composed. */
+bool read_reference(struct span s, struct room *room, struct reference *out);
+bool read_value(enum kind kind, struct span s, struct room *room, struct value *out);
 
 /* Whether what is ordered so against a constant stands to it as the comparator says. */
 static inline bool stands(int order, enum comparator c) {
@@ -65,7 +76,7 @@ struct tree_node {
     enum tree_tag tag;
     enum written comparator;
     unsigned size;           /* of the second of two: how many nodes it takes up */
-    struct span space, name; /* name: of a category, article or property, or a piece */
+    struct span space, name; /* name: of a category, article or property, composed, or a piece as it is typed */
 };
 
 enum { MOST_TREE = 681, MOST_NODES = 256, MOST_DEPTH = 8, MOST_CHAIN = 8, MOST_TEXT = 1024, NODE_BYTES = 20 };
@@ -73,6 +84,7 @@ enum { MOST_TREE = 681, MOST_NODES = 256, MOST_DEPTH = 8, MOST_CHAIN = 8, MOST_T
 struct tree {
     size_t count;
     struct tree_node node[MOST_TREE];
+    uint8_t room[MOST_TEXT]; /* for names that were typed with marks */
 };
 
 /* Returns 0 or a refusal from 12 to 16. */

@@ -6,6 +6,7 @@ struct reader {
     size_t at;
     int fault; /* the lowest of 14 to 16 so far, or 0 */
     struct tree *out;
+    struct room room;
 };
 
 struct piece {
@@ -81,7 +82,7 @@ static bool read_head(struct reader *r, size_t end, struct span names[MOST_CHAIN
         if (i < end && is_barred(r->text.at[i])) return false;
         if (i < end && r->text.at[i] != '.') continue;
         struct span name = trimmed(span_of(r->text.at + start, i - start));
-        want(r, is_property_name(name), 15);
+        want(r, compose_property_name(&name, &r->room), 15);
         if (*count < MOST_CHAIN) names[*count] = name;
         ++*count;
         start = i + 1;
@@ -122,7 +123,7 @@ static bool read_property(struct reader *r, size_t split, int depth) {
 }
 
 static void put_category(struct reader *r, struct span name, bool bare) {
-    want(r, bare && is_name(name), 15);
+    want(r, bare && compose_name(&name, &r->room), 15);
     put(r, (struct tree_node){.tag = CATEGORY_IS, .name = name});
 }
 
@@ -130,11 +131,11 @@ static void put_identifier(struct reader *r, const struct piece *p) {
     struct span before, after;
     struct reference to;
     if (is_bare(p) && split_at_colon(p->text, &before, &after) && is_word(after, "+")) {
-        want(r, is_namespace(before), 15);
+        want(r, compose_namespace(&before, &r->room), 15);
         put(r, (struct tree_node){.tag = NAMESPACE_IS, .space = before});
         return;
     }
-    want(r, read_reference(p->text, &to), 15);
+    want(r, read_reference(p->text, &r->room, &to), 15);
     put(r, (struct tree_node){.tag = to.written ? QUALIFIED : BARE, .comparator = p->comparator, .space = to.namespace, .name = to.name});
 }
 
@@ -185,7 +186,7 @@ static bool read_group(struct reader *r, int depth) {
 }
 
 int read_query(struct span text, struct tree *out) {
-    struct reader r = {text, 0, 0, out};
+    struct reader r = {text, 0, 0, out, {out->room}};
     out->count = 0;
     if (text.len > MOST_TEXT) return 12;
     if (!read_group(&r, 0) || r.at < text.len) return 13;

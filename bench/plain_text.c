@@ -63,14 +63,15 @@ static bool take_lines(struct span text, struct lines *l) {
     return true;
 }
 
-static bool keep_rules(const struct lines *l) {
+/* Judges names and values, and composes the names. */
+static bool compose_names(struct lines *l, struct room *room) {
     for (unsigned i = 0; i < l->props; i++)
-        if (!is_property_name(l->prop[i].name)) return false;
+        if (!compose_property_name(&l->prop[i].name, room)) return false;
     for (unsigned i = 0; i < l->pages; i++)
-        if (!is_namespace(l->page[i].space) || !is_name(l->page[i].name)) return false;
+        if (!compose_namespace(&l->page[i].space, room) || !compose_name(&l->page[i].name, room)) return false;
     for (unsigned i = 0; i < l->forms; i++) {
-        const struct inner_form *form = &l->form[i];
-        bool kept = form->prop < 0 ? is_name(form->name) : is_property_name(form->name) && is_value(form->value);
+        struct inner_form *form = &l->form[i];
+        bool kept = form->prop < 0 ? compose_name(&form->name, room) : compose_property_name(&form->name, room) && is_value(form->value);
         if (!kept) return false;
     }
     return true;
@@ -141,14 +142,14 @@ static bool find_props(struct lines *l) {
     return true;
 }
 
-static bool read_values(struct lines *l) {
+static bool read_values(struct lines *l, struct room *room) {
     for (unsigned i = 0; i < l->forms; i++) {
         struct inner_form *form = &l->form[i];
         struct value value;
         if (form->prop < 0) continue;
         enum kind kind = l->prop[form->prop].kind;
         if (kind == STRING) continue;
-        if (!read_value(kind, form->value, &value)) return false;
+        if (!read_value(kind, form->value, room, &value)) return false;
         if (kind == PAGE) form->name = value.page.namespace, form->value = value.page.name;
         else form->code = value.code;
     }
@@ -156,11 +157,12 @@ static bool read_values(struct lines *l) {
 }
 
 int read_lines(struct span text, struct lines *l) {
-    if (text.len > 32768) return 1;
+    struct room room = {l->room};
+    if (text.len > TEXT_BYTES) return 1;
     if (!take_lines(text, l)) return 2;
-    if (!keep_rules(l)) return 3;
+    if (!compose_names(l, &room)) return 3;
     if (!number_lines(l)) return 4;
     if (!find_props(l)) return 5;
-    if (!read_values(l)) return 6;
+    if (!read_values(l, &room)) return 6;
     return l->props > MOST_PROPS || l->pages > MOST_PAGES || l->forms > MOST_FORMS ? 7 : 0;
 }

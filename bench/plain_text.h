@@ -1,11 +1,11 @@
-/* A register text as it is read: its lines, names and values as they are written, every text numbered once. */
+/* A register text as it is read: its lines, names composed and values as they are written, every text numbered once. */
 #ifndef PLAIN_TEXT_H
 #define PLAIN_TEXT_H
 
 #include "plain_form.h"
 
-/* A register text of 32,768 bytes has no more lines and forms than these: the limits are judged last. */
-enum { TEXT_PROPS = 2200, TEXT_PAGES = 2600, TEXT_FORMS = 3700, TEXT_NAMES = 2600, BUCKETS = 8192 };
+/* A register text has no more bytes, and so no more lines and forms than these: the limits are judged last. */
+enum { TEXT_BYTES = 32768, TEXT_PROPS = 2200, TEXT_PAGES = 2600, TEXT_FORMS = 3700, TEXT_NAMES = 2600, BUCKETS = 8192 };
 
 struct prop_line {
     struct span name;
@@ -39,6 +39,7 @@ struct lines {
     struct page_line page[TEXT_PAGES];
     struct inner_form form[TEXT_FORMS];
     struct names names;
+    uint8_t room[TEXT_BYTES]; /* for names that were typed with marks */
 };
 
 /* Returns 0 or a refusal from 1 to 7. */

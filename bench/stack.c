@@ -77,6 +77,8 @@ static void repeat(char *out, const char *word, int count) {
 
 static size_t largest(size_t a, size_t b) { return a > b ? a : b; }
 
+#define A_UMLAUT "a\u0308"
+
 /* Texts of many nodes, and texts that nest as deep as a query may, or as 1,024 bytes allow. */
 static const struct {
     const char *start, *part;
@@ -87,6 +89,9 @@ static const struct {
     {"", "<q>", 341, "", "", 0},      {"", "[[L::<q>", 128, "", "", 0},        {"", "[[::<q>", 146, "", "", 0},
     {"", "[[!a]]", 128, "", "", 0},   {"", "[[!a]]OR", 127, "[[!a]]", "", 0},  {"[[", "a||", 339, "a]]", "", 0},
     {"", "[[!a]]<q>", 8, "[[!a]]", "</q>", 8}, {"", "[[L::<q>", 8, "[[!a]]", "</q>]]", 8},
+    /* The same with a name that is composed where it is deepest. */
+    {"", "<q>", 339, "[[" A_UMLAUT "]]", "", 0}, {"", "[[L::<q>", 127, "[[" A_UMLAUT, "", 0}, {"", "[[::<q>", 145, "[[" A_UMLAUT "]]", "", 0},
+    {"", "[[L::<q>", 8, "[[L::" A_UMLAUT "]]", "</q>]]", 8},
 };
 enum { TEXTS = QUESTIONS + sizeof SHAPES / sizeof *SHAPES, TEXT_ROOM = 1100 };
 

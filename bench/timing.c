@@ -72,15 +72,19 @@ static void print_row(const struct row *row) {
     fflush(stdout);
 }
 
-/* Batches of the columns in turn, so that what else the machine does meets all of them; the fastest of each, which it meets least. */
-void time_row(struct row row, void (*run)(const struct work *), const struct work w[COLUMNS], const int runs[COLUMNS]) {
+/* In turn, so that what else the machine does meets all of them; the fastest batch of each, which it meets least. */
+void time_in_turn(void (*run)(const struct work *), const struct work *w, const int *runs, int count, int batches, double *us) {
     long times[COLUMNS];
-    for (int i = 0; i < COLUMNS; i++) times[i] = runs[i] ? times_for(run, &w[i]) : 0;
-    for (int k = 0; k < BATCHES; k++)
-        for (int i = 0; i < COLUMNS; i++) {
-            double us = runs[i] ? batch(run, &w[i], times[i]) * 1e6 : 0;
-            if (k == 0 || us < row.us[i]) row.us[i] = us;
+    for (int i = 0; i < count; i++) times[i] = runs[i] ? times_for(run, &w[i]) : 0;
+    for (int k = 0; k < batches; k++)
+        for (int i = 0; i < count; i++) {
+            double one = runs[i] ? batch(run, &w[i], times[i]) * 1e6 : 0;
+            if (k == 0 || one < us[i]) us[i] = one;
         }
+}
+
+void time_row(struct row row, void (*run)(const struct work *), const struct work w[COLUMNS], const int runs[COLUMNS]) {
+    time_in_turn(run, w, runs, COLUMNS, BATCHES, row.us);
     print_row(&row);
     if (row_count == MOST_ROWS) stop("too many rows");
     rows[row_count++] = row;
