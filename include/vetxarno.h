@@ -7,6 +7,20 @@
  * form: the same properties, pages, categories and values in the same orders give the same bytes, however they were written.
  * So has a query that was read, whatever groups, blanks and ANDs its text had that change nothing in it.
  *
+ * Names, of pages, namespaces, categories and properties:
+ * - They are UTF-8, 1 to 64 bytes as typed. They may have the code points 32 to 126 but [ ] | < > : # { } _ ", those of U+00A0
+ *   to U+017F, and the combining marks U+0300 to U+0304, U+0306 to U+0308, U+030A to U+030C, U+0327 and U+0328, each directly
+ *   behind a letter with which it composes to one of U+00C0 to U+017F. A name does not begin with ! ~ + or a blank and does not
+ *   end with a blank (U+00A0 is none); a property's name has no full stop. Anything else breaks the rule for names: -3 and -15,
+ *   and in a reference under a page property -6 and -18.
+ * - They are compared by the bytes of their composed form (Unicode Standard Annex 15): a letter with a mark behind it, as a and
+ *   U+0308, is the letter that they compose to, U+00E4. By this form a property or a page is declared twice (-4) and a property
+ *   is declared (-5, -17).
+ * - Held forms keep names composed. Bytes with a name that is not composed are no held form (-11, -21, -22, -34).
+ * - Strings are no names: they are kept and compared as the bytes that were typed, UTF-8 or not. What a query writes under a
+ *   property is judged as a value (-16) and stays as typed in a held tree; fitting composes its names where the property is a
+ *   link.
+ *
  * What holds of all six calls:
  * - A negative number is a refusal: its number in the tables below, made negative. If several conditions hold, the
  *   lowest number is returned, save by vetxarno_join and vetxarno_fit, which go by the order of their tables. A refused call
@@ -16,7 +30,7 @@
  * - The buffers of one call must not overlap. A buffer of length 0 still needs a pointer that is not null.
  * - No state is kept and no memory is allocated. Calls from several threads are fine as long as they share no buffer
  *   that one of them writes.
- * - Stack: vetxarno_register and vetxarno_join need up to 0.4 MB, vetxarno_query, vetxarno_read and vetxarno_fit 0.3 MB,
+ * - Stack: vetxarno_register needs up to 0.5 MB, vetxarno_join, vetxarno_query and vetxarno_read 0.4 MB, vetxarno_fit 0.2 MB,
  *   vetxarno_ask 0.15 MB, for 256 nodes nested in one another (docs/BENCHMARKS.md). */
 #ifndef VETXARNO_H
 #define VETXARNO_H
@@ -56,8 +70,8 @@ int32_t vetxarno_register(const uint8_t *text, size_t text_len, uint8_t *held, s
  *   -32  a property is declared with two kinds
  *    -7  both together have more than 64 properties, 256 pages, 2,048 categories and values, or 32,768 bytes of names and
  *        values. What both have counts once. A property's name counts once, and a page's namespace and name, its categories
- *        and its values for each page: numbers at their shortest, booleans as true and false, links without blanks at their
- *        colon and those to the main namespace without the colon
+ *        and its values for each page: names as composed, numbers at their shortest, booleans as true and false, links without
+ *        blanks at their colon and those to the main namespace without the colon
  *    -8  held_len is less than VETXARNO_REGISTER_BYTES */
 int32_t vetxarno_join(const uint8_t *first, size_t first_len, const uint8_t *second, size_t second_len, uint8_t *held,
                       size_t held_len);
