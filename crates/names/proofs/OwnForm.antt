@@ -9,7 +9,7 @@ use native.Mathlib.Omega.{arith}
 use lib.Dec.{eqb, leb}
 use lib.ListN.{length, getD, drop, drop-of-length-le}
 use lib.Seq.{drop-cons}
-use borrow.Author.Tests.{eqb-true, eqb-false, ne-eqb, leb-true, lt-leb, le-leb, le-ltb, not-true}
+use borrow.Author.Tests.{eqb-true, eqb-false, ne-eqb, leb-true, lt-leb, le-leb, le-ltb, not-true, not-false}
 use Rattle.text.specs.Bytes.{Bytes, all, same}
 use Rattle.text.proofs.Laws.{same-refl, same-eq}
 use Rattle.names.specs.Codes.{within, isPlain, isPair, isWide, isMark, pairCode, encode}
@@ -212,6 +212,12 @@ module _ (s : Bytes) where
 
   pub own-told : (p q : Bool) → p ≡ all isLetterByte s → q ≡ pairedFrom 0 s → (p && q) ≡ isForm s (composed s)
   own-told p q h k = own-form-is p q (sym h) (sym k)
+
+  pub wide-none : (p : Bool) → p ≡ all isLetterByte s → not p ≡ true → false ≡ isForm s (composed s)
+  wide-none p h t = own-told false (pairedFrom 0 s) (sym (not-true p t) ∙ h) refl
+
+  pub wide-told : (p : Bool) → p ≡ all isLetterByte s → not p ≡ false → (q : Bool) → q ≡ pairedFrom 0 s → q ≡ isForm s (composed s)
+  wide-told p h t q k = own-told true q (sym (not-false p t) ∙ h) k
 
   pub own-plain : (p : Bool) → p ≡ all isPlain s → p ≡ true → true ≡ isForm s (composed s)
   own-plain p h t = rw (plain-composed s (sym h ∙ t)) (sym (same-refl s))

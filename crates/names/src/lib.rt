@@ -18,6 +18,7 @@ use buffer::put_bytes;
 use own_form::all_plain;
 use own_form::is_own_form;
 use own_form::is_plain;
+use own_form::is_wide_form;
 use table::composed_letter;
 use tables::wide;
 use text::Class;
@@ -152,7 +153,7 @@ fn has_name_shape(s: &[u8]) -> bool
 fn has_form(s: &[u8]) -> bool
     ensures { λ r. ⌜ r ≡ isSome (composed (now (s .entry))) ⌝ }
 {
-    if is_own_form(s) {
+    if is_wide_form(s) {
         return true;
     }
     0 < composed_length(s)

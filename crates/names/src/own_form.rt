@@ -86,12 +86,21 @@ pub fn all_paired(s: &[u8]) -> bool
     fits & !is_lead(s[s.len() - 1])
 }
 
-// Whether a text is its own composed form.
+// Whether a text is its own composed form; the second is faster where all bytes are ASCII.
+pub fn is_wide_form(s: &[u8]) -> bool
+    ensures { λ r. ⌜ r ≡ isForm (now (s .entry)) (composed (now (s .entry))) ⌝ }
+{
+    if !all_letter_bytes(s) {
+        return false;
+    }
+    all_paired(s)
+}
+
 pub fn is_own_form(s: &[u8]) -> bool
     ensures { λ r. ⌜ r ≡ isForm (now (s .entry)) (composed (now (s .entry))) ⌝ }
 {
     if all_plain(s) {
         return true;
     }
-    all_letter_bytes(s) & all_paired(s)
+    is_wide_form(s)
 }
