@@ -10,7 +10,7 @@ pub mod composed_codes; // composed_codes.rt: the composed letters of the table
 pub mod letter_codes; // letter_codes.rt: its letters
 pub mod mark_codes; // mark_codes.rt: its marks
 pub mod own_form; // own_form.rt: whether a text is its own composed form
-pub mod putting; // putting.rt: a name judged and composed in one pass
+pub mod putting; // putting.rt: a name judged and composed by a table that is lent
 pub mod table; // table.rt: a letter and a mark looked up in it
 
 use buffer::put_byte;

@@ -1,4 +1,4 @@
-// A name judged and composed in one pass, by a table that is lent.
+// A name judged and composed, by a table that is lent.
 ghost use mathlib.Core.Path.{_≡_};
 ghost use Rattle.names.specs.Steps.{IsTable, NamePut};
 use super::has_name_shape;
@@ -9,8 +9,8 @@ use super::size_of;
 use buffer::put_bytes;
 use tables::widen;
 
-// Judges a name and writes its composed form, in one pass over its letters: how long that is, 0 where the bytes are no name. The table
-// is lent, so that it is not made anew for each name.
+// Judges a name and writes its composed form: how long that is, 0 where the bytes are no name. A name that is its own composed form is
+// copied, any other gone over once, letter by letter. The table is lent, so that it is not made anew for each name.
 pub fn put_name(
     places: &[u8],
     letters: &[u16],
