@@ -51,6 +51,17 @@ module _ (h₀ : Bytes) (at : ℕ) (v : Bytes) where
     pub bytes-all : length v ≤ i → h ≡ written h₀ at v
     bytes-all l = writing-done h₀ at v h to (drop i v) (drop-of-length-le v l) w
 
+-- The same, where the place is counted from the first.
+abbrev pub Stored : Bytes → ℕ → Bytes → Bytes → ℕ → Type 0
+Stored h₀ at v h i = Writing h₀ at v h (at + i) (drop i v)
+
+module _ (h₀ : Bytes) (at : ℕ) (v : Bytes) where
+  pub stored-none : Stored h₀ at v h₀ 0
+  stored-none = rw (add-zero at) (bytes-none h₀ at v)
+
+  pub stored-more : (h : Bytes) (i : ℕ) → Stored h₀ at v h i → i < length v → Stored h₀ at v (set h (at + i) (getD v i 0)) (i + 1)
+  stored-more h i w l = let e : at + (i + 1) ≡ at + i + 1 = omega arith in rw e (bytes-more h₀ at v h i (at + i) w l)
+
 pub ruleset bytewise = (bytes-none, bytes-more, bytes-all, writing-past)
 
 -- Zeros at the front.

@@ -5,7 +5,7 @@ use mathlib.Core.List.{[], _∷_, _++_}
 use native.Mathlib.Omega.{arith}
 use native.Mathlib.Nat.{add-zero, zero-add, suc-add}
 use lib.ListN.{length, set, length-set}
-use lib.Seq.{length-sets, set-out, set-append-left}
+use lib.Seq.{sets, length-sets, set-out, set-set, set-comm, set-append-left}
 use Rattle.text.specs.Bytes.{Bytes}
 use Rattle.buffer.specs.Numbers.{twoBytes, eightBytes}
 use Rattle.buffer.specs.Writing.{written}
@@ -30,6 +30,23 @@ written-none h at = refl
 pub length-written : (h : Bytes) (at : ℕ) (v : Bytes) → length (written h at v) ≡ length h
 unfolding written
 length-written h at v = length-sets h at v
+
+-- Bytes written over others that are no more.
+set-before : (v h : Bytes) (i j y : ℕ) → j < i → set (sets h i v) j y ≡ sets (set h j y) i v
+set-before [] h i j y l = refl
+set-before (x ∷ v) h i j y l = set-before v (set h i x) (suc i) j y (omega arith) ∙ ap (λ (k : Bytes). sets k (suc i) v) (set-comm h i j x y (λ e. omega arith))
+
+pub byte-before : (v h : Bytes) (i j y : ℕ) → j < i → set (written h i v) j y ≡ written (set h j y) i v
+unfolding written
+byte-before v h i j y l = set-before v h i j y l
+
+pub written-longer : (v w h : Bytes) (at : ℕ) → length v ≤ length w → written (written h at v) at w ≡ written h at w
+unfolding written
+written-longer [] w h at l = refl
+written-longer (x ∷ v) [] h at l = absurd (omega arith)
+written-longer (x ∷ v) (y ∷ w) h at l =
+    ap (λ (k : Bytes). sets k (suc at) w) (set-before v (set h at x) (suc at) at y (omega arith) ∙ ap (λ (k : Bytes). sets k (suc at) v) (set-set h at x y))
+    ∙ written-longer v w (set h at y) (suc at) (omega arith)
 
 -- A part of a buffer is written into as if it stood alone.
 pub written-here : (v a s : Bytes) (at : ℕ) → at + length v ≤ length a → written (a ++ s) at v ≡ written a at v ++ s

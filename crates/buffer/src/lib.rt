@@ -2,7 +2,7 @@
 ghost use mathlib.Core.Path.{_≡_};
 ghost use mathlib.Core.List.{[], _∷_};
 ghost use mathlib.Core.Logic.{_⊎_};
-ghost use Prim.Native.Nat.{_≤_};
+ghost use Prim.Native.Nat.{_+_, _≤_};
 ghost use lib.ListN.{length};
 ghost use Rattle.buffer.specs.Numbers.{twoBytes, eightBytes, twoAt, eightAt, zeros as zerosOf};
 ghost use Rattle.buffer.specs.Tests.{zerosAt, zerosTo};
@@ -103,8 +103,20 @@ pub fn put_eight(h: &mut [u8], at: usize, n: u64)
     put_two(h, at + 6, d);
 }
 
-// Writes a string's bytes.
-pub fn put_bytes(h: &mut [u8], at: usize, v: &[u8])
+// Writes bytes that there is room for. No test stands in the loop, so that a compiler takes many bytes at a time.
+fn put_all(h: &mut [u8], at: usize, v: &[u8])
+    requires { ⌜ at + length (now v) ≤ length (now h) ⌝ }
+    ensures { λ _. ⌜ now (h .exit) ≡ written (now (h .entry)) at (now (v .entry)) ⌝ }
+{
+    let mut i: usize = 0;
+    while i < v.len() {
+        h[at + i] = v[i];
+        i += 1;
+    }
+}
+
+// Writes bytes as far as there is room.
+fn put_some(h: &mut [u8], at: usize, v: &[u8])
     ensures { λ _. ⌜ now (h .exit) ≡ written (now (h .entry)) at (now (v .entry)) ⌝ }
 {
     let mut i: usize = 0;
@@ -119,8 +131,22 @@ pub fn put_bytes(h: &mut [u8], at: usize, v: &[u8])
     }
 }
 
+// Writes a string's bytes.
+pub fn put_bytes(h: &mut [u8], at: usize, v: &[u8])
+    ensures { λ _. ⌜ now (h .exit) ≡ written (now (h .entry)) at (now (v .entry)) ⌝ }
+{
+    if h.len() < at {
+        return;
+    }
+    if v.len() <= h.len() - at {
+        put_all(h, at, v);
+    } else {
+        put_some(h, at, v);
+    }
+}
+
 // The lesser of two numbers.
-fn least(a: usize, b: usize) -> usize
+pub fn least(a: usize, b: usize) -> usize
     ensures { λ r. ⌜ (r ≤ a) × (r ≤ b) × ((a ≤ r) ⊎ (b ≤ r)) ⌝ }
 {
     if a < b { a } else { b }

@@ -12,16 +12,14 @@ use borrow.Author.Tests.{ltb-true, le-leb, ne-eqb, not-true}
 use Rattle.text.specs.Bytes.{Bytes, any, all, isBlank}
 use Rattle.text.proofs.Laws.{same-eq, same-refl}
 use Rattle.text.specs.Class.{oneOf, isNameByte, isOther}
-use Rattle.buffer.specs.Writing.{written}
 use Rattle.names.specs.Codes.{within, isPlain}
 use Rattle.names.specs.Names.{composed, composedName, formOr, isSome, hasNameShape, isName, isPropertyName, isNamespace, isForm, isComposedName, isComposedPropertyName, isComposedNamespace, Equivalent, first, last}
 use Rattle.names.proofs.OwnForm.{letter-high}
-use Rattle.names.specs.Steps.{isLetterByte, spelled, lengthAfter}
+use Rattle.names.specs.Steps.{isLetterByte, lengthAfter}
 use Rattle.names.proofs.Reading.{Reading, end, plain, pair, reading, paired}
 use Rattle.names.proofs.Composing.{composed-twice, equivalent-composed, form}
 use Rattle.names.proofs.Naming.{Shaped, shaped, composed-long}
 use Rattle.names.proofs.Keeping.{Kept, nothing, same, fewer, composed-keeps, kept-length, composed-name, composed-property-name}
-use Rattle.names.proofs.Walking.{spelled-composed}
 use Rattle.names.proofs.Ascii.{isAscii, plain-composed, ascii-composed}
 
 absurd-some : {A : Type 0} {B : Type 0} {a : A} → none ≡ some a → B
@@ -215,7 +213,7 @@ two-spellings s t h k e = equivalent-composed s t (composedName s) (composedName
 pub composed-named : (s : Bytes) → isComposedName s ≡ true → Named s
 composed-named s h = name-keeps s (composed-typed s h)
 
--- How long the composed form is, and writing it.
+-- How long the composed form is.
 module _ (s : Bytes) where
   pub own-fixed : (q : Bool) → q ≡ isForm s (composed s) → q ≡ true → composedName s ≡ s
   unfolding composedName
@@ -228,36 +226,10 @@ module _ (s : Bytes) where
       go none h = absurd (false≢true h)
       go (some t) h = rw (same-eq s t h) (sym (zero-add (length t)))
 
-  module _ (n : ℕ) (h : n ≡ lengthAfter 0 (composed s)) where
-    none-fixed : n ≡ 0 → composedName s ≡ s
-    none-fixed z = on-form (λ t. t ≡ s) s (λ e. refl) (λ t e. empty s t (omega (arith, h, ap (lengthAfter 0) e)) e)
-      where
-        empty : (s t : Bytes) → length t ≡ 0 → composed s ≡ some t → t ≡ s
-        empty [] [] l k = refl
-        empty [] (b ∷ t) l k = absurd (omega arith)
-        empty (b ∷ s) t l k = absurd (omega (arith, composed-long (b ∷ s) t k (omega arith)))
-
-    pub some-spelled : (n ≡ 0 → ⊥) → (length (composedName s) ≡ n) × (spelled s ≡ composedName s)
-    some-spelled z = on-form (λ t. (length t ≡ n) × (spelled s ≡ t)) s (λ e. absurd (z (h ∙ rw e))) (λ t e. (omega (arith, h, ap (lengthAfter 0) e), spelled-composed s t e))
-
-    pub size-none : n ≡ 0 → length s ≡ length (composedName s)
-    size-none z = sym (ap length (none-fixed z))
-
-    pub size-some : (n ≡ 0 → ⊥) → n ≡ length (composedName s)
-    size-some z = sym (some-spelled z .0)
-
-    module _ (b g : Bytes) (at : ℕ) where
-      pub put-none : n ≡ 0 → g ≡ written b at s → g ≡ written b at (composedName s)
-      put-none z e = rw (none-fixed z) e
-
-      pub put-some : (n ≡ 0 → ⊥) → g ≡ written b at (spelled s) → g ≡ written b at (composedName s)
-      put-some z e = rw (← some-spelled z .1) e
-
-  module _ (q : Bool) (f : q ≡ isForm s (composed s)) (e : q ≡ true) where
-    pub size-own : length s ≡ length (composedName s)
-    size-own = sym (ap length (own-fixed q f e))
-
-    pub put-own : (b g : Bytes) (at : ℕ) → g ≡ written b at s → g ≡ written b at (composedName s)
-    put-own b g at k = rw (own-fixed q f e) k
-
-pub ruleset composing = (size-none, size-some, size-own, put-none, put-some, put-own)
+  pub none-fixed : (n : ℕ) → n ≡ lengthAfter 0 (composed s) → n ≡ 0 → composedName s ≡ s
+  none-fixed n h z = on-form (λ t. t ≡ s) s (λ e. refl) (λ t e. empty s t (omega (arith, h, ap (lengthAfter 0) e)) e)
+    where
+      empty : (s t : Bytes) → length t ≡ 0 → composed s ≡ some t → t ≡ s
+      empty [] [] l k = refl
+      empty [] (b ∷ t) l k = absurd (omega arith)
+      empty (b ∷ s) t l k = absurd (omega (arith, composed-long (b ∷ s) t k (omega arith)))

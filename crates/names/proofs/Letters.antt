@@ -1,28 +1,23 @@
 -- One letter of a name after the other: composing bytes goes by the letter at their front.
-use Prim.Native.Nat.{ℕ, zero, suc, _+_, _*_, _%_, _≤_}
+use Prim.Native.Nat.{ℕ, zero, suc, _+_, _*_, _/_, _%_, _≤_}
 use mathlib.Core.Path.{_≡_, refl, sym, ap, _∙_}
 use mathlib.Core.Bool.{Bool, true, false, cond, _&&_, _||_, false≢true, and-eq-true-iff, or-true}
 use mathlib.Core.List.{List, [], _∷_, _++_}
 use mathlib.Core.Option.{Option, some, none}
 use native.Mathlib.Omega.{arith}
-use lib.Dec.{eqb, leb}
-use lib.ListN.{getD, drop}
+use lib.Dec.{eqb, ltb, leb}
+use lib.ListN.{length, getD, drop}
 use borrow.Author.Tests.{eqb-true, eqb-false, ne-eqb, leb-true, le-leb}
 use Rattle.text.specs.Bytes.{Bytes, all, any}
 use Rattle.text.specs.Class.{isNameByte}
 use Rattle.names.specs.Table.{Entry, table, composition}
 use Rattle.names.specs.Codes.{within, isMark, isPlain, isWide, isPair, pairCode, before, read, encode, write}
 use Rattle.names.specs.Names.{compose, isMarkless, composed, composedCodes}
-use Rattle.names.specs.Steps.{letterOr0, composedLetter, pairOf, letterPair, letter, plainLetter, wideLetter, loneLetter, letterOf, letterAt, LetterTold}
+use Rattle.names.specs.Steps.{letterOr0, composedLetter, pairOf, letterPair, letter, plainLetter, wideLetter, loneLetter, letterOf, letterAt, prepend, LetterTold}
 use Rattle.names.proofs.Entries.{all-at, composition-is, ranges}
-use Rattle.names.proofs.Reading.{within-true, true-within, paired, plain-range, wide-range, wide-letter, letter-range, mark-range, read-plain, read-pair, read-none, reading, mark-first}
+use Rattle.names.proofs.Reading.{within-true, true-within, paired, plain-range, wide-range, wide-letter, letter-range, mark-range, encode-plain, read-plain, read-pair, read-none, reading, mark-first}
 use Rattle.names.proofs.Composing.{no-composition, no-mark, compose-on, compose-marked}
 use Rattle.names.specs.declared.Letter.{Letter}
-
--- Bytes before a composed form.
-abbrev pub prepend : Bytes → Option Bytes → Option Bytes
-prepend v none = none
-prepend v (some t) = some (v ++ t)
 
 -- A letter before other code points: kept, composed with a mark, or a mark itself.
 front-kept : (c : ℕ) (o : Option (List ℕ)) → isMark c ≡ false → ((l : List ℕ) → o ≡ some l → compose (c ∷ l) ≡ c ∷ compose l) → composedCodes (before c o) ≡ prepend (encode c) (composedCodes o)
@@ -275,20 +270,33 @@ module _ (a b : ℕ) (p : Bool) (f : p ≡ isPlain a) where
         go false true h k = absurd (z (code-told false true h k))
         go false false h k = ap (λ (y : ℕ). letter y 2) (code-told false false h k)
 
+-- How many bytes a letter has composed, and as typed.
+pub encode-size : (c : ℕ) → (1 ≤ length (encode c)) × (length (encode c) ≤ 2)
+unfolding encode
+encode-size c = go (ltb c 128)
+  where
+    go : (b : Bool) → let v = cond b (c ∷ []) ((192 + c / 64 % 32) ∷ (128 + c % 64) ∷ []) in (1 ≤ length v) × (length v ≤ 2)
+    go true = (omega arith, omega arith)
+    go false = (omega arith, omega arith)
+
+record Sizes (x : Letter) : Type 0 where
+  most : x .width ≤ 3
+  shorter : (x .width ≡ 0 → ⊥) → length (encode (x .code)) ≤ x .width
+
+lone-sizes : (a b : ℕ) → Sizes (loneLetter a b)
+unfolding loneLetter
+lone-sizes a b = go (isPlain a) (eqb (pairOf a b) 0 || isMark (pairOf a b)) refl
+  where
+    go : (p q : Bool) → isPlain a ≡ p → Sizes (cond p (letter a 1) (cond q (letter 0 0) (letter (pairOf a b) 2)))
+    go true q h = record { most = omega arith; shorter = λ k. omega (arith, ap length (encode-plain a h)) }
+    go false true h = record { most = omega arith; shorter = λ k. absurd (k refl) }
+    go false false h = record { most = omega arith; shorter = λ k. encode-size (pairOf a b) .1 }
+
 -- The ways to a letter, by the table T.
 module _ (a b c : ℕ) (T : Type 0) where
-  lone-most : loneLetter a b .width ≤ 3
-  unfolding loneLetter
-  lone-most = go (isPlain a) (eqb (pairOf a b) 0 || isMark (pairOf a b))
-    where
-      go : (p q : Bool) → cond p (letter a 1) (cond q (letter 0 0) (letter (pairOf a b) 2)) .width ≤ 3
-      go true q = omega arith
-      go false true = omega arith
-      go false false = omega arith
-
   told-lone : (x : Letter) → x ≡ loneLetter a b → (T → composedLetter a (pairOf b c) ≡ 0) → LetterTold T x (letterOf a b c)
   unfolding letterOf loneLetter
-  told-lone x e h = record { most = rw e lone-most; is = λ t. e ∙ rw (h t) }
+  told-lone x e h = record { most = rw e (lone-sizes a b .most); shorter = rw e (lone-sizes a b .shorter); is = λ t. e ∙ rw (h t) }
 
   pub told-alone : (x : Letter) → x ≡ loneLetter a b → (b ≡ 204 → ⊥) → LetterTold T x (letterOf a b c)
   told-alone x e h = told-lone x e (λ t. mark-lead a b c h)
@@ -299,7 +307,7 @@ module _ (a b c : ℕ) (T : Type 0) where
 
     pub told-marked : (z ≡ 0 → ⊥) → LetterTold T (letter z 3) (letterOf a b c)
     unfolding letterOf
-    told-marked q = record { most = omega arith; is = there }
+    told-marked q = record { most = omega arith; shorter = λ w. omega (arith, encode-size z .1); is = there }
       where
         there : T → letter z 3 ≡ letterOf a b c
         there s =

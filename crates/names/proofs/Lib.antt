@@ -9,6 +9,7 @@ pub mod Ascii
 pub mod Naming
 pub mod Keeping
 pub mod OwnForm
+pub mod Fronts
 pub mod Composed
 pub mod NamePutting
 pub mod Examples

@@ -8,13 +8,13 @@ use native.Mathlib.Omega.{arith}
 use lib.Dec.{ltb, leb}
 use lib.ListN.{length, getD, length-append}
 use borrow.Author.Tests.{leb-true, le-leb, lt-leb, lt-ltb, not-true, not-false}
-use Rattle.text.specs.Bytes.{Bytes, same, all, isBlank}
+use Rattle.text.specs.Bytes.{Bytes, same, isBlank}
 use Rattle.text.specs.Class.{oneOf}
-use Rattle.names.specs.Codes.{isPlain, encode}
+use Rattle.names.specs.Codes.{encode}
 use Rattle.names.specs.Names.{composed, isSome, isForm, hasNameShape, isName, isComposedName, isSized, first, last}
 use Rattle.names.specs.Steps.{letterAt, lengthAfter, nameLength}
-use Rattle.names.proofs.Walking.{composed-nothing, composed-split, encode-size}
-use Rattle.names.proofs.Ascii.{plain-composed}
+use Rattle.names.proofs.Letters.{encode-size}
+use Rattle.names.proofs.Walking.{composed-nothing, composed-split}
 
 -- What the test of the shape answers.
 pub shape-empty : (s : Bytes) → length s ≡ 0 → false ≡ hasNameShape s
@@ -73,9 +73,6 @@ module _ (s : Bytes) (p : Bool) (f : p ≡ hasNameShape s) where
   pub shaped-name : not p ≡ false → (r : Bool) → r ≡ isSome (composed s) → r ≡ isName s
   unfolding isName
   shaped-name t r e = e ∙ rw (← f, not-false p t)
-
-  pub plain-shaped : not p ≡ false → (q : Bool) → q ≡ all isPlain s → q ≡ true → true ≡ isName s
-  plain-shaped t q e h = shaped-name t true (let k = plain-composed s (sym e ∙ h) in rw k)
 
   pub composed-told : (q : Bool) → q ≡ isForm s (composed s) → (p && q) ≡ isComposedName s
   unfolding isComposedName isName

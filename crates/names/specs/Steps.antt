@@ -1,17 +1,17 @@
 -- Working definitions: the table as the code has it, and one letter of a name after the other.
-use Prim.Native.Nat.{ℕ, zero, suc, _+_, _*_, _%_, _≤_}
+use Prim.Native.Nat.{ℕ, suc, _+_, _*_, _%_, _≤_}
 use mathlib.Core.Path.{_≡_}
-use mathlib.Core.Bool.{Bool, true, false, cond, not, _&&_, _||_}
+use mathlib.Core.Bool.{Bool, true, false, cond, _||_}
 use mathlib.Core.List.{List, [], _∷_, _++_, map}
 use mathlib.Core.Option.{Option, some, none}
-use lib.Dec.{eqb, leb}
-use lib.ListN.{length, getD}
+use lib.Dec.{eqb}
+use lib.ListN.{length, getD, take, drop}
 use Rattle.text.specs.Bytes.{Bytes}
 use Rattle.text.specs.Table.{tabulate}
 use Rattle.names.specs.Table.{Entry, table, composition}
 use Rattle.buffer.specs.Writing.{written}
 use Rattle.names.specs.Codes.{within, isMark, isPlain, isPair, pairCode, encode}
-use Rattle.names.specs.Names.{composed, composedName, isName, isNamespace}
+use Rattle.names.specs.Names.{composed, composedName, isForm, isName, isNamespace}
 use Rattle.names.specs.declared.Letter.{Letter}
 
 unfoldable pub letters : List ℕ
@@ -75,14 +75,20 @@ letterOf a b c = cond (isPlain a) (plainLetter a (composedLetter a (pairOf b c))
 abbrev pub letterAt : Bytes → Letter
 letterAt s = letterOf (getD s 0 0) (getD s 1 0) (getD s 2 0)
 
--- The composed form of what stands before the first place with no letter, k bytes passed over.
-unfoldable pub spelledFrom : ℕ → Bytes → Bytes
-spelledFrom k [] = []
-spelledFrom zero (a ∷ s) = elim (letterAt (a ∷ s) .width) [ zero ↦ [] | suc w ↦ encode (letterAt (a ∷ s) .code) ++ spelledFrom w s ]
-spelledFrom (suc k) (a ∷ s) = spelledFrom k s
+-- Bytes before a composed form.
+abbrev pub prepend : Bytes → Option Bytes → Option Bytes
+prepend v none = none
+prepend v (some t) = some (v ++ t)
 
-abbrev pub spelled : Bytes → Bytes
-spelled s = spelledFrom 0 s
+-- The first i bytes of a text are composed as they are typed, and the rest by itself.
+pub record Front (s : Bytes) (i : ℕ) : Type 0 where
+  pub most : i ≤ length s
+  pub is : composed s ≡ prepend (take i s) (composed (drop i s))
+
+-- They are all of it exactly where the text is its own composed form.
+pub record OwnFront (s : Bytes) (i : ℕ) : Type 0 where
+  pub front : Front s i
+  pub whole : eqb i (length s) ≡ isForm s (composed s)
 
 -- n more than the length, 0 for none.
 abbrev pub lengthAfter : ℕ → Option Bytes → ℕ
@@ -93,10 +99,19 @@ lengthAfter n (some t) = n + length t
 unfoldable pub nameLength : Bytes → ℕ
 nameLength s = cond (isName s) (lengthAfter 0 (composed s)) 0
 
--- A letter x that a function answers, where T says that it was lent the table: it is y. Its width is bounded without that.
+-- A letter x that a function answers, where T says that it was lent the table: it is y. Its width, and that it has no more bytes when
+-- it is composed, hold without that.
 pub record LetterTold (T : Type 0) (x y : Letter) : Type 0 where
   pub most : x .width ≤ 3
+  pub shorter : (x .width ≡ 0 → ⊥) → length (encode (x .code)) ≤ x .width
   pub is : T → x ≡ y
+
+-- What writing the composed form of s over b answers: how long it is, 0 for none. The text itself may then be written in its place.
+pub record FormPut (T : Type 0) (s b : Bytes) (at : ℕ) (c : Bytes) (r : ℕ) : Type 0 where
+  pub size : length c ≡ length b
+  pub count : T → r ≡ lengthAfter 0 (composed s)
+  pub bytes : T → (t : Bytes) → composed s ≡ some t → c ≡ written b at t
+  pub over : T → r ≡ 0 → written c at s ≡ written b at s
 
 -- What judging a name and writing its composed form answers; the empty text stays empty.
 pub record NamePut (s b : Bytes) (at : ℕ) (c : Bytes) (r : ℕ) : Type 0 where
@@ -105,20 +120,5 @@ pub record NamePut (s b : Bytes) (at : ℕ) (c : Bytes) (r : ℕ) : Type 0 where
   pub bytes : isNamespace s ≡ true → c ≡ written b at (composedName s)
 
 -- The bytes of a composed text: those of one byte, and the first and the second of the two of a letter.
-abbrev pub isLead : ℕ → Bool
-isLead b = within 194 197 b
-
-abbrev pub isTail : ℕ → Bool
-isTail b = within 128 191 b
-
 unfoldable pub isLetterByte : ℕ → Bool
-isLetterByte b = isPlain b || isTail b || isLead b
-
--- Whether b may stand behind p: a second byte behind a first one and nowhere else, and none below U+00A0.
-unfoldable pub follows : ℕ → ℕ → Bool
-follows p b = (isLead p && isTail b || not (isLead p) && not (isTail b)) && (not (eqb p 194) || leb 160 b)
-
--- Whether each byte may stand where it does, the first behind p.
-unfoldable pub pairedFrom : ℕ → Bytes → Bool
-pairedFrom p [] = not (isLead p)
-pairedFrom p (b ∷ s) = follows p b && pairedFrom b s
+isLetterByte b = isPlain b || within 128 191 b || within 194 197 b

@@ -1,10 +1,11 @@
 // Names in two spellings: the table of compositions, whether bytes are a name, and its composed form.
 ghost use mathlib.Core.Path.{_≡_};
+ghost use Prim.Native.Nat.{_+_, _<_, _^_};
 ghost use lib.ListN.{length, drop};
 ghost use Rattle.buffer.specs.Writing.{written};
 ghost use Rattle.names.specs.Codes.{encode};
-ghost use Rattle.names.specs.Names.{composed, composedName, isSome, hasNameShape, isName, isPropertyName, isNamespace, isComposedName, isComposedPropertyName, isComposedNamespace};
-ghost use Rattle.names.specs.Steps.{IsTable, letterPair, loneLetter, letterOf, letterAt, spelled, lengthAfter, LetterTold};
+ghost use Rattle.names.specs.Names.{composedName, hasNameShape, isName, isPropertyName, isNamespace, isComposedName, isComposedPropertyName, isComposedNamespace};
+ghost use Rattle.names.specs.Steps.{IsTable, letterPair, loneLetter, letterOf, letterAt, LetterTold, Front, FormPut};
 
 pub mod composed_codes; // composed_codes.rt: the composed letters of the table
 pub mod letter_codes; // letter_codes.rt: its letters
@@ -13,12 +14,12 @@ pub mod own_form; // own_form.rt: whether a text is its own composed form
 pub mod putting; // putting.rt: a name judged and composed by a table that is lent
 pub mod table; // table.rt: a letter and a mark looked up in it
 
+use buffer::least;
 use buffer::put_byte;
 use buffer::put_bytes;
-use own_form::all_plain;
 use own_form::is_own_form;
 use own_form::is_plain;
-use own_form::is_wide_form;
+use own_form::own_front;
 use table::composed_letter;
 use tables::wide;
 use text::Class;
@@ -26,6 +27,7 @@ use text::all_in;
 use text::byte_at;
 use text::in_class;
 use text::one_of;
+use text::part;
 
 // A composed letter of a name, and how many of the bytes that were typed it has; 0 where they begin with none.
 pub struct Letter {
@@ -112,28 +114,6 @@ fn size_of(code: u16) -> usize
     if code < 128 { 1 } else { 2 }
 }
 
-// How long the composed form is, 0 where there is none.
-fn composed_length(s: &[u8]) -> usize
-    ensures { λ r. ⌜ r ≡ lengthAfter 0 (composed (now (s .entry))) ⌝ }
-{
-    let places = table::places();
-    let letters = table::letters();
-    let marks = table::marks();
-    let codes = table::codes();
-    let mut n: usize = 0;
-    let mut i: usize = 0;
-    while i < s.len() {
-        let x = letter_at(&places, &letters, &marks, &codes, s, i);
-        let w = x.width;
-        if w == 0 {
-            return 0;
-        }
-        n += size_of(x.code);
-        i += w;
-    }
-    n
-}
-
 // Whether the length as typed and the ends are those of a name.
 fn has_name_shape(s: &[u8]) -> bool
     ensures { λ r. ⌜ r ≡ hasNameShape (now (s .entry)) ⌝ }
@@ -149,34 +129,11 @@ fn has_name_shape(s: &[u8]) -> bool
         & !in_class(Class::Blank, last)
 }
 
-// Whether the bytes have a composed form.
-fn has_form(s: &[u8]) -> bool
-    ensures { λ r. ⌜ r ≡ isSome (composed (now (s .entry))) ⌝ }
-{
-    if is_wide_form(s) {
-        return true;
-    }
-    0 < composed_length(s)
-}
-
 // Whether the bytes are a name that is its own composed form.
 pub fn is_composed_name(s: &[u8]) -> bool
     ensures { λ r. ⌜ r ≡ isComposedName (now (s .entry)) ⌝ }
 {
     has_name_shape(s) & is_own_form(s)
-}
-
-// Whether the bytes are a name.
-pub fn is_name(s: &[u8]) -> bool
-    ensures { λ r. ⌜ r ≡ isName (now (s .entry)) ⌝ }
-{
-    if !has_name_shape(s) {
-        return false;
-    }
-    if all_plain(s) {
-        return true;
-    }
-    has_form(s)
 }
 
 // The same of a property name, and of a namespace.
@@ -190,19 +147,6 @@ pub fn is_composed_namespace(s: &[u8]) -> bool
     ensures { λ r. ⌜ r ≡ isComposedNamespace (now (s .entry)) ⌝ }
 {
     (s.len() == 0) | is_composed_name(s)
-}
-
-// Whether the bytes are a property name, and a namespace.
-pub fn is_property_name(s: &[u8]) -> bool
-    ensures { λ r. ⌜ r ≡ isPropertyName (now (s .entry)) ⌝ }
-{
-    is_name(s) & all_in(s, Class::NoDot)
-}
-
-pub fn is_namespace(s: &[u8]) -> bool
-    ensures { λ r. ⌜ r ≡ isNamespace (now (s .entry)) ⌝ }
-{
-    (s.len() == 0) | is_name(s)
 }
 
 // Writes a code point below 2,048, as far as there is room.
@@ -220,53 +164,88 @@ fn put_code(h: &mut [u8], at: usize, code: u16)
     put_byte(h, at + 1, (128 + code % 64) as u8);
 }
 
-// Writes the composed form, letter by letter.
-fn put_letters(h: &mut [u8], at: usize, s: &[u8])
-    ensures { λ _. ⌜ now (h .exit) ≡ written (now (h .entry)) at (spelled (now (s .entry))) ⌝ }
+// Goes over a text once, from a place up to which it is its own composed form: writes that form, letter by letter, and tells how long
+// it is, 0 where there is none.
+fn compose_from(
+    places: &[u8],
+    letters: &[u16],
+    marks: &[u16],
+    codes: &[u16],
+    h: &mut [u8],
+    at: usize,
+    s: &[u8],
+    front: usize,
+) -> usize
+    requires { ⌜ Front (now s) front × (at + length (now s) < 2 ^ 64) ⌝ }
+    ensures { λ r. ⌜ FormPut (IsTable (now (places .entry)) (now (letters .entry)) (now (marks .entry)) (now (codes .entry))) (now (s .entry)) (now (h .entry)) at (now (h .exit)) r ⌝ }
 {
+    put_bytes(h, at, part(s, 0, front));
+    let mut n = front;
+    let mut i = front;
+    while i < s.len() {
+        let x = letter_at(places, letters, marks, codes, s, i);
+        let w = x.width;
+        if w == 0 {
+            return 0;
+        }
+        put_code(h, at + n, x.code);
+        n += size_of(x.code);
+        i += w;
+    }
+    n
+}
+
+// Whether the bytes are a name.
+pub fn is_name(s: &[u8]) -> bool
+    ensures { λ r. ⌜ r ≡ isName (now (s .entry)) ⌝ }
+{
+    if !has_name_shape(s) {
+        return false;
+    }
+    let front = own_front(s);
+    if front == s.len() {
+        return true;
+    }
     let places = table::places();
     let letters = table::letters();
     let marks = table::marks();
     let codes = table::codes();
-    let mut to = at;
-    let mut i: usize = 0;
-    while i < s.len() {
-        let x = letter_at(&places, &letters, &marks, &codes, s, i);
-        let w = x.width;
-        if w == 0 {
-            return;
-        }
-        if h.len() <= to {
-            return;
-        }
-        put_code(h, to, x.code);
-        to += size_of(x.code);
-        i += w;
-    }
+    let mut form = [0u8; 64];
+    let n = compose_from(&places, &letters, &marks, &codes, &mut form, 0, s, front);
+    0 < n
 }
 
-// How long the composed form of a name is; bytes that have none stay as they are.
-pub fn composed_size(s: &[u8]) -> usize
-    ensures { λ r. ⌜ r ≡ length (composedName (now (s .entry))) ⌝ }
+// Whether the bytes are a property name, and a namespace.
+pub fn is_property_name(s: &[u8]) -> bool
+    ensures { λ r. ⌜ r ≡ isPropertyName (now (s .entry)) ⌝ }
 {
-    if is_own_form(s) {
+    is_name(s) & all_in(s, Class::NoDot)
+}
+
+pub fn is_namespace(s: &[u8]) -> bool
+    ensures { λ r. ⌜ r ≡ isNamespace (now (s .entry)) ⌝ }
+{
+    (s.len() == 0) | is_name(s)
+}
+
+// Writes the composed form of a name, as far as there is room, and tells how long it is; bytes that have none stay as they are.
+pub fn put_composed(h: &mut [u8], at: usize, s: &[u8]) -> usize
+    ensures { λ r. ⌜ (r ≡ length (composedName (now (s .entry)))) × (now (h .exit) ≡ written (now (h .entry)) at (composedName (now (s .entry)))) ⌝ }
+{
+    let front = own_front(s);
+    if front == s.len() {
+        put_bytes(h, at, s);
+        return front;
+    }
+    let places = table::places();
+    let letters = table::letters();
+    let marks = table::marks();
+    let codes = table::codes();
+    let start = least(at, h.len());
+    let n = compose_from(&places, &letters, &marks, &codes, h, start, s, front);
+    if n == 0 {
+        put_bytes(h, start, s);
         return s.len();
     }
-    let n = composed_length(s);
-    if n == 0 { s.len() } else { n }
-}
-
-// Writes it, as far as there is room.
-pub fn put_composed(h: &mut [u8], at: usize, s: &[u8])
-    ensures { λ _. ⌜ now (h .exit) ≡ written (now (h .entry)) at (composedName (now (s .entry))) ⌝ }
-{
-    if is_own_form(s) {
-        put_bytes(h, at, s);
-        return;
-    }
-    if composed_length(s) == 0 {
-        put_bytes(h, at, s);
-    } else {
-        put_letters(h, at, s);
-    }
+    n
 }

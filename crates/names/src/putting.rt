@@ -1,16 +1,14 @@
 // A name judged and composed, by a table that is lent.
 ghost use mathlib.Core.Path.{_≡_};
 ghost use Rattle.names.specs.Steps.{IsTable, NamePut};
+use super::compose_from;
 use super::has_name_shape;
-use super::letter_at;
-use super::own_form::is_own_form;
-use super::put_code;
-use super::size_of;
+use super::own_form::own_front;
 use buffer::put_bytes;
 use tables::widen;
 
-// Judges a name and writes its composed form: how long that is, 0 where the bytes are no name. A name that is its own composed form is
-// copied, any other gone over once, letter by letter. The table is lent, so that it is not made anew for each name.
+// Judges a name and writes its composed form: how long that is, 0 where the bytes are no name. The table is lent, so that it is not made
+// anew for each name.
 pub fn put_name(
     places: &[u8],
     letters: &[u16],
@@ -25,22 +23,11 @@ pub fn put_name(
     if !has_name_shape(s) {
         return 0;
     }
-    if is_own_form(s) {
-        put_bytes(h, widen(at), s);
-        return s.len();
-    }
     let start = widen(at);
-    let mut n: usize = 0;
-    let mut i: usize = 0;
-    while i < s.len() {
-        let x = letter_at(places, letters, marks, codes, s, i);
-        let w = x.width;
-        if w == 0 {
-            return 0;
-        }
-        put_code(h, start + n, x.code);
-        n += size_of(x.code);
-        i += w;
+    let front = own_front(s);
+    if front == s.len() {
+        put_bytes(h, start, s);
+        return front;
     }
-    n
+    compose_from(places, letters, marks, codes, h, start, s, front)
 }

@@ -23,19 +23,19 @@ use Rattle.query_core.specs.declared.Place.{Place}
 use Rattle.query_core.specs.Postfix.{post}
 use Rattle.query_core_emit.specs.Emission.{Adds}
 
-module _ (s : Bytes) (r : Split) (x y t u : Bytes) (i j : ℕ) (ex : x ≡ partOf s (r .namespace)) (ey : y ≡ partOf s (r .article)) (et : t ≡ written (replicate 128 0) 0 (composedName x))
-    (eu : u ≡ written t 64 (composedName y)) (ei : i ≡ length (composedName x)) (ej : j ≡ length (composedName y)) where
+module _ (s : Bytes) (r : Split) (x y t u : Bytes) (i j : ℕ) (ex : x ≡ partOf s (r .namespace)) (ey : y ≡ partOf s (r .article))
+    (n : (i ≡ length (composedName x)) × (t ≡ written (replicate 128 0) 0 (composedName x))) (a : (j ≡ length (composedName y)) × (u ≡ written t 64 (composedName y))) where
   long : length t ≡ 128
-  long = ap length et ∙ length-written (replicate 128 0) 0 (composedName x) ∙ length-replicate {A = ℕ} 128 0
+  long = ap length (n .1) ∙ length-written (replicate 128 0) 0 (composedName x) ∙ length-replicate {A = ℕ} 128 0
 
   article-there : length y ≤ 64 → part u 64 j ≡ composedName y
-  article-there l = ap₂ (λ (b : Bytes) (n : ℕ). part b 64 n) eu ej ∙ part-there t (composedName y) 64 (omega (arith, long, composed-le y))
+  article-there l = ap₂ (λ (b : Bytes) (m : ℕ). part b 64 m) (a .1) (a .0) ∙ part-there t (composedName y) 64 (omega (arith, long, composed-le y))
 
   namespace-there : length x ≤ 64 → part u 0 i ≡ composedName x
   namespace-there l =
-      ap₂ (λ (b : Bytes) (n : ℕ). part b 0 n) eu ei
+      ap₂ (λ (b : Bytes) (m : ℕ). part b 0 m) (a .1) (n .0)
       ∙ part-below t (composedName y) 64 (omega (arith, long)) 0 (length (composedName x)) (omega (arith, composed-le x))
-      ∙ ap (λ (b : Bytes). part b 0 (length (composedName x))) et
+      ∙ ap (λ (b : Bytes). part b 0 (length (composedName x))) (n .1)
       ∙ part-there (replicate 128 0) (composedName x) 0 (omega (arith, composed-le x, length-replicate {A = ℕ} 128 0))
 
   abbrev typed : Split
@@ -51,4 +51,4 @@ module _ (s : Bytes) (r : Split) (x y t u : Bytes) (i j : ℕ) (ex : x ≡ partO
 
   pub typed-adds : (c : SurfaceComparator) (h h′ : Bytes) (p p′ : Place) → Adds (post (elaborateReference c (splitOf u typed))) h p h′ p′
       → isReference (splitOf s r) ≡ true → Adds (post (elaborateReference c (composedReference (splitOf s r)))) h p h′ p′
-  typed-adds c h h′ p p′ a k = rw (← there (r .qualified) refl k) a
+  typed-adds c h h′ p p′ d k = rw (← there (r .qualified) refl k) d

@@ -23,7 +23,6 @@ use language::in_any_namespace;
 use language::is_equal;
 use language::or_equal;
 use language::strict;
-use names::composed_size;
 use names::put_composed;
 use query_core::Connective;
 use query_core::ConstantRead;
@@ -164,15 +163,15 @@ fn put_typed(s: &[u8], held: &mut [u8], at: Place, c: SurfaceComparator, split: 
     let x = part(s, n.start, n.len);
     let y = part(s, a.start, a.len);
     let mut names = [0u8; 128];
-    put_composed(&mut names, 0, x);
-    put_composed(&mut names, 64, y);
+    let n_size = put_composed(&mut names, 0, x);
+    let a_size = put_composed(&mut names, 64, y);
     let namespace = Span {
         start: 0,
-        len: composed_size(x),
+        len: n_size,
     };
     let article = Span {
         start: 64,
-        len: composed_size(y),
+        len: a_size,
     };
     let typed = Split {
         qualified: split.qualified,

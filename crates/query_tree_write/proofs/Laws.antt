@@ -78,23 +78,18 @@ secondOf s e = stringAs (eqb (e .tag) 8) (partOf s (e .second))
 
 -- A string as it is put: a value as typed, a name composed.
 module _ (b : Bool) (s : Bytes) where
-  pub typed-size : b ≡ true → length s ≡ length (stringAs b s)
-  unfolding stringAs
-  typed-size e = rw e
+  abbrev Written : Bytes → ℕ → Bytes → ℕ → Type 0
+  Written h at h′ n = (n ≡ length (stringAs b s)) × (h′ ≡ written h at (stringAs b s))
 
-  pub name-size : (n : ℕ) → b ≡ false → n ≡ length (composedName s) → n ≡ length (stringAs b s)
+  pub typed-put : (h h′ : Bytes) (at : ℕ) → b ≡ true → h′ ≡ written h at s → Written h at h′ (length s)
   unfolding stringAs
-  name-size n e h = rw e h
+  typed-put h h′ at e k = (rw e, rw e k)
 
-  pub typed-put : (h h′ : Bytes) (at : ℕ) → b ≡ true → h′ ≡ written h at s → h′ ≡ written h at (stringAs b s)
+  pub name-put : (h h′ : Bytes) (at n : ℕ) → b ≡ false → (n ≡ length (composedName s)) × (h′ ≡ written h at (composedName s)) → Written h at h′ n
   unfolding stringAs
-  typed-put h h′ at e k = rw e k
+  name-put h h′ at n e k = (rw e (k .0), rw e (k .1))
 
-  pub name-put : (h h′ : Bytes) (at : ℕ) → b ≡ false → h′ ≡ written h at (composedName s) → h′ ≡ written h at (stringAs b s)
-  unfolding stringAs
-  name-put h h′ at e k = rw e k
-
-pub ruleset strings-put = (typed-size, name-size, typed-put, name-put)
+pub ruleset strings-put = (typed-put, name-put)
 
 -- A string that a node does not have is empty, composed too.
 module _ (x : TreeNode) (s : Bytes) (end : ℕ) (e : Entry) where
@@ -143,8 +138,7 @@ unfolding rowBytes
 length-row r = refl
 
 -- There is room where the nodes fit, with the one that is put.
-module _ (s t : Bytes) (p : Place) (x : TreeNode) (e : Entry) (u v : Bytes) (i j : ℕ) (g : e ≡ entryOf (p .end) x) (eu : u ≡ partOf s (e .first)) (ev : v ≡ partOf s (e .second))
-    (ei : i ≡ length (composedName u)) (ej : j ≡ length (stringAs (eqb (e .tag) 8) v)) where
+module _ (s t : Bytes) (p : Place) (x : TreeNode) (e : Entry) (u v : Bytes) (g : e ≡ entryOf (p .end) x) (eu : u ≡ partOf s (e .first)) (ev : v ≡ partOf s (e .second)) where
   abbrev a : Bytes
   a = composedName u
 
@@ -160,55 +154,72 @@ module _ (s t : Bytes) (p : Place) (x : TreeNode) (e : Entry) (u v : Bytes) (i j
       subst (λ (f : Entry). Tells x s (p .end) f (composedName (partOf s (f .first))) (secondOf s f)) (sym g) (entry-tells s (p .end) x) in
       subst (λ (w : Bytes). Tells x s (p .end) e a (stringAs (eqb (e .tag) 8) w)) (sym ev) (subst (λ (w : Bytes). Tells x s (p .end) e (composedName w) (secondOf s e)) (sym eu) told)
 
-  room-there : (l : List Node) → Fits (l ++ (y ∷ [])) → Laid t p l → hasRoom (p .count) (p .end) i j ≡ true
-  unfolding all hasRoom
+  record Roomy : Type 0 where
+    few : p .count < 681
+    short : p .end ≤ 1024
+    first : length a ≤ 64
+    second : length b ≤ 64
+
+  room-there : (l : List Node) → Fits (l ++ (y ∷ [])) → Laid t p l → Roomy
+  unfolding all
   room-there l f d =
       let k = and-true (hasShort y) true (and-true (all hasShort l) (all hasShort (y ∷ [])) (sym (all-append hasShort l (y ∷ [])) ∙ f .small) .1) .0 in
       let h = and-true (leb (length a) 64) (leb (length b) 64) (tells .short ∙ k) in
-      both-true (both-true (both-true (lt-ltb (p .count) 681 (omega (arith, d .count, one-more l y, f .few))) (le-leb (p .end) 1024 (omega (arith, d .end, length-more l y, f .short)))) (ap (λ n. leb n 64) ei ∙ h .0)) (ap (λ n. leb n 64) ej ∙ h .1)
+      record { few = omega (arith, d .count, one-more l y, f .few); short = omega (arith, d .end, length-more l y, f .short); first = leb-true (length a) 64 (h .0); second = leb-true (length b) 64 (h .1) }
 
-  pub put-full : (r : Bool) → r ≡ hasRoom (p .count) (p .end) i j → not r ≡ true → Adds (composedNode (nodeBy s x) ∷ []) t p t p
-  put-full r h n = record { long = refl; laid = λ l f d. absurd (false≢true (sym (not-true r n) ∙ h ∙ room-there l f d)) }
+  abbrev AddsNode : Bytes → Place → Type 0
+  AddsNode t′ p′ = Adds (composedNode (nodeBy s x) ∷ []) t p t′ p′
 
-  pub put-is : (t₁ t₂ t₃ : Bytes) (c : ℕ) → c ≡ comparatorCode (e .comparator) → t₁ ≡ written t (2 + 6 * p .count) (rowBytes (rowOf (e .tag) c (e .number) i j))
-      → t₂ ≡ written t₁ (4088 + p .end) (composedName u) → t₃ ≡ written t₂ (4088 + p .end + i) (stringAs (eqb (e .tag) 8) v)
-      → Adds (composedNode (nodeBy s x) ∷ []) t p t₃ (record { count = p .count + 1; end = p .end + i + j })
-  put-is t₁ t₂ t₃ c ec e₁ e₂ e₃ =
-      record {
-        long = ap length strung ∙ length-written t₁ (4088 + p .end) (a ++ b) ∙ ap length e₁ ∙ length-written t (2 + 6 * p .count) _;
-        laid = λ l f d. record { bytes = bytes l f d; count = omega (arith, d .count, one-more l y); end = omega (arith, d .end, length-more l y, ap length (tells .string), length-append a b, ei, ej) };
-      }
-    where
-      strung : t₃ ≡ written t₁ (4088 + p .end) (a ++ b)
-      strung =
-          e₃ ∙ ap₂ (λ (r : Bytes) (n : ℕ). written r (4088 + p .end + n) b) e₂ ei ∙ written-then a b t₁ (4088 + p .end)
+  unput : (t′ : Bytes) → length t′ ≡ length t → (Roomy → ⊥) → AddsNode t′ p
+  unput t′ h n = record { long = h; laid = λ l f d. absurd (n (room-there l f d)) }
 
-      row-is : rowOf (e .tag) c (e .number) i j ≡ rowAt (p .end) y
-      row-is = rw (ec, ei, ej) (tells .row)
+  pub put-full : (r : Bool) → r ≡ hasRoom (p .count) (p .end) → not r ≡ true → AddsNode t p
+  unfolding hasRoom
+  put-full r h n = unput t refl (λ q. false≢true (sym (not-true r n) ∙ h ∙ both-true (lt-ltb (p .count) 681 (q .few)) (le-leb (p .end) 1024 (q .short))))
 
-      bytes : (l : List Node) → Fits (l ++ (y ∷ [])) → Laid t p l → t₃ ≡ zeros 2 ++ (padded 4086 (rowsFrom 0 (l ++ (y ∷ []))) ++ padded 1024 (strings (l ++ (y ∷ []))))
-      bytes l f d =
-          let row = rowBytes (rowAt (length (strings l)) y) in
-          let few = f .few in
-          let n = one-more l y in
-          let long = length-rows 0 l in
-          let six = length-row (rowAt (length (strings l)) y) in
-          let first : t₁ ≡ zeros 2 ++ (padded 4086 (rowsFrom 0 l ++ row) ++ padded 1024 (strings l)) =
-          e₁ ∙ ap₂ (λ (h : Bytes) (r : Row). written h (2 + 6 * p .count) (rowBytes r)) (d .bytes) (row-is ∙ ap (λ (m : ℕ). rowAt m y) (d .end))
-          ∙ written-rows (rowsFrom 0 l) (strings l) row (2 + 6 * p .count) (omega (arith, d .count, long)) (omega (arith, long, six, n, few)) in
-          let second : t₃ ≡ zeros 2 ++ (padded 4086 (rowsFrom 0 l ++ row) ++ padded 1024 (strings l ++ stringOf y)) =
-          strung ∙ ap₂ (λ (h w : Bytes). written h (4088 + p .end) w) first (tells .string)
-          ∙ written-texts (rowsFrom 0 l ++ row) (strings l) (stringOf y) (4088 + p .end) (omega (arith, d .end)) (omega (arith, length-append (rowsFrom 0 l) row, long, six, n, few)) (omega (arith, length-more l y, f .short)) in
-          second ∙ ap₂ (λ (r w : Bytes). zeros 2 ++ (padded 4086 r ++ padded 1024 w)) (sym (rows-more l y)) (sym (strings-more l y))
+  module _ (t₁ : Bytes) (i : ℕ) (w : (i ≡ length (composedName u)) × (t₁ ≡ written t (4088 + p .end) (composedName u))) where
+    pub put-long : 64 < i → AddsNode t₁ p
+    put-long l = unput t₁ (rw (w .1) (length-written t (4088 + p .end) a)) (λ q. omega (arith, q .first, w .0))
+
+    module _ (t₂ : Bytes) (j : ℕ) (z : (j ≡ length (stringAs (eqb (e .tag) 8) v)) × (t₂ ≡ written t₁ (4088 + p .end + i) (stringAs (eqb (e .tag) 8) v))) where
+      strung : t₂ ≡ written t (4088 + p .end) (a ++ b)
+      strung = z .1 ∙ ap₂ (λ (r : Bytes) (n : ℕ). written r (4088 + p .end + n) b) (w .1) (w .0) ∙ written-then a b t (4088 + p .end)
+
+      pub same-long : length t₂ ≡ length t
+      same-long = ap length strung ∙ length-written t (4088 + p .end) (a ++ b)
+
+      pub put-longer : 64 < j → AddsNode t₂ p
+      put-longer l = unput t₂ same-long (λ q. omega (arith, q .second, z .0))
+
+      pub put-is : (t₃ : Bytes) (c : ℕ) → c ≡ comparatorCode (e .comparator) → t₃ ≡ written t₂ (2 + 6 * p .count) (rowBytes (rowOf (e .tag) c (e .number) i j)) → AddsNode t₃ (record { count = p .count + 1; end = p .end + i + j })
+      put-is t₃ c ec e₃ =
+          record {
+            long = ap length e₃ ∙ length-written t₂ (2 + 6 * p .count) _ ∙ same-long;
+            laid = λ l f d. record { bytes = bytes l f d; count = omega (arith, d .count, one-more l y); end = omega (arith, d .end, length-more l y, ap length (tells .string), length-append a b, w .0, z .0) };
+          }
+        where
+          row-is : rowOf (e .tag) c (e .number) i j ≡ rowAt (p .end) y
+          row-is = rw (ec, w .0, z .0) (tells .row)
+
+          bytes : (l : List Node) → Fits (l ++ (y ∷ [])) → Laid t p l → t₃ ≡ zeros 2 ++ (padded 4086 (rowsFrom 0 (l ++ (y ∷ []))) ++ padded 1024 (strings (l ++ (y ∷ []))))
+          bytes l f d =
+              let row = rowBytes (rowAt (length (strings l)) y) in
+              let few = f .few in
+              let n = one-more l y in
+              let long = length-rows 0 l in
+              let six = length-row (rowAt (length (strings l)) y) in
+              let first : t₂ ≡ zeros 2 ++ (padded 4086 (rowsFrom 0 l) ++ padded 1024 (strings l ++ stringOf y)) =
+              strung ∙ ap₂ (λ (h w : Bytes). written h (4088 + p .end) w) (d .bytes) (tells .string)
+              ∙ written-texts (rowsFrom 0 l) (strings l) (stringOf y) (4088 + p .end) (omega (arith, d .end)) (omega (arith, long, n, few)) (omega (arith, length-more l y, f .short)) in
+              let second : t₃ ≡ zeros 2 ++ (padded 4086 (rowsFrom 0 l ++ row) ++ padded 1024 (strings l ++ stringOf y)) =
+              e₃ ∙ ap₂ (λ (h : Bytes) (r : Row). written h (2 + 6 * p .count) (rowBytes r)) first (row-is ∙ ap (λ (m : ℕ). rowAt m y) (d .end))
+              ∙ written-rows (rowsFrom 0 l) (strings l ++ stringOf y) row (2 + 6 * p .count) (omega (arith, d .count, long)) (omega (arith, long, six, n, few)) in
+              second ∙ ap₂ (λ (r w : Bytes). zeros 2 ++ (padded 4086 r ++ padded 1024 w)) (sym (rows-more l y)) (sym (strings-more l y))
 
 -- What the room allows.
-pub in-room : (c e n m : ℕ) (r : Bool) → r ≡ hasRoom c e n m → not r ≡ false → (c < 681) × (e ≤ 1024) × (n ≤ 64) × (m ≤ 64)
+pub in-room : (c e : ℕ) (r : Bool) → r ≡ hasRoom c e → not r ≡ false → (c < 681) × (e ≤ 1024)
 unfolding hasRoom
-in-room c e n m r h k =
-    let a = and-true (ltb c 681 && leb e 1024 && leb n 64) (leb m 64) (sym h ∙ not-false r k) in
-    let b = and-true (ltb c 681 && leb e 1024) (leb n 64) (a .0) in
-    let d = and-true (ltb c 681) (leb e 1024) (b .0) in
-    (ltb-true c 681 (d .0), leb-true e 1024 (d .1), leb-true n 64 (b .1), leb-true m 64 (a .1))
+in-room c e r h k = let a = and-true (ltb c 681) (leb e 1024) (sym h ∙ not-false r k) in (ltb-true c 681 (a .0), leb-true e 1024 (a .1))
 
 -- A row, byte by byte.
 pub row-written : (h : Bytes) (at t c n a b : ℕ) → set (set (set (set (set (set h at t) (at + 1) c) (at + 2) (n % 256)) (at + 3) (n / 256 % 256)) (at + 4) a) (at + 5) b ≡ written h at (rowBytes (rowOf t c n a b))
@@ -275,4 +286,4 @@ pub finished : (t : Bytes) (p : Place) (l : List Node) → Laid t p l → writte
 unfolding nodeBytes
 finished t p l d = ap₂ (λ (h : Bytes) (n : ℕ). written h 0 (twoBytes n)) (d .bytes) (d .count) ∙ written-front (rowsFrom 0 l) (strings l) (length l)
 
-pub ruleset putting = (put-short, put-full, put-is)
+pub ruleset putting = (put-short, put-full)

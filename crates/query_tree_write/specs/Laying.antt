@@ -42,9 +42,9 @@ entryOf end (TreeNode.Link p) = entryWith 11 SurfaceComparator.Equal end nowhere
 unfoldable pub stringAs : Bool → Bytes → Bytes
 stringAs typed s = cond typed s (composedName s)
 
--- There is room for a node behind count others whose strings have end bytes, with strings as long as its bytes can tell.
-unfoldable pub hasRoom : ℕ → ℕ → ℕ → ℕ → Bool
-hasRoom count end first second = ltb count 681 && leb end 1024 && leb first 64 && leb second 64
+-- There is room for a node behind count others whose strings have end bytes.
+unfoldable pub hasRoom : ℕ → ℕ → Bool
+hasRoom count end = ltb count 681 && leb end 1024
 
 -- The strings of a node have at most 64 bytes each.
 abbrev pub hasShort : Node → Bool

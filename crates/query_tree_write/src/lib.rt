@@ -12,7 +12,6 @@ use buffer::put_bytes;
 use buffer::put_two;
 use language::SurfaceComparator;
 use language::comparator_code;
-use names::composed_size;
 use names::put_composed;
 use query_tree::TreeNode;
 use query_tree::layout;
@@ -74,29 +73,22 @@ fn entry_of(node: TreeNode, end: usize) -> Entry
     }
 }
 
-// How long a string is as it is put: a value as typed, a name composed.
-fn string_size(typed: bool, s: &[u8]) -> usize
-    ensures { λ r. ⌜ r ≡ length (stringAs typed (now (s .entry))) ⌝ }
-{
-    if typed { s.len() } else { composed_size(s) }
-}
-
-// Writes it.
-fn put_string(tree: &mut [u8], at: usize, typed: bool, s: &[u8])
-    ensures { λ _. ⌜ now (tree .exit) ≡ written (now (tree .entry)) at (stringAs typed (now (s .entry))) ⌝ }
+// Writes a string, a value as typed and a name composed, and tells how long it then is.
+fn put_string(tree: &mut [u8], at: usize, typed: bool, s: &[u8]) -> usize
+    ensures { λ r. ⌜ (r ≡ length (stringAs typed (now (s .entry)))) × (now (tree .exit) ≡ written (now (tree .entry)) at (stringAs typed (now (s .entry)))) ⌝ }
 {
     if typed {
         put_bytes(tree, at, s);
-    } else {
-        put_composed(tree, at, s);
+        return s.len();
     }
+    put_composed(tree, at, s)
 }
 
-// Whether there is room for a node behind count others whose strings have end bytes, with strings as long as its bytes can tell.
-fn has_room(count: usize, end: usize, first: usize, second: usize) -> bool
-    ensures { λ r. ⌜ r ≡ hasRoom count end first second ⌝ }
+// Whether there is room for a node behind count others whose strings have end bytes.
+fn has_room(count: usize, end: usize) -> bool
+    ensures { λ r. ⌜ r ≡ hasRoom count end ⌝ }
 {
-    (count < layout::MOST_NODES) & (end <= layout::STRING_BYTES) & (first <= 64) & (second <= 64)
+    (count < layout::MOST_NODES) & (end <= layout::STRING_BYTES)
 }
 
 // Writes a row. That there is room is tested once a node, so that a compiler writes many bytes at a time.
@@ -120,7 +112,8 @@ fn put_row(
     tree[at + 5] = second;
 }
 
-// Puts a node behind those that are there, where there is room, its names composed. Its strings are places in s.
+// Puts a node behind those that are there, where there is room, its names composed. Its strings are places in s; they are written before
+// the row, which has their lengths.
 pub fn put_node(s: &[u8], tree: &mut [u8], at: Place, node: TreeNode) -> Place
     ensures { λ r. ⌜ Puts (composedNode (nodeBy (now (s .entry)) node)) (now (tree .entry)) at (now (tree .exit)) r ⌝ }
 {
@@ -136,9 +129,15 @@ pub fn put_node(s: &[u8], tree: &mut [u8], at: Place, node: TreeNode) -> Place
     let a = part(s, first.start, first.len);
     let b = part(s, second.start, second.len);
     let typed = e.tag == layout::VALUE;
-    let n = composed_size(a);
-    let m = string_size(typed, b);
-    if !has_room(count, end, n, m) {
+    if !has_room(count, end) {
+        return at;
+    }
+    let n = put_composed(tree, layout::STRINGS + end, a);
+    if 64 < n {
+        return at;
+    }
+    let m = put_string(tree, layout::STRINGS + end + n, typed, b);
+    if 64 < m {
         return at;
     }
     put_row(
@@ -150,8 +149,6 @@ pub fn put_node(s: &[u8], tree: &mut [u8], at: Place, node: TreeNode) -> Place
         n as u8,
         m as u8,
     );
-    put_composed(tree, layout::STRINGS + end, a);
-    put_string(tree, layout::STRINGS + end + n, typed, b);
     Place {
         count: count + 1,
         end: end + n + m,

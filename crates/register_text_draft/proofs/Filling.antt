@@ -9,7 +9,7 @@ use native.Mathlib.Numerals.{add-one}
 use native.Mathlib.Omega.{arith}
 use lib.Dec.{ltb}
 use lib.ListN.{length, getD, take, drop, set, replicate, length-replicate, length-append, length-set, List·getD-append, take-append-drop}
-use lib.Seq.{take-suc-set, take-length, drop-append-seam, getD-append-seam, getD-set-same, getD-set-other, length-take-le}
+use lib.Seq.{sets-eq, take-at, take-suc-set, take-length, drop-append-seam, getD-append-seam, getD-set-same, getD-set-other, length-take-le}
 use borrow.Author.Tests.{ltb-true, ltb-false}
 use Rattle.text.specs.Bytes.{Bytes, part}
 use Rattle.text.specs.Table.{tabulate}
@@ -17,8 +17,8 @@ use Rattle.text.proofs.Tables.{length-tabulate, tabulate-ext, is-tabulate}
 use Rattle.values.specs.declared.Kind.{Kind}
 use Rattle.values.specs.declared.Scalar.{Scalar}
 use Rattle.values.specs.declared.Split.{Split}
-use Rattle.names.specs.Names.{composed, composedName, isForm}
-use Rattle.names.proofs.Composed.{composed-empty, own-fixed}
+use Rattle.names.specs.Names.{composedName}
+use Rattle.names.proofs.Composed.{composed-empty}
 use Rattle.values.specs.Names.{Reference, Identifier, reference, composedReference, identifier}
 use Rattle.values.specs.Values.{mapOption, Constant, scalar, string, Value, plain, link, readScalar, readLink, readValue, kindCode, kindFrom}
 use Rattle.values.specs.Answers.{Splits, splitOf}
@@ -31,12 +31,12 @@ use Rattle.register_form.specs.Form.{joined}
 use Rattle.register_form.specs.Tables.{draftIn}
 use Rattle.buffer.specs.Writing as Buffers
 use Rattle.buffer.proofs.Parts.{part-before}
-use Rattle.buffer.proofs.Joined.{part-there}
+use Rattle.buffer.proofs.Written.{length-written, byte-before}
 use Rattle.register_text_draft.specs.declared.Counts.{Counts}
 use Rattle.register_text_draft.specs.declared.Ends.{Ends}
 use Rattle.register_text_draft.specs.Drafting.{withForm, onLast}
 use Rattle.register_text_draft.specs.Sizes.{Spaced}
-use Rattle.register_text_draft.specs.Tables.{Copied, Lies, Texts, propertyIn, Properties, pageIn, Pages, termIn, Terms, Holding, Pushed}
+use Rattle.register_text_draft.specs.Tables.{Copied, Ended, Lies, Texts, propertyIn, Properties, pageIn, Pages, termIn, Terms, Holding, Pushed}
 use Rattle.register_text_draft.proofs.Bounds.{length-labelled, joined-more}
 use Rattle.register_text_draft.proofs.Pages.{on-last}
 
@@ -101,37 +101,63 @@ module _ (heap : List ℕ) (at : ℕ) (space name : Bytes) (h1 h2 h3 : List ℕ)
         ap (λ (i : ℕ). take i h3) n ∙ third
         ∙ rw (second, first, append-assoc (take at heap) (length space ∷ []) space, append-assoc (take at heap) (length space ∷ space) name)
 
+-- A text ended.
+pub ended : (starts lens : List ℕ) (m at a b i x : ℕ) → i ≡ m → x ≡ at → (s : List ℕ) → s ≡ set starts i x → (j w : ℕ) → j ≡ m → w ≡ (1 + a + b) % 65536 → (n : List ℕ) → n ≡ set lens j w
+    → (texts first bytes : ℕ) → texts ≡ (m + 1) % 65536 → first ≡ at → bytes ≡ (first + 1 + a + b) % 65536 → Ended starts lens m at a b s n (record { texts = texts; bytes = bytes })
+ended starts lens m at a b i x ei ex s es j w ej ew n en texts first bytes et ef eb =
+    record { start = es ∙ ap₂ (set starts) ei ex; len = en ∙ ap₂ (set lens) ej ew; texts = et; bytes = rw (← ef) eb }
+
 -- The numbers that are written are those meant, where they fit.
 module _ (heap starts lens : List ℕ) (m at : ℕ) (space name : Bytes)
     (first : ℕ) (ef : first ≡ at) (a₀ a b₀ b : ℕ) (ea₀ : a₀ ≡ length space % 65536) (ea : a ≡ a₀) (eb₀ : b₀ ≡ length name % 65536) (eb : b ≡ b₀)
     (v : ℕ) (ev : v ≡ a % 256) (h1 h2 h3 : List ℕ) (e : h1 ≡ set heap first v) (f : Copied h1 (first + 1) space h2) (g : Copied h2 (first + 1 + a) name h3)
-    (i x : ℕ) (ei : i ≡ m) (ex : x ≡ at) (s : List ℕ) (es : s ≡ set starts i x)
-    (j w : ℕ) (ej : j ≡ m) (ew : w ≡ (1 + a + b) % 65536) (n : List ℕ) (en : n ≡ set lens j w)
-    (r : Ends) (er : r .texts ≡ (m + 1) % 65536) (eq : r .bytes ≡ (first + 1 + a + b) % 65536)
+    (s n : List ℕ) (r : Ends) (z : Ended starts lens m at a b s n r)
   where
     pushed : length space ≤ 64 → (k : List Bytes) → Texts heap starts lens m at k → length (k ++ (labelled space name ∷ [])) ≤ 2368 → length (joined (k ++ (labelled space name ∷ []))) ≤ 35136
         → Texts h3 s n (r .texts) (r .bytes) (k ++ (labelled space name ∷ []))
     pushed short k t few fit =
-        let z = labelled space name in
+        let y = labelled space name in
         let lz = length-labelled space name in
-        let below : length k < 2368 = omega (arith, length-append k (z ∷ [])) in
-        let all : at + length z ≤ 35136 = omega (arith, ap length (joined-more k z), length-append (joined k) z, t .end) in
+        let below : length k < 2368 = omega (arith, length-append k (y ∷ [])) in
+        let all : at + length y ≤ 35136 = omega (arith, ap length (joined-more k y), length-append (joined k) y, t .end) in
         let qa : a ≡ length space = ea ∙ ea₀ ∙ mod-eq-of-lt (omega arith) in
         let qb : b ≡ length name = eb ∙ eb₀ ∙ mod-eq-of-lt (omega arith) in
         let qv : v ≡ length space = ev ∙ mod-is a (length space) 256 qa (omega arith) in
-        let qw : w ≡ length z = ew ∙ mod-is (1 + a + b) (length z) 65536 (omega arith) (omega arith) in
-        let qm : r .texts ≡ m + 1 = er ∙ mod-eq-of-lt (omega (arith, t .count)) in
-        let qe : r .bytes ≡ at + length z = eq ∙ mod-is (first + 1 + a + b) (at + length z) 65536 (omega arith) (omega arith) in
+        let qw : (1 + a + b) % 65536 ≡ length y = mod-is (1 + a + b) (length y) 65536 (omega arith) (omega arith) in
+        let qm : r .texts ≡ m + 1 = z .texts ∙ mod-eq-of-lt (omega (arith, t .count)) in
+        let qe : r .bytes ≡ at + length y = z .bytes ∙ mod-is (at + 1 + a + b) (at + length y) 65536 (omega arith) (omega arith) in
         let e′ : h1 ≡ set heap at (length space) = e ∙ ap₂ (set heap) ef qv in
         let f′ : Copied h1 (at + 1) space h2 = subst (λ (i : ℕ). Copied h1 (i + 1) space h2) ef f in
         let g′ : Copied h2 (at + 1 + length space) name h3 = subst (λ (i : ℕ). Copied h2 (i + 1 + length space) name h3) ef (subst (λ (i : ℕ). Copied h2 (first + 1 + i) name h3) qa g) in
-        let s′ : s ≡ set starts m at = es ∙ ap₂ (set starts) ei ex in
-        let n′ : n ≡ set lens m (length z) = en ∙ ap₂ (set lens) ej qw in
+        let n′ : n ≡ set lens m (length y) = z .len ∙ ap (set lens m) qw in
         let room : at + suc (length space + length name) ≤ length heap = omega (arith, t .heapRoom) in
-        rw (qm, qe, s′, n′) (text-more heap starts lens m at k t z below h3 (written-size heap at space name h1 h2 h3 room e′ f′ g′) (written heap at space name h1 h2 h3 room e′ f′ g′))
+        rw (qm, qe, z .start, n′) (text-more heap starts lens m at k t y below h3 (written-size heap at space name h1 h2 h3 room e′ f′ g′) (written heap at space name h1 h2 h3 room e′ f′ g′))
 
     pub text-pushed : length space ≤ 64 → Pushed heap starts lens m at (labelled space name ∷ []) h3 s n r
     text-pushed short = record { texts = pushed short }
+
+-- Names composed where they lie: the length before the first is written behind it.
+written-copied : (b v b′ : Bytes) (at : ℕ) → b′ ≡ Buffers.written b at v → Copied b at v b′
+unfolding Buffers.written
+written-copied b v b′ at e =
+    record {
+      size = rw e (length-written b at v);
+      is = λ l.
+          let k : at + length v ≡ length (take at b ++ v) = omega (arith, length-append (take at b) v, length-take-le at b (let z : at ≤ length b = omega arith in z)) in
+          rw (e, sets-eq v b at l) (take-at (take at b ++ v) (drop (at + length v) b) (at + length v) (sym k));
+    }
+
+module _ (heap starts lens : List ℕ) (m at : ℕ) (space name : Bytes)
+    (first : ℕ) (ef : first ≡ at) (x : ℕ) (h1 : List ℕ) (p : (x ≡ length (composedName space)) × (h1 ≡ Buffers.written heap (first + 1) (composedName space)))
+    (a₀ a : ℕ) (ea₀ : a₀ ≡ x % 65536) (ea : a ≡ a₀) (v : ℕ) (ev : v ≡ a % 256) (h2 : List ℕ) (e : h2 ≡ set h1 first v)
+    (y : ℕ) (h3 : List ℕ) (q : (y ≡ length (composedName name)) × (h3 ≡ Buffers.written h2 (first + 1 + a) (composedName name)))
+    (b₀ b : ℕ) (eb₀ : b₀ ≡ y % 65536) (eb : b ≡ b₀) (s n : List ℕ) (r : Ends) (z : Ended starts lens m at a b s n r)
+  where
+    pub names-pushed : length (composedName space) ≤ 64 → Pushed heap starts lens m at (labelled (composedName space) (composedName name) ∷ []) h3 s n r
+    names-pushed =
+        text-pushed heap starts lens m at (composedName space) (composedName name) first ef a₀ a b₀ b (ea₀ ∙ ap (λ (k : ℕ). k % 65536) (p .0)) ea (eb₀ ∙ ap (λ (k : ℕ). k % 65536) (q .0)) eb v ev (set heap first v) h2 h3 refl
+        (written-copied (set heap first v) (composedName space) h2 (first + 1) (e ∙ ap (λ (h : Bytes). set h first v) (p .1) ∙ byte-before (composedName space) heap (first + 1) first v (omega arith)))
+        (written-copied h2 (composedName name) h3 (first + 1 + a) (q .1)) s n r z
 
 -- The text of a link, and of a value.
 module _ (heap starts lens : List ℕ) (m at : ℕ) (h s n : List ℕ) (r : Ends) where
@@ -141,33 +167,14 @@ module _ (heap starts lens : List ℕ) (m at : ℕ) (h s n : List ℕ) (r : Ends
   abbrev linkOf : Bytes → Identifier
   linkOf v = identifier (composedReference (reference v))
 
-  -- The composed form of a text, at the front of a buffer of 64 bytes.
-  buffered : (y buf z : Bytes) (k : ℕ) → buf ≡ Buffers.written (replicate 64 0) 0 (composedName y) → k ≡ length (composedName y) → z ≡ part buf 0 k → length (composedName y) ≤ 64 → z ≡ composedName y
-  buffered y buf z k eb ek ez l = ez ∙ ap₂ (λ (b : Bytes) (n : ℕ). part b 0 n) eb ek ∙ part-there (replicate 64 0) (composedName y) 0 (omega (arith, length-replicate {A = ℕ} 64 0))
-
-  -- Two names: their own composed forms, or written to buffers.
-  module _ (space name : Bytes) where
-    abbrev Named : Type 0
-    Named = length (composedName space) ≤ 64 → length (composedName name) ≤ 64 → Pushes (labelled (composedName space) (composedName name) ∷ [])
-
-    pub names-own : (p q : Bool) → p ≡ isForm space (composed space) → q ≡ isForm name (composed name) → (p && q) ≡ true → (length space ≤ 64 → Pushes (labelled space name ∷ [])) → Named
-    names-own p q e f t h k l =
-        let u = and-eq-true-iff p q .0 t in
-        let x = own-fixed space p e (u .0) in
-        rw (x, own-fixed name q f (u .1)) (h (rw x at k))
-
-    pub names-put : (x y a b : Bytes) (i j : ℕ) → x ≡ Buffers.written (replicate 64 0) 0 (composedName space) → i ≡ length (composedName space) → a ≡ part x 0 i
-        → y ≡ Buffers.written (replicate 64 0) 0 (composedName name) → j ≡ length (composedName name) → b ≡ part y 0 j → (length a ≤ 64 → Pushes (labelled a b ∷ [])) → Named
-    names-put x y a b i j ex ei ea ey ej eb h k l =
-        let u = buffered space x a i ex ei ea k in
-        let v = buffered name y b j ey ej eb l in
-        rw (← u, ← v) (h (rw (← u) at k))
+  abbrev Named : Bytes → Bytes → Type 0
+  Named space name = length (composedName space) ≤ 64 → Pushes (labelled (composedName space) (composedName name) ∷ [])
 
   module _ (v : Bytes) (i : Split) (p : Splits v i) (name : Bytes) (en : name ≡ part v (i .article .start) (i .article .len)) where
     by-split : (space : Bytes) → linkOf v ≡ record { namespace = composedName space; article = composedName name } → Named space name → Spaced (link (linkOf v)) → Pushes (identifierText (linkOf v) ∷ [])
     by-split space is f short =
         let near : (length (composedName space) ≤ 64) × (length (composedName name) ≤ 64) = subst (λ (j : Identifier). Spaced (link j)) is short in
-        rw is (f (near .0) (near .1))
+        rw is (f (near .0))
 
     pub link-qualified : i .qualified ≡ true → (space : Bytes) → space ≡ part v (i .namespace .start) (i .namespace .len) → Named space name → Spaced (link (linkOf v)) → Pushes (identifierText (linkOf v) ∷ [])
     link-qualified e space es = by-split space (ap (λ (r : Reference). identifier (composedReference r)) (sym (p .is)) ∙ rw (e, es, en))

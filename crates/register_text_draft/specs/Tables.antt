@@ -1,8 +1,8 @@
 -- Working definitions: tables that hold a draft.
-use Prim.Native.Nat.{ℕ, suc, _+_, _-_, _≤_, _<_}
+use Prim.Native.Nat.{ℕ, suc, _+_, _-_, _%_, _≤_, _<_}
 use mathlib.Core.Path.{_≡_}
 use mathlib.Core.List.{List, [], _∷_, _++_}
-use lib.ListN.{length, getD, take}
+use lib.ListN.{length, getD, take, set}
 use Rattle.text.specs.Bytes.{Bytes, part}
 use Rattle.text.specs.Table.{tabulate}
 use Rattle.values.specs.Values.{kindFrom}
@@ -71,6 +71,13 @@ pub record Holding (heap starts lens kinds names identifiers firsts groups codes
   pub properties : Properties kinds names (c .properties) (d .properties)
   pub pages : Pages identifiers firsts (c .pages) (c .forms) (d .pages)
   pub terms : Terms groups codes (c .forms) (d .terms)
+
+-- What ending a text answers, a and b being how long its namespace and its name are.
+pub record Ended (starts lens : List ℕ) (m at a b : ℕ) (starts′ lens′ : List ℕ) (r : Ends) : Type 0 where
+  pub start : starts′ ≡ set starts m at
+  pub len : lens′ ≡ set lens m ((1 + a + b) % 65536)
+  pub texts : r .texts ≡ (m + 1) % 65536
+  pub bytes : r .bytes ≡ (at + 1 + a + b) % 65536
 
 -- What adding the texts l behind others answers, where they fit.
 pub record Pushed (heap starts lens : List ℕ) (m at : ℕ) (l : List Bytes) (heap′ starts′ lens′ : List ℕ) (r : Ends) : Type 0 where

@@ -11,10 +11,8 @@ ghost use Rattle.register_form.specs.Dictionary.{PropertyRow, PageRow, labelled
 ghost use Rattle.register_form.specs.Encoding.{identifierText, valueTexts};
 ghost use Rattle.register_text_draft.specs.Drafting.{codeIn};
 ghost use Rattle.register_text_draft.specs.Sizes.{Spaced};
-ghost use Rattle.register_text_draft.specs.Tables.{Copied, Pushed};
+ghost use Rattle.register_text_draft.specs.Tables.{Copied, Ended, Pushed};
 use super::Ends;
-use names::composed_size;
-use names::own_form::is_own_form;
 use names::put_composed;
 use tables::long;
 use tables::narrow;
@@ -60,6 +58,19 @@ pub fn copy(b: &mut [u8], at: usize, s: &[u8])
     }
 }
 
+// Ends a text behind m texts, from a place on: what it has of a namespace and of a name, and its length before both.
+fn end_text(starts: &mut [u32], lens: &mut [u16], m: u16, at: u16, a: usize, b: usize) -> Ends
+    requires { ⌜ (a < 65536) × (b < 65536) ⌝ }
+    ensures { λ r. ⌜ Ended (now (starts .entry)) (now (lens .entry)) m at a b (now (starts .exit)) (now (lens .exit)) r ⌝ }
+{
+    put_start(starts, widen(m), middle(at));
+    put(lens, widen(m), narrow(1 + a + b));
+    Ends {
+        texts: next(m),
+        bytes: narrow(widen(at) + 1 + a + b),
+    }
+}
+
 // Adds a text, of a namespace and a name, behind m texts that end at a place.
 pub fn push_text(
     heap: &mut [u8],
@@ -78,15 +89,10 @@ pub fn push_text(
     put_byte(heap, first, byte(a));
     copy(heap, first + 1, space);
     copy(heap, first + 1 + a, name);
-    put_start(starts, widen(m), middle(at));
-    put(lens, widen(m), narrow(1 + a + b));
-    Ends {
-        texts: next(m),
-        bytes: narrow(first + 1 + a + b),
-    }
+    end_text(starts, lens, m, at, a, b)
 }
 
-// Adds the text of a namespace and a name, both composed. Most are their own composed form.
+// Adds the text of a namespace and a name, both composed where they then lie.
 fn push_names(
     heap: &mut [u8],
     starts: &mut [u32],
@@ -96,24 +102,13 @@ fn push_names(
     space: &[u8],
     name: &[u8],
 ) -> Ends
-    ensures { λ r. ⌜ (length (composedName (now (space .entry))) ≤ 64 → length (composedName (now (name .entry))) ≤ 64 → Pushed (now (heap .entry)) (now (starts .entry)) (now (lens .entry)) m at (labelled (composedName (now (space .entry))) (composedName (now (name .entry))) ∷ []) (now (heap .exit)) (now (starts .exit)) (now (lens .exit)) r) ⌝ }
+    ensures { λ r. ⌜ (length (composedName (now (space .entry))) ≤ 64 → Pushed (now (heap .entry)) (now (starts .entry)) (now (lens .entry)) m at (labelled (composedName (now (space .entry))) (composedName (now (name .entry))) ∷ []) (now (heap .exit)) (now (starts .exit)) (now (lens .exit)) r) ⌝ }
 {
-    if is_own_form(space) & is_own_form(name) {
-        return push_text(heap, starts, lens, m, at, space, name);
-    }
-    let mut x = [0u8; 64];
-    let mut y = [0u8; 64];
-    put_composed(&mut x, 0, space);
-    put_composed(&mut y, 0, name);
-    push_text(
-        heap,
-        starts,
-        lens,
-        m,
-        at,
-        part(&x, 0, composed_size(space)),
-        part(&y, 0, composed_size(name)),
-    )
+    let first = widen(at);
+    let a = widen(narrow(put_composed(heap, first + 1, space)));
+    put_byte(heap, first, byte(a));
+    let b = widen(narrow(put_composed(heap, first + 1 + a, name)));
+    end_text(starts, lens, m, at, a, b)
 }
 
 // Adds the text of the link that v writes, its names composed.

@@ -1,63 +1,54 @@
-use Prim.Native.Nat.{_-_}
-use lib.ListN.{length}
+use native.Mathlib.Omega.{arith}
+use Rattle.buffer.proofs.Written.{written-past}
 use borrow.Author.Needs.{needs}
-use Rattle.buffer.proofs.Looping.{Bytewise, bytewise}
 use Rattle.buffer.proofs.put_bytes.Statement.{statement}
 use Rattle.buffer.proofs.put_bytes.Tie as tie
+use Rattle.buffer.proofs.put_bytes.Reads as reads
+use Rattle.buffer.proofs.put_bytes.Lts as lts
+use Rattle.buffer.proofs.put_all.Reads as put-all-reads
+use Rattle.buffer.proofs.put_some.Reads as put-some-reads
 
-abbrev Inv-loop : tie.InvT-loop
-Inv-loop h₀ at v i₀ to₀ h i to = Bytewise h₀ at v h i to
+-- src/lib.rt:139:9
+returns : tie.Need-returns
+returns c = written-past _ _ _ (omega (arith, c .if1 .taken))
 
-abbrev μ-loop : tie.MeasureT-loop
-μ-loop h₀ at v i₀ to₀ h i to = length v - i
+-- src/lib.rt:141:19
+sub-if2 : tie.Need-sub-if2
+sub-if2 c = search needs
 
-loop-holds : tie.Need-loop-holds Inv-loop μ-loop
-loop-holds c = search (bytewise, needs)
+-- src/lib.rt:142:9
+put-all-requires : tie.Need-put-all-requires
+put-all-requires c κs = search needs
 
-same-length : tie.Need-same-length Inv-loop μ-loop
-same-length c = search (bytewise, needs)
+-- src/lib.rt:144:9
+put-some-requires : tie.Need-put-some-requires
+put-some-requires c κs = search needs
 
-returns : tie.Need-returns Inv-loop μ-loop
-returns c = search (bytewise, needs)
+-- src/lib.rt:135:1
+same-length : tie.Need-same-length
+same-length c = search needs
 
-shared-slice-read-h : tie.Need-shared-slice-read-h Inv-loop μ-loop
-shared-slice-read-h c = search (bytewise, needs)
+-- src/lib.rt:135:1
+returns-2 : tie.Need-returns-2
+returns-2 c = search needs
 
-slice-write-h : tie.Need-slice-write-h Inv-loop μ-loop
-slice-write-h c = search (bytewise, needs)
+-- src/lib.rt:135:1
+same-length-2 : tie.Need-same-length-2
+same-length-2 c = search needs
 
-add-to : tie.Need-add-to Inv-loop μ-loop
-add-to c = search (bytewise, needs)
-
-add-i : tie.Need-add-i Inv-loop μ-loop
-add-i c = search (bytewise, needs)
-
-loop-less : tie.Need-loop-less Inv-loop μ-loop
-loop-less c = search (bytewise, needs)
-
-loop-again : tie.Need-loop-again Inv-loop μ-loop
-loop-again c = search (bytewise, needs)
-
-same-length-2 : tie.Need-same-length-2 Inv-loop μ-loop
-same-length-2 c = search (bytewise, needs)
-
-returns-2 : tie.Need-returns-2 Inv-loop μ-loop
-returns-2 c = search (bytewise, needs)
+-- src/lib.rt:135:1
+returns-3 : tie.Need-returns-3
+returns-3 c = search needs
 
 pub put-bytes-spec : {M : Type 1} → statement M
 put-bytes-spec =
     tie.close
     (tie.spec
-    Inv-loop
-    μ-loop
-    loop-holds
-    same-length
     returns
-    shared-slice-read-h
-    slice-write-h
-    add-to
-    add-i
-    loop-less
-    loop-again
+    sub-if2
+    put-all-requires
+    put-some-requires
+    same-length
+    returns-2
     same-length-2
-    returns-2)
+    returns-3)

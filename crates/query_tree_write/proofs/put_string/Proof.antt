@@ -1,27 +1,37 @@
+use Rattle.query_tree_write.proofs.Laws.{typed-put, name-put}
 use borrow.Author.Needs.{needs}
-use Rattle.query_tree_write.proofs.Laws.{strings-put}
 use Rattle.query_tree_write.proofs.put_string.Statement.{statement}
 use Rattle.query_tree_write.proofs.put_string.Tie as tie
+use Rattle.query_tree_write.proofs.put_string.Reads as reads
+use Rattle.query_tree_write.proofs.put_string.Lts as lts
+use Rattle.buffer.proofs.put_bytes.Reads as put-bytes-reads
+use Rattle.names.proofs.put_composed.Reads as put-composed-reads
 
+-- src/lib.rt:81:9
 put-bytes-requires : tie.Need-put-bytes-requires
 put-bytes-requires c κs = search needs
 
-put-composed-requires : tie.Need-put-composed-requires
-put-composed-requires c κs = search needs
-
+-- src/lib.rt:82:9
 same-length : tie.Need-same-length
 same-length c = search needs
 
+-- src/lib.rt:82:9
 returns : tie.Need-returns
-returns c = search (strings-put, needs)
+returns c = typed-put _ _ _ _ _ (c .before .before .before .before .if1 .taken) (c .before .before .put-bytes .ensures)
 
+-- src/lib.rt:84:5
+put-composed-requires : tie.Need-put-composed-requires
+put-composed-requires c κs = search needs
+
+-- src/lib.rt:77:1
 same-length-2 : tie.Need-same-length-2
 same-length-2 c = search needs
 
+-- src/lib.rt:77:1
 returns-2 : tie.Need-returns-2
-returns-2 c = search (strings-put, needs)
+returns-2 c = name-put _ _ _ _ _ _ (c .before .before .before .before .if1 .left) (c .before .before .put-composed .ensures)
 
 pub put-string-spec : {M : Type 1} → statement M
 put-string-spec =
     tie.close
-    (tie.spec put-bytes-requires put-composed-requires same-length returns same-length-2 returns-2)
+    (tie.spec put-bytes-requires same-length returns put-composed-requires same-length-2 returns-2)
