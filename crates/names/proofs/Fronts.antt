@@ -1,19 +1,20 @@
 -- The front of a text that is composed as it is typed.
 use Prim.Native.Nat.{ℕ, zero, suc, _+_, _-_, _≤_, _<_}
 use mathlib.Core.Path.{_≡_, refl, sym, ap, _∙_}
-use mathlib.Core.Bool.{Bool, true, false, not, false≢true, and-eq-true-iff}
+use mathlib.Core.Bool.{Bool, true, false, not, _&&_, false≢true, and-eq-true-iff, and-assoc, and-true}
 use mathlib.Core.List.{[], _∷_, _++_, append-assoc, append-nil}
 use mathlib.Core.Option.{Option, some, none}
 use native.Mathlib.Nat.{add-zero, zero-add, suc-add}
+use native.Mathlib.Numerals.{add-one}
 use native.Mathlib.Omega.{arith}
 use lib.Dec.{eqb}
 use lib.ListN.{length, getD, take, drop, length-drop, drop-of-length-le, List·getD-eq-default}
-use lib.Seq.{drop-drop, getD-drop, take-all}
+use lib.Seq.{drop-drop, drop-cons, getD-drop, take-all}
 use borrow.Author.Tests.{eqb-false, ne-eqb, eq-eqb, not-false}
-use Rattle.text.specs.Bytes.{Bytes, all}
+use Rattle.text.specs.Bytes.{Bytes, all, part}
 use Rattle.names.specs.Codes.{isPlain, isPair, isMark}
 use Rattle.names.specs.Names.{composed}
-use Rattle.names.specs.Steps.{isLetterByte, pairOf, letter, loneLetter, letterAt, prepend, Front, OwnFront}
+use Rattle.names.specs.Steps.{isLetterByte, pairOf, letter, loneLetter, letterAt, prepend, Front, OwnFront, PlainTo}
 use Rattle.names.specs.declared.Letter.{Letter}
 use Rattle.names.proofs.Reading.{encode-plain, encode-pair, paired}
 use Rattle.names.proofs.Letters.{pair-is, is-pair, plain-alone, wide-front, mark-lead, told-alone}
@@ -100,12 +101,7 @@ module _ (s : Bytes) (i : ℕ) (r : Front s i) where
       let k : x ≡ letterAt (drop i s) = rw (f, g) (told-alone (getD s i 0) b (getD (drop i s) 2 0) (_≡_ {A = ℕ} 0 0) x e n .is refl) in
       short-of l (λ h. none-some (take i s) s (sym (ap (prepend (take i s)) (composed-none (drop i s) (omega (arith, length-drop i s)) (rw k at z))) ∙ sym (r .is) ∙ h))
 
--- A run of bytes that are code points by themselves, up to a place: a mark may stand behind the last.
-pub record PlainTo (s : Bytes) (i : ℕ) : Type 0 where
-  pub most : i ≤ length s
-  pub front : Front s (i - 1)
-  pub last : 0 < i → isPlain (getD s (i - 1) 0) ≡ true
-
+-- A run of bytes that are code points by themselves.
 pub plain-none : (s : Bytes) → PlainTo s 0
 plain-none s = record { most = omega arith; front = front-none s; last = λ l. absurd (omega arith) }
 
@@ -131,5 +127,31 @@ module _ (s : Bytes) where
     pub plain-whole : length s ≤ i → OwnFront s i
     plain-whole l = front-whole s i (plain-on i r (λ z. omega (arith, sym (List·getD-eq-default s 0 l) ∙ z))) l
 
-    pub plain-first : i ≡ 0 → Front s 0
-    plain-first e = front-none s
+  pub plain-run : (k i : ℕ) → PlainTo s i → i + k ≤ length s → all isPlain (part s i k) ≡ true → PlainTo s (i + k)
+  unfolding all
+  plain-run zero i r l h = rw (add-zero i) r
+  plain-run (suc k) i r l h =
+      let e : i + suc k ≡ i + 1 + k = omega arith in
+      let d : part s i (suc k) ≡ getD s i 0 ∷ part s (i + 1) k = rw (drop-cons s i 0 (omega arith), ← add-one i) in
+      let g = and-eq-true-iff (isPlain (getD s i 0)) (all isPlain (part s (i + 1) k)) .0 (rw d at h) in
+      rw e (plain-run k (i + 1) (plain-more i r true (sym (g .0)) refl (omega arith)) (omega arith) (g .1))
+
+-- Sixteen bytes, tested up to a place.
+module _ (s : Bytes) (at : ℕ) where
+  abbrev pub BlockTo : Bool → ℕ → Type 0
+  BlockTo ok i = (ok && all isPlain (part s (at + i) (16 - i))) ≡ all isPlain (part s at 16)
+
+  pub block-none : BlockTo true 0
+  block-none = rw (add-zero at)
+
+  pub block-more : (ok b : Bool) (i : ℕ) → BlockTo ok i → i < 16 → at + 16 ≤ length s → b ≡ isPlain (getD s (at + i) 0) → BlockTo (ok && b) (i + 1)
+  unfolding all
+  block-more ok b i r l m e =
+      let n : 16 - i ≡ suc (16 - (i + 1)) = omega arith in
+      let f : at + (i + 1) ≡ at + i + 1 = omega arith in
+      let d : part s (at + i) (16 - i) ≡ getD s (at + i) 0 ∷ part s (at + (i + 1)) (16 - (i + 1)) = rw (n, drop-cons s (at + i) 0 (omega arith), f, ← add-one (at + i)) in
+      and-assoc ok b (all isPlain (part s (at + (i + 1)) (16 - (i + 1)))) ∙ ap (λ (x : Bool). ok && x) (let q : (b && all isPlain (part s (at + (i + 1)) (16 - (i + 1)))) ≡ all isPlain (part s (at + i) (16 - i)) = rw (d, e) in q) ∙ r
+
+  pub block-all : (ok : Bool) (i : ℕ) → BlockTo ok i → 16 ≤ i → ok ≡ all isPlain (part s at 16)
+  unfolding all
+  block-all ok i r l = let n : 16 - i ≡ 0 = omega arith in sym (and-true ok) ∙ ap (λ (x : Bool). ok && x) (let q : true ≡ all isPlain (part s (at + i) (16 - i)) = rw n in q) ∙ r

@@ -115,29 +115,29 @@ module _ (T : Type 0) (s b : Bytes) (at front : ℕ) (o : Front s front) (v k : 
     over : length text ≤ length s → written h at s ≡ written b at s
     over l = rw put (written-longer text s b at l)
 
-    pub put-stopped : (x : Letter) → LetterTold T x (letterAt (drop i s)) → i < length s → x .width ≡ 0 → FormPut T s b at h 0
-    put-stopped x f l w =
+    pub put-stopped : (x : Letter) → LetterTold T x (letterAt (drop i s)) → i < length s → x .width ≡ 0 → T → FormPut s b at h 0
+    put-stopped x f l w t =
         record {
           size = put-size;
-          count = λ t. rw (nothing t);
-          bytes = λ t u e. let z : _≡_ {A = ℕ} 0 1 = (let k = sym (nothing t) ∙ e in cc) in absurd (omega arith);
-          over = λ t e. over (omega (arith, long, r .shorter));
+          count = rw nothing;
+          bytes = λ u e. let z : _≡_ {A = ℕ} 0 1 = (let k = sym nothing ∙ e in cc) in absurd (omega arith);
+          over = λ e. over (omega (arith, long, r .shorter));
         }
       where
-        nothing : T → composed s ≡ none
-        nothing t = r .is t ∙ ap (prepend text) (composed-none (drop i s) (omega (arith, length-drop i s)) (rw (f .is t) at w))
+        nothing : composed s ≡ none
+        nothing = r .is t ∙ ap (prepend text) (composed-none (drop i s) (omega (arith, length-drop i s)) (rw (f .is t) at w))
 
-    pub put-done : length s ≤ i → FormPut T s b at h n
-    put-done l =
+    pub put-done : length s ≤ i → T → FormPut s b at h n
+    put-done l t =
         record {
           size = put-size;
-          count = λ t. rw (form t) (omega (arith, long));
-          bytes = λ t u e. let k : text ≡ u = (let q = sym (form t) ∙ e in cc) in rw (← k) put;
-          over = λ t e. over (omega (arith, long));
+          count = rw form (omega (arith, long));
+          bytes = λ u e. let k : text ≡ u = (let q = sym form ∙ e in cc) in rw (← k) put;
+          over = λ e. over (omega (arith, long));
         }
       where
-        form : T → composed s ≡ some text
-        form t = let m : composed (drop i s) ≡ some [] = rw (drop-of-length-le s l) composed-nothing in r .is t ∙ ap (prepend text) m ∙ ap some (append-nil text)
+        form : composed s ≡ some text
+        form = let m : composed (drop i s) ≡ some [] = rw (drop-of-length-le s l) composed-nothing in r .is t ∙ ap (prepend text) m ∙ ap some (append-nil text)
 
 -- A name judged and composed.
 module _ (s b : Bytes) (at : ℕ) (p : Bool) (f : p ≡ hasNameShape s) where
@@ -150,9 +150,9 @@ module _ (s b : Bytes) (at : ℕ) (p : Bool) (f : p ≡ hasNameShape s) where
         let q = all-own s i r e in
         record { size = rw w (length-written b to s); count = e ∙ name-long s p f o (length s) (own-length s true q refl); bytes = λ z. rw (own-fixed s true q refl, ← k) w }
 
-    pub put-form : (T : Type 0) (g : Bytes) (n : ℕ) → FormPut T s b to g n → T → NamePut s b at g n
+    pub put-form : (g : Bytes) (n : ℕ) → FormPut s b to g n → NamePut s b at g n
     unfolding isNamespace
-    put-form T g n r t = record { size = r .size; count = name-long s p f o n (r .count t); bytes = λ z. rw (← k) (r .bytes t (composedName s) (name-composed s (named s z (shaped s (sym f ∙ not-false p o) .least)))) }
+    put-form g n r = record { size = r .size; count = name-long s p f o n (r .count); bytes = λ z. rw (← k) (r .bytes (composedName s) (name-composed s (named s z (shaped s (sym f ∙ not-false p o) .least)))) }
       where
         named : (s : Bytes) → isNamespace s ≡ true → 1 ≤ length s → isName s ≡ true
         named [] z l = absurd (omega arith)
@@ -187,9 +187,9 @@ module _ (s b : Bytes) (at : ℕ) where
         go (inl l) = let e : to ≡ at = omega (arith, m .0) in rw e
         go (inr l) = sym (written-past v b to l) ∙ written-past v b at (omega (arith, m .0))
 
-    module _ (T : Type 0) (t : T) (g : Bytes) (n : ℕ) (r : FormPut T s b to g n) where
+    module _ (g : Bytes) (n : ℕ) (r : FormPut s b to g n) where
       pub put-typed : n ≡ 0 → (k : Bytes) → k ≡ written g to s → ComposedPut s b at k (length s)
-      put-typed e k w = let q = none-fixed s n (r .count t) e in (sym (ap length q), rw q (w ∙ r .over t e ∙ same-place s))
+      put-typed e k w = let q = none-fixed s n (r .count) e in (sym (ap length q), rw q (w ∙ r .over e ∙ same-place s))
 
       pub put-some : (n ≡ 0 → ⊥) → ComposedPut s b at g n
-      put-some z = on-form (λ u. (n ≡ length u) × (g ≡ written b at u)) s (λ e. absurd (z (r .count t ∙ rw e))) (λ u e. (r .count t ∙ rw e (zero-add (length u)), r .bytes t u e ∙ same-place u))
+      put-some z = on-form (λ u. (n ≡ length u) × (g ≡ written b at u)) s (λ e. absurd (z (r .count ∙ rw e))) (λ u e. (r .count ∙ rw e (zero-add (length u)), r .bytes u e ∙ same-place u))

@@ -1,10 +1,10 @@
 -- Working definitions: the table as the code has it, and one letter of a name after the other.
-use Prim.Native.Nat.{ℕ, suc, _+_, _*_, _%_, _≤_}
+use Prim.Native.Nat.{ℕ, suc, _+_, _*_, _-_, _%_, _≤_, _<_}
 use mathlib.Core.Path.{_≡_}
-use mathlib.Core.Bool.{Bool, true, false, cond, _||_}
+use mathlib.Core.Bool.{Bool, true, false, cond, not, _&&_, _||_}
 use mathlib.Core.List.{List, [], _∷_, _++_, map}
 use mathlib.Core.Option.{Option, some, none}
-use lib.Dec.{eqb}
+use lib.Dec.{eqb, leb}
 use lib.ListN.{length, getD, take, drop}
 use Rattle.text.specs.Bytes.{Bytes}
 use Rattle.text.specs.Table.{tabulate}
@@ -90,6 +90,12 @@ pub record OwnFront (s : Bytes) (i : ℕ) : Type 0 where
   pub front : Front s i
   pub whole : eqb i (length s) ≡ isForm s (composed s)
 
+-- The first i bytes are code points by themselves; a mark may stand behind the last.
+pub record PlainTo (s : Bytes) (i : ℕ) : Type 0 where
+  pub most : i ≤ length s
+  pub front : Front s (i - 1)
+  pub last : 0 < i → isPlain (getD s (i - 1) 0) ≡ true
+
 -- n more than the length, 0 for none.
 abbrev pub lengthAfter : ℕ → Option Bytes → ℕ
 lengthAfter n none = 0
@@ -107,11 +113,11 @@ pub record LetterTold (T : Type 0) (x y : Letter) : Type 0 where
   pub is : T → x ≡ y
 
 -- What writing the composed form of s over b answers: how long it is, 0 for none. The text itself may then be written in its place.
-pub record FormPut (T : Type 0) (s b : Bytes) (at : ℕ) (c : Bytes) (r : ℕ) : Type 0 where
+pub record FormPut (s b : Bytes) (at : ℕ) (c : Bytes) (r : ℕ) : Type 0 where
   pub size : length c ≡ length b
-  pub count : T → r ≡ lengthAfter 0 (composed s)
-  pub bytes : T → (t : Bytes) → composed s ≡ some t → c ≡ written b at t
-  pub over : T → r ≡ 0 → written c at s ≡ written b at s
+  pub count : r ≡ lengthAfter 0 (composed s)
+  pub bytes : (t : Bytes) → composed s ≡ some t → c ≡ written b at t
+  pub over : r ≡ 0 → written c at s ≡ written b at s
 
 -- What judging a name and writing its composed form answers; the empty text stays empty.
 pub record NamePut (s b : Bytes) (at : ℕ) (c : Bytes) (r : ℕ) : Type 0 where
@@ -120,5 +126,20 @@ pub record NamePut (s b : Bytes) (at : ℕ) (c : Bytes) (r : ℕ) : Type 0 where
   pub bytes : isNamespace s ≡ true → c ≡ written b at (composedName s)
 
 -- The bytes of a composed text: those of one byte, and the first and the second of the two of a letter.
+abbrev pub isLead : ℕ → Bool
+isLead b = within 194 197 b
+
+abbrev pub isTail : ℕ → Bool
+isTail b = within 128 191 b
+
 unfoldable pub isLetterByte : ℕ → Bool
-isLetterByte b = isPlain b || within 128 191 b || within 194 197 b
+isLetterByte b = isPlain b || isTail b || isLead b
+
+-- Whether b may stand behind p: a second byte behind a first one and nowhere else, and none below U+00A0.
+unfoldable pub follows : ℕ → ℕ → Bool
+follows p b = (isLead p && isTail b || not (isLead p) && not (isTail b)) && (not (eqb p 194) || leb 160 b)
+
+-- Whether each byte may stand where it does, the first behind p.
+unfoldable pub pairedFrom : ℕ → Bytes → Bool
+pairedFrom p [] = not (isLead p)
+pairedFrom p (b ∷ s) = follows p b && pairedFrom b s

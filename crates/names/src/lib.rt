@@ -177,7 +177,7 @@ fn compose_from(
     front: usize,
 ) -> usize
     requires { ⌜ Front (now s) front × (at + length (now s) < 2 ^ 64) ⌝ }
-    ensures { λ r. ⌜ FormPut (IsTable (now (places .entry)) (now (letters .entry)) (now (marks .entry)) (now (codes .entry))) (now (s .entry)) (now (h .entry)) at (now (h .exit)) r ⌝ }
+    ensures { λ r. ⌜ (IsTable (now (places .entry)) (now (letters .entry)) (now (marks .entry)) (now (codes .entry)) → FormPut (now (s .entry)) (now (h .entry)) at (now (h .exit)) r) ⌝ }
 {
     put_bytes(h, at, part(s, 0, front));
     let mut n = front;
@@ -195,6 +195,18 @@ fn compose_from(
     n
 }
 
+// The same with a table of its own.
+fn compose_rest(h: &mut [u8], at: usize, s: &[u8], front: usize) -> usize
+    requires { ⌜ Front (now s) front × (at + length (now s) < 2 ^ 64) ⌝ }
+    ensures { λ r. ⌜ FormPut (now (s .entry)) (now (h .entry)) at (now (h .exit)) r ⌝ }
+{
+    let places = table::places();
+    let letters = table::letters();
+    let marks = table::marks();
+    let codes = table::codes();
+    compose_from(&places, &letters, &marks, &codes, h, at, s, front)
+}
+
 // Whether the bytes are a name.
 pub fn is_name(s: &[u8]) -> bool
     ensures { λ r. ⌜ r ≡ isName (now (s .entry)) ⌝ }
@@ -206,12 +218,8 @@ pub fn is_name(s: &[u8]) -> bool
     if front == s.len() {
         return true;
     }
-    let places = table::places();
-    let letters = table::letters();
-    let marks = table::marks();
-    let codes = table::codes();
     let mut form = [0u8; 64];
-    let n = compose_from(&places, &letters, &marks, &codes, &mut form, 0, s, front);
+    let n = compose_rest(&mut form, 0, s, front);
     0 < n
 }
 
@@ -237,12 +245,8 @@ pub fn put_composed(h: &mut [u8], at: usize, s: &[u8]) -> usize
         put_bytes(h, at, s);
         return front;
     }
-    let places = table::places();
-    let letters = table::letters();
-    let marks = table::marks();
-    let codes = table::codes();
     let start = least(at, h.len());
-    let n = compose_from(&places, &letters, &marks, &codes, h, start, s, front);
+    let n = compose_rest(h, start, s, front);
     if n == 0 {
         put_bytes(h, start, s);
         return s.len();

@@ -14,7 +14,7 @@ use Rattle.text.proofs.Laws.{all-append}
 use Rattle.buffer.specs.Numbers.{zeros, padded, twoBytes}
 use Rattle.buffer.specs.Writing.{written}
 use Rattle.buffer.proofs.Padding.{zeros-add}
-use Rattle.buffer.proofs.Written.{written-then, length-written}
+use Rattle.buffer.proofs.Written.{written-then, written-none, length-written}
 use Rattle.buffer.proofs.Regions.{length-zeros, length-padded}
 use Rattle.names.specs.Names.{composedName}
 use Rattle.names.proofs.Composed.{composed-empty}
@@ -81,6 +81,15 @@ module _ (b : Bool) (s : Bytes) where
   abbrev Written : Bytes → ℕ → Bytes → ℕ → Type 0
   Written h at h′ n = (n ≡ length (stringAs b s)) × (h′ ≡ written h at (stringAs b s))
 
+  pub empty-put : (h : Bytes) (at : ℕ) → length s ≡ 0 → Written h at h 0
+  unfolding stringAs
+  empty-put h at e = let k = go b s e in (sym (ap length k), sym (ap (written h at) k ∙ written-none h at))
+    where
+      go : (b : Bool) (s : Bytes) → length s ≡ 0 → stringAs b s ≡ []
+      go true [] l = refl
+      go false [] l = composed-empty
+      go b (x ∷ s) l = absurd (omega arith)
+
   pub typed-put : (h h′ : Bytes) (at : ℕ) → b ≡ true → h′ ≡ written h at s → Written h at h′ (length s)
   unfolding stringAs
   typed-put h h′ at e k = (rw e, rw e k)
@@ -89,7 +98,9 @@ module _ (b : Bool) (s : Bytes) where
   unfolding stringAs
   name-put h h′ at n e k = (rw e (k .0), rw e (k .1))
 
-pub ruleset strings-put = (typed-put, name-put)
+pub name-is : (s h h′ : Bytes) (at n : ℕ) → (n ≡ length (stringAs false s)) × (h′ ≡ written h at (stringAs false s)) → (n ≡ length (composedName s)) × (h′ ≡ written h at (composedName s))
+unfolding stringAs
+name-is s h h′ at n k = k
 
 -- A string that a node does not have is empty, composed too.
 module _ (x : TreeNode) (s : Bytes) (end : ℕ) (e : Entry) where

@@ -73,10 +73,13 @@ fn entry_of(node: TreeNode, end: usize) -> Entry
     }
 }
 
-// Writes a string, a value as typed and a name composed, and tells how long it then is.
+// Writes a string, a value as typed and a name composed, and tells how long it then is. Most nodes have none or one.
 fn put_string(tree: &mut [u8], at: usize, typed: bool, s: &[u8]) -> usize
     ensures { λ r. ⌜ (r ≡ length (stringAs typed (now (s .entry)))) × (now (tree .exit) ≡ written (now (tree .entry)) at (stringAs typed (now (s .entry)))) ⌝ }
 {
+    if s.len() == 0 {
+        return 0;
+    }
     if typed {
         put_bytes(tree, at, s);
         return s.len();
@@ -132,7 +135,7 @@ pub fn put_node(s: &[u8], tree: &mut [u8], at: Place, node: TreeNode) -> Place
     if !has_room(count, end) {
         return at;
     }
-    let n = put_composed(tree, layout::STRINGS + end, a);
+    let n = put_string(tree, layout::STRINGS + end, false, a);
     if 64 < n {
         return at;
     }

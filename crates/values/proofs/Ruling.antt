@@ -18,9 +18,9 @@ use Rattle.text.proofs.Tables.{getD-tabulate}
 use Rattle.text.proofs.Keys.{Small}
 use Rattle.names.specs.Codes.{isPlain}
 use Rattle.names.specs.Names.{composed, isForm, hasNameShape, isSized, first, last, isComposedName}
-use Rattle.names.specs.Steps.{isLetterByte}
+use Rattle.names.specs.Steps.{isLetterByte, pairedFrom}
 use Rattle.names.proofs.Naming.{composed-told}
-use Rattle.names.proofs.OwnForm.{own-plain, own-letters, not-own, plain-letter}
+use Rattle.names.proofs.OwnForm.{own-told, own-plain, plain-letter}
 use Rattle.names.proofs.Composed.{plain-name, letter-name}
 use Rattle.values.specs.Names.{isValue}
 use Rattle.values.specs.Answers.{hasBareEnds}
@@ -198,29 +198,32 @@ module _ (s : Bytes) (a d : Bool) (e : a ≡ isSized s) (g : d ≡ hasBareEnds s
       pub class-plain : (begun x && ltb out 1) ≡ true → 2 ≡ nameClass s
       class-plain k =
           let u = and-eq-true-iff (begun x) (ltb out 1) .0 k in
-          rw (name-told true (sym (own-plain s (sym (ruled-plain t s out p small r) ∙ u .1))), u .0)
+          rw (name-told true (sym (own-plain s (ltb out 1) (ruled-plain t s out p small r) (u .1))), u .0)
 
-      module _ (k : (begun x && ltb out 2) ≡ true) (q : Bool) (w : q ≡ isForm s (composed s)) where
+      module _ (k : (begun x && ltb out 2) ≡ true) (q : Bool) (w : q ≡ pairedFrom 0 s) where
         u : (begun x ≡ true) × (ltb out 2 ≡ true)
         u = and-eq-true-iff (begun x) (ltb out 2) .0 k
 
         letters : all isLetterByte s ≡ true
         letters = sym (ruled-letters t s out p small r) ∙ u .1
 
-        pub class-own : q ≡ true → 2 ≡ nameClass s
-        class-own e = rw (name-told true (sym w ∙ e), u .0)
+        form : isForm s (composed s) ≡ q
+        form = sym (own-told s true q (sym letters) w)
 
-        pub class-other : q ≡ false → 1 ≡ nameClass s
-        class-other e =
+        pub class-paired : q ≡ true → 2 ≡ nameClass s
+        class-paired e = rw (name-told true (form ∙ e), u .0)
+
+        pub class-unpaired : q ≡ false → 1 ≡ nameClass s
+        class-unpaired e =
             let v : isValue s ≡ true = value-sorted ∙ rw (not-false (a && d) h, letters-values s letters, ← f) (begun-value (eqb x 33) (eqb x 126) (eqb x 43) (u .0)) in
-            rw (name-told false (sym w ∙ e), v)
+            rw (name-told false (form ∙ e), v)
 
       no-name : (begun x && ltb out 2) ≡ false → isComposedName s ≡ false
       no-name k = go (begun x) (ltb out 2) refl refl
         where
           go : (b l : Bool) → begun x ≡ b → ltb out 2 ≡ l → isComposedName s ≡ false
           go true true e g = absurd (false≢true (sym k ∙ rw (e, g)))
-          go true false e g = name-told false (sym (not-own s (λ c. false≢true (sym g ∙ ruled-letters t s out p small r ∙ own-letters s c))))
+          go true false e g = name-told false (sym (own-told s false (pairedFrom 0 s) (sym g ∙ ruled-letters t s out p small r) refl))
           go false l e g = name-told (isForm s (composed s)) refl ∙ rw e (and-false (isForm s (composed s)))
 
       pub class-value : (begun x && ltb out 2) ≡ false → (ltb out 4 && not (eqb x 126)) ≡ true → 1 ≡ nameClass s

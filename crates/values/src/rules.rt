@@ -3,7 +3,7 @@ ghost use mathlib.Core.Path.{_≡_};
 ghost use Rattle.values.specs.ByteRules.{ruleTable, RuledOut, nameClass};
 use crate::has_bare_ends;
 use crate::is_sized;
-use names::own_form::is_own_form;
+use names::own_form::all_paired;
 use text::byte_at;
 use text::widen;
 
@@ -43,7 +43,7 @@ pub fn name_class<'a>(rules: &'a [u8], s: &'a [u8]) -> u16
         return 2;
     }
     if begun & (out < 2) {
-        if is_own_form(s) {
+        if all_paired(s) {
             return 2;
         }
         return 1;

@@ -48,7 +48,7 @@ same-length-2 c = search needs
 
 -- src/putting.rt:12:1
 returns-3 : tie.Need-returns-3
-returns-3 c = put-form _ _ _ _ (c .before .before .before .before .before .before .before .before .has-name-shape .ensures) (c .before .before .before .before .before .before .before .if1 .left) _ (c .before .before .before .before .before .before .widen .ensures) _ _ _ (c .before .before .compose-from .ensures)
+returns-3 c = λ t. put-form _ _ _ _ (c .before .before .before .before .before .before .before .before .has-name-shape .ensures) (c .before .before .before .before .before .before .before .if1 .left) _ (c .before .before .before .before .before .before .widen .ensures) _ _ (c .before .before .compose-from .ensures t)
 
 pub put-name-spec : {M : Type 1} → statement M
 put-name-spec =

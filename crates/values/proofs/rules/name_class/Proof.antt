@@ -1,11 +1,11 @@
 use native.Mathlib.Omega.{arith}
-use Rattle.values.proofs.Ruling.{class-unfit, class-plain, class-own, class-other, class-value, class-neither}
+use Rattle.values.proofs.Ruling.{class-unfit, class-plain, class-paired, class-unpaired, class-value, class-neither}
 use borrow.Author.Needs.{needs}
 use Rattle.values.proofs.rules.name_class.Statement.{statement}
 use Rattle.values.proofs.rules.name_class.Tie as tie
 use Rattle.values.proofs.rules.name_class.Reads as reads
 use Rattle.values.proofs.rules.name_class.Lts as lts
-use Rattle.names.proofs.own_form.is_own_form.Reads as is-own-form-reads
+use Rattle.names.proofs.own_form.all_paired.Reads as all-paired-reads
 use Rattle.text.proofs.byte_at.Reads as byte-at-reads
 use Rattle.values.proofs.has_bare_ends.Reads as has-bare-ends-reads
 use Rattle.values.proofs.is_sized.Reads as is-sized-reads
@@ -36,16 +36,16 @@ returns-2 : tie.Need-returns-2
 returns-2 c = λ p. class-plain (c .before .before .before .before .before .before .before .before .args .s .now) _ _ (c .before .before .before .before .before .is-sized .ensures) (c .before .before .before .before .has-bare-ends .ensures) (c .before .before .byte-at .result) (c .before .ruled-out .result) (c .before .before .before .if1 .left) (c .before .before .byte-at .ensures) (λ i. omega (arith, c .before .before .before .before .before .before .shared-slice-known2 .given i)) (c .before .before .before .before .before .before .before .before .args .rules .now) (c .before .ruled-out .ensures) p (c .if2 .taken)
 
 -- src/rules.rt:46:12
-is-own-form-requires : tie.Need-is-own-form-requires
-is-own-form-requires c κs = search needs
+all-paired-requires : tie.Need-all-paired-requires
+all-paired-requires c κs = search needs
 
 -- src/rules.rt:47:13
 returns-3 : tie.Need-returns-3
-returns-3 c = λ p. class-own (c .before .before .before .before .before .before .before .before .before .before .before .args .s .now) _ _ (c .before .before .before .before .before .before .before .before .is-sized .ensures) (c .before .before .before .before .before .before .before .has-bare-ends .ensures) (c .before .before .before .before .before .byte-at .result) (c .before .before .before .before .ruled-out .result) (c .before .before .before .before .before .before .if1 .left) (c .before .before .before .before .before .byte-at .ensures) (λ i. omega (arith, c .before .before .before .before .before .before .before .before .before .shared-slice-known2 .given i)) (c .before .before .before .before .before .before .before .before .before .before .before .args .rules .now) (c .before .before .before .before .ruled-out .ensures) p (c .before .before .if3 .taken) _ (c .before .is-own-form .ensures) (c .if4 .taken)
+returns-3 c = λ p. class-paired (c .before .before .before .before .before .before .before .before .before .before .before .args .s .now) _ _ (c .before .before .before .before .before .before .before .before .is-sized .ensures) (c .before .before .before .before .before .before .before .has-bare-ends .ensures) (c .before .before .before .before .before .byte-at .result) (c .before .before .before .before .ruled-out .result) (c .before .before .before .before .before .before .if1 .left) (c .before .before .before .before .before .byte-at .ensures) (λ i. omega (arith, c .before .before .before .before .before .before .before .before .before .shared-slice-known2 .given i)) (c .before .before .before .before .before .before .before .before .before .before .before .args .rules .now) (c .before .before .before .before .ruled-out .ensures) p (c .before .before .if3 .taken) _ (c .before .all-paired .ensures) (c .if4 .taken)
 
 -- src/rules.rt:49:9
 returns-4 : tie.Need-returns-4
-returns-4 c = λ p. class-other (c .before .before .before .before .before .before .before .before .before .before .before .args .s .now) _ _ (c .before .before .before .before .before .before .before .before .is-sized .ensures) (c .before .before .before .before .before .before .before .has-bare-ends .ensures) (c .before .before .before .before .before .byte-at .result) (c .before .before .before .before .ruled-out .result) (c .before .before .before .before .before .before .if1 .left) (c .before .before .before .before .before .byte-at .ensures) (λ i. omega (arith, c .before .before .before .before .before .before .before .before .before .shared-slice-known2 .given i)) (c .before .before .before .before .before .before .before .before .before .before .before .args .rules .now) (c .before .before .before .before .ruled-out .ensures) p (c .before .before .if3 .taken) _ (c .before .is-own-form .ensures) (c .if4 .left)
+returns-4 c = λ p. class-unpaired (c .before .before .before .before .before .before .before .before .before .before .before .args .s .now) _ _ (c .before .before .before .before .before .before .before .before .is-sized .ensures) (c .before .before .before .before .before .before .before .has-bare-ends .ensures) (c .before .before .before .before .before .byte-at .result) (c .before .before .before .before .ruled-out .result) (c .before .before .before .before .before .before .if1 .left) (c .before .before .before .before .before .byte-at .ensures) (λ i. omega (arith, c .before .before .before .before .before .before .before .before .before .shared-slice-known2 .given i)) (c .before .before .before .before .before .before .before .before .before .before .before .args .rules .now) (c .before .before .before .before .ruled-out .ensures) p (c .before .before .if3 .taken) _ (c .before .all-paired .ensures) (c .if4 .left)
 
 -- src/rules.rt:32:1
 returns-5 : tie.Need-returns-5
@@ -65,7 +65,7 @@ name-class-spec =
     byte-at-requires
     ruled-out-requires
     returns-2
-    is-own-form-requires
+    all-paired-requires
     returns-3
     returns-4
     returns-5
