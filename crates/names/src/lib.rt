@@ -10,7 +10,7 @@ ghost use Rattle.names.specs.Steps.{IsTable, letterPair, loneLetter, let
 pub mod composed_codes; // composed_codes.rt: the composed letters of the table
 pub mod letter_codes; // letter_codes.rt: its letters
 pub mod mark_codes; // mark_codes.rt: its marks
-pub mod own_form; // own_form.rt: whether a text is its own composed form
+pub mod own_form; // own_form.rt: how much of a text is composed as it is typed
 pub mod putting; // putting.rt: a name judged and composed by a table that is lent
 pub mod table; // table.rt: a letter and a mark looked up in it
 
@@ -195,7 +195,7 @@ fn compose_from(
     n
 }
 
-// The same with a table of its own.
+// The same with a table of its own. It is a function apart from its callers so that they stay small enough to be compiled into theirs.
 fn compose_rest(h: &mut [u8], at: usize, s: &[u8], front: usize) -> usize
     requires { ⌜ Front (now s) front × (at + length (now s) < 2 ^ 64) ⌝ }
     ensures { λ r. ⌜ FormPut (now (s .entry)) (now (h .entry)) at (now (h .exit)) r ⌝ }

@@ -1,4 +1,5 @@
-// Whether a text is its own composed form: most names are, and no letter of theirs is looked up in the table.
+// How much of a text is composed as it is typed, and whether all of it is: most names are, and no letter of theirs is looked up in the
+// table.
 ghost use mathlib.Core.Path.{_≡_};
 ghost use Prim.Native.Nat.{_+_, _≤_};
 ghost use lib.ListN.{length};
