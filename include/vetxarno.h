@@ -45,7 +45,7 @@ extern "C" {
 /* The size of a held register, of a held tree and of a held query. A longer buffer may be lent; only its first bytes count. */
 #define VETXARNO_REGISTER_BYTES 63628
 #define VETXARNO_TREE_BYTES 5112
-#define VETXARNO_QUERY_BYTES 21570
+#define VETXARNO_QUERY_BYTES 29794
 
 /* Reads a register text and writes the held register into the first VETXARNO_REGISTER_BYTES bytes of `held`; later bytes
  * stay as they are. Returns 0, or:

@@ -13,6 +13,7 @@ use Rattle.text.specs.Parts.{partOf}
 use Rattle.text.specs.Table.{tabulate}
 use Rattle.text.specs.declared.Span.{Span}
 use Rattle.text.proofs.Tables.{getD-tabulate, tabulate-ext}
+use Rattle.values.specs.Answers.{splitOf}
 use Rattle.pageset.specs.declared.PageSet.{PageSet}
 use Rattle.pageset.specs.Marks.{marksFrom}
 use Rattle.pageset.proofs.Laws.{tabulate-both}
@@ -143,6 +144,8 @@ module _ (h : Bytes) (places : List ℕ) (q : Bytes) where
         go (Selector.Article o p) w z = leaf (Node.article o (named q p)) (Core.Selector.article o (named q p)) (λ st. refl) z
         go (Selector.Value p o k) w z =
             leaf (Node.value (named q p) o (constantBy (heapIn q) k)) (Core.Selector.value (named q p) o (constantBy (heapIn q) k)) (λ st. refl) z
+        go (Selector.Link p o r) w z =
+            leaf (Node.link (named q p) o (splitOf (heapIn q) r)) (Core.Selector.link (named q p) o (splitOf (heapIn q) r)) (λ st. refl) z
 
     pub eval-within : (inner : Evaluated) (set : PageSet) → b ≡ true → Evaluates h places q at (stackAt q at) inner
         → Selects h places (heapIn q) selector (marksFrom (inner .set .words)) (marksFrom (set .words))
@@ -160,6 +163,7 @@ module _ (h : Bytes) (places : List ℕ) (q : Bytes) where
             means-within R q at (partOf (heapIn q) p) (stackAt q at) inner (record { set = set; next = inner .next }) (known o .limits .pages) (i R o) f refl
         go (Selector.Article o p) w f = absurd (false≢true w)
         go (Selector.Value p o k) w f = absurd (false≢true w)
+        go (Selector.Link p o r) w f = absurd (false≢true w)
 
   -- eval: no node, a node that does not read
   pub eval-zero : (at : ℕ) (r : Evaluated) → at ≡ 0 → Evaluates h places q at (stackAt q at) r

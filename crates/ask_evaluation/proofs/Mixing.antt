@@ -13,12 +13,14 @@ use Rattle.text.specs.declared.Span.{Span}
 use Rattle.values.specs.Values.{kindOfConstant}
 use Rattle.values.specs.declared.Kind.{Kind}
 use Rattle.values.specs.declared.Scalar.{Scalar}
+use Rattle.values.specs.declared.Split.{Split}
 use Rattle.language.specs.Answer.{_>>=_, found}
 use Rattle.language.specs.Core.{Core}
 use Rattle.language.specs.Core as Selectors
 use Rattle.language.specs.Register.{Register}
 use Rattle.language.specs.Semantics.{someOther, mismatch, mismatchIn}
 use Rattle.language.specs.declared.Comparator.{Comparator}
+use Rattle.language.specs.declared.SurfaceComparator.{SurfaceComparator}
 use Rattle.query_core.specs.Held.{countIn, heapIn, nodeIn}
 use Rattle.query_core.specs.Postfix.{Node, stepped}
 use Rattle.query_core.specs.Reading.{joinedBy, ReadsNode, expectsKind, TestsNode}
@@ -38,6 +40,9 @@ module _ (k : Connective) (e : k ≡ Connective.Select) (y : Selector) (p : Span
   pub expects-page : y ≡ Selector.Subquery p → Expected.Kind p Kind.Page ≡ expectedIn k y
   expects-page f = rw (e, f)
 
+  pub expects-link : (c : SurfaceComparator) (r : Split) → y ≡ Selector.Link p c r → Expected.Kind p Kind.Page ≡ expectedIn k y
+  expects-link c r f = rw (e, f)
+
   module _ (c : Comparator) (v : Constant) (f : y ≡ Selector.Value p c v) where
     pub expects-scalar : (j : Scalar) (n : ℕ) → v ≡ Constant.Scalar j n → Expected.Kind p (Kind.Scalar j) ≡ expectedIn k y
     expects-scalar j n g = rw (e, f, g)
@@ -45,7 +50,7 @@ module _ (k : Connective) (e : k ≡ Connective.Select) (y : Selector) (p : Span
     pub expects-string : (s : Span) → v ≡ Constant.String s → Expected.Kind p Kind.String ≡ expectedIn k y
     expects-string s g = rw (e, f, g)
 
-pub ruleset expecting = (expects-page, expects-scalar, expects-string)
+pub ruleset expecting = (expects-page, expects-link, expects-scalar, expects-string)
 
 -- the kind that is expected of a property is not that of some page's value
 abbrev otherThan : Register → Bytes → Expected → Bool
@@ -62,6 +67,7 @@ mixes-expected R q Connective.Select (Selector.Subquery p) = refl
 mixes-expected R q Connective.Select (Selector.Article c p) = refl
 mixes-expected R q Connective.Select (Selector.Value p c (Constant.Scalar k n)) = refl
 mixes-expected R q Connective.Select (Selector.Value p c (Constant.String s)) = refl
+mixes-expected R q Connective.Select (Selector.Link p c r) = refl
 
 -- some node so far mixes kinds where some query on the stack has a mismatch
 module _ (R : Register) where
@@ -108,6 +114,7 @@ module _ (R : Register) where
       ∙ both-sides (mixed st) (someOther R x Kind.Page) (mismatch a R)
   step-mixes (Node.article c x) st after e = leaf-mixes (Selectors.Selector.article c x) st after false e refl
   step-mixes (Node.value x c v) st after e = leaf-mixes (Selectors.Selector.value x c v) st after (someOther R x (kindOfConstant v)) e refl
+  step-mixes (Node.link x c r) st after e = leaf-mixes (Selectors.Selector.link x c r) st after (someOther R x Kind.Page) e refl
 
   stack-mixes : (h : Bytes) (i : ℕ) (st : List Core) → stackAt h i ≡ some st → anyTo i (mixesIn R h) ≡ mixed st
   unfolding anyTo any mixesIn
@@ -132,6 +139,7 @@ mixes-quiet R (Node.existence x) e = refl
 mixes-quiet R (Node.subquery x) e = absurd (true≢false e)
 mixes-quiet R (Node.article c x) e = refl
 mixes-quiet R (Node.value x c v) e = absurd (true≢false e)
+mixes-quiet R (Node.link x c r) e = absurd (true≢false e)
 
 module _ (h q : Bytes) where
   -- mixes_at

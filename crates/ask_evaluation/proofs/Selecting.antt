@@ -7,14 +7,16 @@ use Rattle.text.specs.Bytes.{Bytes, same, any}
 use Rattle.text.specs.Parts.{partOf}
 use Rattle.text.specs.declared.Span.{Span}
 use Rattle.language.specs.Register.{Page, Register, holds}
-use Rattle.language.specs.Semantics.{Cv, follows, noMixed}
+use Rattle.language.specs.Semantics.{follows, noMixed}
 use Rattle.language.specs.declared.Comparator.{Comparator}
-use Rattle.query_core.specs.Reading.{constantBy}
+use Rattle.language.specs.declared.SurfaceComparator.{SurfaceComparator}
+use Rattle.values.specs.declared.Split.{Split}
 use Rattle.query_core.specs.declared.Selector.{Selector}
 use Rattle.query_core.specs.declared.Constant.{Constant}
 use Rattle.register_form.specs.Opened.{Opened}
-use Rattle.register_form_view.specs.View.{namePasses, marksIn, Agrees}
+use Rattle.register_form_view.specs.View.{passes, namePasses, marksIn, Agrees}
 use Rattle.register_form_view.specs.declared.NameTest.{NameTest}
+use Rattle.register_form_view.specs.declared.ValueTest.{ValueTest}
 use Rattle.ask_evaluation.specs.Meaning.{nameSpan, Selects}
 
 module _ (h : Bytes) (places : List ℕ) (q : Bytes) (selector : Selector) (set marks : List Bool) (y x : Bytes) (s : Span) (text : y ≡ q) (name : s ≡ nameSpan selector) (lies : x ≡ partOf y s) where
@@ -48,8 +50,12 @@ module _ (h : Bytes) (places : List ℕ) (q : Bytes) (selector : Selector) (set 
   unfolding Selects
   select-article c p e f R o inner a = rw (← there, e) (f places R o)
 
-  pub select-value : (p : Span) (c : Comparator) (w : Constant) → selector ≡ Selector.Value p c w → Marks (holds x (Cv noMixed c (constantBy y w))) → Selects h places q selector set marks
+  pub select-value : (p : Span) (c : Comparator) (w : Constant) → selector ≡ Selector.Value p c w → Marks (holds x (passes y (ValueTest.Constant c w))) → Selects h places q selector set marks
   unfolding Selects
   select-value p c w e f R o inner a = rw (← there, e, ← text) (f places R o)
 
-pub ruleset selecting = (select-category, select-namespace, select-article, select-existence, select-subquery, select-value)
+  pub select-link : (p : Span) (c : SurfaceComparator) (r : Split) → selector ≡ Selector.Link p c r → Marks (holds x (passes y (ValueTest.Reference c r))) → Selects h places q selector set marks
+  unfolding Selects
+  select-link p c r e f R o inner a = rw (← there, e, ← text) (f places R o)
+
+pub ruleset selecting = (select-category, select-namespace, select-article, select-existence, select-subquery, select-value, select-link)

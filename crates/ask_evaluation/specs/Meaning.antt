@@ -10,11 +10,12 @@ use Rattle.text.specs.Bytes.{Bytes, same, any}
 use Rattle.text.specs.Parts.{partOf}
 use Rattle.text.specs.Table.{tabulate}
 use Rattle.text.specs.declared.Span.{Span}
+use Rattle.values.specs.Answers.{splitOf}
 use Rattle.pageset.specs.Marks.{marksFrom}
 use Rattle.language.specs.Answer.{_>>=_}
 use Rattle.language.specs.Core.{Core}
 use Rattle.language.specs.Register.{Page, Register, holds}
-use Rattle.language.specs.Semantics.{Ca, Cv, follows, noMixed, selects}
+use Rattle.language.specs.Semantics.{Ca, Cv, Cl, follows, noMixed, selects}
 use Rattle.query_core.specs.Stack.{stackAt}
 use Rattle.query_core.specs.Held.{heapIn}
 use Rattle.query_core.specs.Postfix.{stepped}
@@ -39,6 +40,7 @@ nameSpan (Selector.Existence p) = p
 nameSpan (Selector.Subquery p) = p
 nameSpan (Selector.Article c p) = p
 nameSpan (Selector.Value p c v) = p
+nameSpan (Selector.Link p c r) = p
 
 abbrev pub isSubquery : Selector → Bool
 isSubquery (Selector.Category p) = false
@@ -47,6 +49,7 @@ isSubquery (Selector.Existence p) = false
 isSubquery (Selector.Subquery p) = true
 isSubquery (Selector.Article c p) = false
 isSubquery (Selector.Value p c v) = false
+isSubquery (Selector.Link p c r) = false
 
 abbrev pub isSelection : Connective → Bool
 isSelection Connective.And = false
@@ -61,6 +64,7 @@ matches q x R inner (Selector.Existence p) page = holds x (λ v. true) page
 matches q x R inner (Selector.Subquery p) page = holds x (follows noMixed R inner) page
 matches q x R inner (Selector.Article c p) page = Ca c (page .identifier .article) x
 matches q x R inner (Selector.Value p c v) page = holds x (Cv noMixed c (constantBy q v)) page
+matches q x R inner (Selector.Link p c r) page = holds x (Cl noMixed c (splitOf q r)) page
 
 -- How many pages a register has.
 abbrev pub pagesOf : Register → ℕ

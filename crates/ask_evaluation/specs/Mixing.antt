@@ -33,6 +33,7 @@ wantedBy (Selector.Subquery p) = Expected.Kind p Kind.Page
 wantedBy (Selector.Article c p) = Expected.Nothing
 wantedBy (Selector.Value p c (Constant.Scalar k n)) = Expected.Kind p (Kind.Scalar k)
 wantedBy (Selector.Value p c (Constant.String t)) = Expected.Kind p Kind.String
+wantedBy (Selector.Link p c r) = Expected.Kind p Kind.Page
 
 abbrev pub expectedIn : Connective → Selector → Expected
 expectedIn Connective.And y = Expected.Nothing
@@ -49,6 +50,7 @@ mixes R (Node.existence x) = false
 mixes R (Node.subquery x) = someOther R x Kind.Page
 mixes R (Node.article c x) = false
 mixes R (Node.value x c v) = someOther R x (kindOfConstant v)
+mixes R (Node.link x c r) = someOther R x Kind.Page
 
 unfoldable pub mixesIn : Register → Bytes → ℕ → Bool
 mixesIn R q i = found (nodeIn q i) (mixes R) false

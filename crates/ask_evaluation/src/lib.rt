@@ -13,8 +13,10 @@ use pageset::PageSet;
 use query_core::Connective;
 use query_core::NodeRead;
 use query_core::Selector;
+use query_core::layout;
 use query_core::node_at;
 use register_form_view::NameTest;
+use register_form_view::ValueTest;
 use register_form_view::pages_in_category;
 use register_form_view::pages_named;
 use register_form_view::pages_with_link;
@@ -40,7 +42,7 @@ pub enum Expected {
 pub fn query_heap(q: &[u8]) -> &[u8]
     ensures { λ r. ⌜ now r ≡ heapIn (now (q .entry)) ⌝ }
 {
-    part(q, 5122, 16448)
+    part(q, layout::HEAP, layout::HEAP_BYTES)
 }
 
 // A number of pages, as far as a page set has places.
@@ -61,6 +63,7 @@ pub fn name_of(selector: Selector) -> Span
         Selector::Subquery(p) => p,
         Selector::Article(_, p) => p,
         Selector::Value(p, _, _) => p,
+        Selector::Link(p, _, _) => p,
     }
 }
 
@@ -74,6 +77,7 @@ fn is_subquery(selector: Selector) -> bool
         Selector::Subquery(_) => true,
         Selector::Article(_, _) => false,
         Selector::Value(_, _, _) => false,
+        Selector::Link(_, _, _) => false,
     }
 }
 
@@ -104,7 +108,8 @@ fn select(q: &[u8], selector: Selector, inner: PageSet, h: &[u8], places: &[u16]
             pages_with_link(h, places, x, &words)
         }
         Selector::Article(o, _) => pages_named(h, NameTest::Article(o), x),
-        Selector::Value(_, o, v) => pages_with_value(h, x, o, v, heap),
+        Selector::Value(_, o, v) => pages_with_value(h, x, ValueTest::Constant(o, v), heap),
+        Selector::Link(_, o, r) => pages_with_value(h, x, ValueTest::Reference(o, r), heap),
     }
 }
 

@@ -1,6 +1,5 @@
 // Whether a run compares values of two kinds: number 23's test.
 ghost use mathlib.Core.Path.{_≡_};
-ghost use mathlib.Core.Bool.{Bool};
 ghost use Rattle.language.specs.Semantics.{mismatch};
 ghost use Rattle.ask_evaluation.specs.Mixing.{expectedIn, Mixes, Mismatches};
 use crate::Expected;
@@ -37,6 +36,7 @@ fn expected_by(node: Node) -> Expected
                 Constant::Scalar(k, _) => Expected::Kind(p, Kind::Scalar(k)),
                 Constant::String(_) => Expected::Kind(p, Kind::String),
             },
+            Selector::Link(p, _, _) => Expected::Kind(p, Kind::Page),
         },
     }
 }

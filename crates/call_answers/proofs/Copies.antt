@@ -28,7 +28,7 @@ module _ (h z : Bytes) (long : querySize ≤ length h) where
   node-before : (i : ℕ) → i < 256 → nodeIn (h ++ z) i ≡ nodeIn h i
   unfolding nodeIn
   node-before i l =
-      let heap : heapIn (h ++ z) ≡ heapIn h = part-before h z 5122 16448 (omega arith) in
+      let heap : heapIn (h ++ z) ≡ heapIn h = part-before h z 5122 24672 (omega arith) in
       let row : slotIn (h ++ z) i ≡ slotIn h i = ap slotFrom (part-before h z (slot i) 20 (omega arith)) in
       rw (heap, row)
 

@@ -1,18 +1,16 @@
 -- The ways through the three calls.
-use Prim.Native.Nat.{ℕ, _+_, _≤_, _<_}
+use Prim.Native.Nat.{ℕ, _≤_, _<_}
 use mathlib.Core.Path.{_≡_, refl, sym, ap, subst, _∙_}
 use mathlib.Core.Bool.{Bool, true, false, not, true≢false}
-use mathlib.Core.List.{List, _++_}
+use mathlib.Core.List.{List}
 use mathlib.Core.Option.{Option, some, none}
-use native.Mathlib.Omega.{arith}
 use borrow.Author.Tests.{lt-ltb, le-ltb, not-true, not-false}
-use lib.Dec.{ltb}
-use lib.ListN.{length, take, drop, replicate}
+use lib.ListN.{length, take, replicate}
 use Rattle.text.specs.Bytes.{Bytes, part}
 use Rattle.buffer.specs.Numbers.{zeros}
 use Rattle.buffer.specs.Writing.{written}
-use Rattle.language.specs.Answer.{Answer, refused, accepted, numberOf, leftIn, Answered, orRefuse, andThen, found}
-use Rattle.language.specs.Register.{Register, Typing, kindsOf}
+use Rattle.language.specs.Answer.{Answer, refused, accepted, numberOf, Answered, andThen, found}
+use Rattle.language.specs.Register.{Typing, kindsOf}
 use Rattle.language.specs.Surface.{Query}
 use Rattle.language.specs.QueryText.{readText}
 use Rattle.language.specs.Core.{Core}
@@ -25,7 +23,7 @@ use Rattle.register_form_test.proofs.Held.{held-none, held-some}
 use Rattle.query_tree_spelling.specs.Spelled.{isSpelled, hasText}
 use Rattle.query_tree_spelling.proofs.Some.{accepted-has-text}
 use Rattle.query_tree.specs.Form.{treeSize, treeOf, heldTree}
-use Rattle.query_tree.proofs.Held.{IsHeld, held-tree, tree-back, length-tree}
+use Rattle.query_tree.proofs.Held.{held-tree, tree-back, length-tree}
 use Rattle.query_core.specs.Held.{querySize}
 use Rattle.query_core.specs.Form.{queryOf}
 use Rattle.query_core.proofs.Forms.{length-query}
@@ -66,7 +64,7 @@ module _ (n size : ℕ) (form b : Bytes) where
   full-answer b′ e l w = rw (le-ltb (length b) size l) (record { number = refl; bytes = w ∙ front-is b form size e l })
 
 -- Fitting: t is the tree, g the register, s the scratch buffer after fitting.
-module _ (t g b s : Bytes) (f : Fit) (n : ℕ) (F : FitsTree t (kindsOf (registerIn g)) (replicate 21570 0) f s) (e : n ≡ fitNumber f) where
+module _ (t g b s : Bytes) (f : Fit) (n : ℕ) (F : FitsTree t (kindsOf (registerIn g)) (replicate 29794 0) f s) (e : n ≡ fitNumber f) where
   abbrev Γ : Typing
   Γ = kindsOf (registerIn g)
 
@@ -86,11 +84,11 @@ module _ (t g b s : Bytes) (f : Fit) (n : ℕ) (F : FitsTree t (kindsOf (registe
     core : (q : Query) → hasText q ≡ true → t ≡ treeOf q → (c : Core) × (fit Γ q ≡ accepted c)
     core q h w = zero-fit Γ q (sym (number-is q h w) ∙ z)
 
-    pub into-short : length b < 21570 → FitsInto t g b 20 b
+    pub into-short : length b < 29794 → FitsInto t g b 20 b
     unfolding FitsInto fittedIn
     into-short l q h w = let c = core q h w in rw (c .1) (short-answer 20 querySize (queryOf (c .0)) b l)
 
-    pub into-accepted : (b′ : Bytes) → 21570 ≤ length b → b′ ≡ written b 0 s → FitsInto t g b 0 b′
+    pub into-accepted : (b′ : Bytes) → 29794 ≤ length b → b′ ≡ written b 0 s → FitsInto t g b 0 b′
     unfolding FitsInto fittedIn zeros
     into-accepted b′ l p q h w =
         let c = core q h w in

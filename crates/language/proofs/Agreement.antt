@@ -1,22 +1,23 @@
 -- The two meanings of a query are one: the theorem behind demand 3.
 use mathlib.Core.Path.{_≡_, refl, sym, ap, ap₂, _∙_, subst}
 use mathlib.Core.Bool.{Bool, true, false, cond, not, _&&_, _||_, false≢true}
-use mathlib.Core.List.{List, [], _∷_, _++_, map, List·Memᴰ}
+use mathlib.Core.List.{List, [], _++_, map, List·Memᴰ}
 use mathlib.Core.Option.{Option, some, none}
-use Rattle.text.specs.Bytes.{Bytes, bytes, orderOf, same, any, all}
+use Rattle.text.specs.Bytes.{Bytes, bytes, orderOf, same, all}
 use Rattle.text.specs.declared.Order.{Order}
 use Rattle.text.proofs.Laws.{same-eq, all-append}
 use Rattle.values.specs.declared.Kind.{Kind}
 use Rattle.values.specs.Names.{Reference, bare, qualified, reference, isReference, composedReference}
 use Rattle.values.specs.Values.{Constant, Value, plain, link, kindOf, kindOfConstant, orderConstants, mapOption, readConstant, sameKind}
-use Rattle.language.specs.Answer.{Answer, accepted, _>>=_, found, onlyIf}
+use Rattle.language.specs.Answer.{accepted, _>>=_, found, onlyIf}
 use Rattle.language.specs.Comparators.{word, isEqual, strictly, orEqual}
 use Rattle.language.specs.Register.{Held, Page, Register, Typing, kindsOf, holds, leads, hasKind, kindsHold}
 use Rattle.language.specs.Surface.{Chain, single, chain, Categories, Identifiers, Alternatives, Query, namesOf, propertiesIn, propertiesOf}
 use Rattle.language.specs.Core.{Selector, Core}
 use Rattle.language.specs.Elaboration.{strictOrEqual, compared, articleStands, within, elaborateReference, elaborateIdentifiers, elaborateCategories, elaborateConstant, elaborateValue, inside, joined, along, elaborateIn, elaborate}
-use Rattle.language.specs.Semantics.{stands, noMixed, Ca, Cv, follows, S, Q, selects, someOther, mismatch, run}
-use Rattle.language.specs.Direct.{standsAs, namespaceMeant, articleMeant, meansReference, meansIdentifiers, meansCategories, standsTo, meansValue, meansChain, meansIn, means}
+use Rattle.language.specs.Semantics.{stands, noMixed, Ca, Cv, Cl, follows, Q, selects, someOther, mismatch, run}
+use Rattle.language.specs.References.{standsAs, namespaceMeant, isMeant}
+use Rattle.language.specs.Direct.{meansReference, meansIdentifiers, meansCategories, standsTo, meansLink, meansValue, meansChain, meansIn, means}
 use Rattle.language.specs.Agreement.{agree, kindsAgree}
 use Rattle.language.specs.declared.Comparator.{Comparator}
 use Rattle.language.specs.declared.SurfaceComparator.{SurfaceComparator}
@@ -103,7 +104,7 @@ module _ (R : Register) where
   within-means n x c = and-means _ _ _ _ (namespace-means n) (article-means x c)
 
   reference-means : (c : SurfaceComparator) (r : Reference) → Means (meansReference c r) (elaborateReference c r)
-  unfolding elaborateReference meansReference namespaceMeant
+  unfolding elaborateReference isMeant namespaceMeant
   reference-means c (bare x) = go (isEqual c)
     where
       go : (t : Bool) → Means (λ p. found (onlyIf t (some [])) (λ n. same (p .identifier .namespace) n) true && standsAs c (orderOf (p .identifier .article) x)) (cond t (within [] (articleStands x c)) (articleStands x c))
@@ -143,6 +144,15 @@ module _ (R : Register) where
       follow : (a : Value) → follows noMixed R (λ p. Q c noMixed R p) a ≡ leads R m a
       follow (plain v) = refl
       follow (link i) = leads-same R _ m (h .alike) (link i)
+
+  -- links, page or no page
+  link-means : (x : Bytes) (c : SurfaceComparator) (r : Reference) → someOther R x Kind.Page ≡ false → Means (holds x (meansLink c r)) (Core.select (Selector.link x c r))
+  unfolding mismatch Q Cl meansLink
+  link-means x c r o = record { unmixed = o; alike = λ p e. holds-same x _ _ p (λ a n s. alike (a .value)) }
+    where
+      alike : (a : Value) → Cl noMixed c r a ≡ meansLink c r a
+      alike (plain v) = refl
+      alike (link i) = refl
 
   -- values, 5.3.3
   constant-means : (x : Bytes) (c : SurfaceComparator) (v : Constant) → someOther R x (kindOfConstant v) ≡ false → Means (holds x (standsTo c v)) (elaborateConstant x c v)
@@ -186,11 +196,11 @@ module _ (Γ : Typing) (R : Register) (kinds : kindsHold R ≡ true) where
   none-of x e c p m none = refl
   none-of x e c p m (some w) = nothing-held x e (standsTo c w) p m
 
-  nothing-meant : (x : Bytes) → kindsOf R x ≡ none → (c : SurfaceComparator) (v : Bytes) (k : Kind) (p : Page) → List·Memᴰ p (R .pages) → meansValue R x c v (some k) p ≡ false
+  nothing-meant : (x : Bytes) → kindsOf R x ≡ none → (c : SurfaceComparator) (v : Bytes) (k : Kind) (p : Page) → List·Memᴰ p (R .pages) → meansValue x c v (some k) p ≡ false
   unfolding meansValue
   nothing-meant x e c v Kind.Page p m = go (isReference (reference v))
     where
-      go : (b : Bool) → cond b (holds x (leads R (meansReference c (composedReference (reference v)))) p) false ≡ false
+      go : (b : Bool) → cond b (holds x (meansLink c (composedReference (reference v))) p) false ≡ false
       go true = nothing-held x e _ p m
       go false = refl
   nothing-meant x e c v (Kind.Scalar k) p m = none-of x e c p m (readConstant (Kind.Scalar k) v)
@@ -201,27 +211,27 @@ module _ (Γ : Typing) (R : Register) (kinds : kindsHold R ≡ true) where
   constants x c k h (some v) e = constant-means R x c v (rw e h)
 
   -- a piece, where the register declares its property with the kind fitted
-  value-means : (x : Bytes) (c : SurfaceComparator) (v : Bytes) (k : Kind) → someOther R x k ≡ false → OnSome (Means R (meansValue R x c v (some k))) (elaborateValue x c v k)
+  value-means : (x : Bytes) (c : SurfaceComparator) (v : Bytes) (k : Kind) → someOther R x k ≡ false → OnSome (Means R (meansValue x c v (some k))) (elaborateValue x c v k)
   unfolding elaborateValue meansValue
   value-means x c v Kind.Page o = go (isReference (reference v))
     where
-      go : (b : Bool) → OnSome (Means R (λ p. cond b (holds x (leads R (meansReference c (composedReference (reference v)))) p) false)) (cond b (some (Core.select (Selector.subquery x (elaborateReference c (composedReference (reference v)))))) none)
-      go true = subquery-means R x _ _ o (reference-means R c (composedReference (reference v)))
+      go : (b : Bool) → OnSome (Means R (λ p. cond b (holds x (meansLink c (composedReference (reference v))) p) false)) (cond b (some (Core.select (Selector.link x c (composedReference (reference v))))) none)
+      go true = link-means R x c (composedReference (reference v)) o
       go false = tt
   value-means x c v (Kind.Scalar k) o = constants x c (Kind.Scalar k) o (readConstant (Kind.Scalar k) v) (constant-kind (Kind.Scalar k) v)
   value-means x c v Kind.String o = constants x c Kind.String o (readConstant Kind.String v) (constant-kind Kind.String v)
 
   -- and where it does not
-  piece-means : (x : Bytes) (c : SurfaceComparator) (v : Bytes) → Agree x → OnSome (Means R (meansValue R x c v (kindsOf R x))) (Γ x >>= elaborateValue x c v)
+  piece-means : (x : Bytes) (c : SurfaceComparator) (v : Bytes) → Agree x → OnSome (Means R (meansValue x c v (kindsOf R x))) (Γ x >>= elaborateValue x c v)
   unfolding meansValue
   piece-means x c v g = fit (Γ x) refl
     where
-      declared : (k : Kind) → Γ x ≡ some k → (o : Option Kind) → kindsOf R x ≡ o → (q : Option Core) → OnSome (Means R (meansValue R x c v (some k))) q → OnSome (Means R (meansValue R x c v o)) q
+      declared : (k : Kind) → Γ x ≡ some k → (o : Option Kind) → kindsOf R x ≡ o → (q : Option Core) → OnSome (Means R (meansValue x c v (some k))) q → OnSome (Means R (meansValue x c v o)) q
       declared k e o f none h = tt
       declared k e none f (some d) h = means-same R _ _ d h (λ p m. nothing-meant x f c v k p m)
-      declared k e (some l) f (some d) h = subst (λ l. Means R (meansValue R x c v (some l)) d) (kind-eq k l (subst (λ j. agree j (some l) ≡ true) e (subst (λ o. agree (Γ x) o ≡ true) f g))) h
+      declared k e (some l) f (some d) h = subst (λ l. Means R (meansValue x c v (some l)) d) (kind-eq k l (subst (λ j. agree j (some l) ≡ true) e (subst (λ o. agree (Γ x) o ≡ true) f g))) h
 
-      fit : (o : Option Kind) → Γ x ≡ o → OnSome (Means R (meansValue R x c v (kindsOf R x))) (o >>= elaborateValue x c v)
+      fit : (o : Option Kind) → Γ x ≡ o → OnSome (Means R (meansValue x c v (kindsOf R x))) (o >>= elaborateValue x c v)
       fit none e = tt
       fit (some k) e = declared k e (kindsOf R x) refl (elaborateValue x c v k) (value-means x c v k (none-other x k g e))
 

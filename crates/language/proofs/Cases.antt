@@ -1,9 +1,8 @@
 -- Cases a to n of document 01, as one table under one claim.
-use Prim.Native.Nat.{ℕ}
-use mathlib.Core.Path.{_≡_, refl, sym, ap, ap₂, _∙_}
+use mathlib.Core.Path.{_≡_, refl, ap, ap₂}
 use mathlib.Core.Bool.{Bool, true, false, Bool·beq, _&&_, false≢true}
 use mathlib.Core.List.{List, [], _∷_, List·Memᴰ}
-use Rattle.text.specs.Bytes.{Bytes, any, all, same, orderOf, numbers, span, trimEnd, trim, starts, after}
+use Rattle.text.specs.Bytes.{any, all, same, orderOf, numbers, span, trimEnd, trim, starts, after}
 use Rattle.text.specs.Class.{isFree, isQuotable, isNameByte, isValueByte, isDigit}
 use Rattle.names.specs.Table.{table, find, composition}
 use Rattle.names.specs.Codes.{isMark, isPlain, isWide, pairCode, isPair, read, encode, write}
@@ -20,8 +19,9 @@ use Rattle.language.specs.RawQuery.{token, comparator, pieceAt, headLeng
 use Rattle.language.specs.QueryText.{namesIn, depth, longest, breaksNames, breaks, breaksValue, categoriesFrom, identifiersFrom, surface, readText}
 use Rattle.language.specs.Core.{nodes}
 use Rattle.language.specs.Elaboration.{compared, elaborateReference, elaborateIdentifiers, elaborateCategories, elaborateConstant, elaborateValue, inside, joined, along, elaborate, fit}
-use Rattle.language.specs.Semantics.{Ca, Cv, follows, Q, someOther, mismatch, run}
-use Rattle.language.specs.Direct.{namespaceMeant, meansReference, meansIdentifiers, meansCategories, standsTo, meansValue, meansChain, means, meaning}
+use Rattle.language.specs.References.{namespaceMeant, isMeant}
+use Rattle.language.specs.Semantics.{Ca, Cv, Cl, follows, Q, someOther, mismatch, run}
+use Rattle.language.specs.Direct.{meansIdentifiers, meansCategories, standsTo, meansLink, meansValue, meansChain, means, meaning}
 use Rattle.language.specs.Calls.{coreOf, runText}
 use Rattle.language.specs.Sample.{sampleText, Case, cases, marksAt, coreAnswer, directAnswer, CaseHolds}
 use Rattle.language.proofs.Members.{and-true, all-at}
@@ -60,7 +60,7 @@ holdsTest c = answers (coreAnswer (c .query)) (marksAt 6 (c .places)) && answers
 
 -- The claim: every case holds, for the core semantics and for the direct meaning.
 pub claim : all holdsTest cases ≡ true
-unfolding holdsTest answers sameMarks coreAnswer directAnswer marksAt cases sampleText coreOf runText any all same orderOf numbers span trimEnd trim starts after isFree isQuotable isNameByte isValueByte isDigit table find composition isMark isPlain isWide pairCode isPair read encode write compose composed composedName hasNameShape isName isPropertyName isNamespace isValue reference decimal readDigits readNumber readBoolean readLink judge kindAmong holds leads quoted firstKind kindWordAt propForm pageForm catForm valForm closing nextEntry entriesWithin entriesFrom someTwice properties valueOf countOf overLimits addCategory addHeld filled pagesOf registerOf composedEntries readRegister composedChain composedCategories composedIdentifiers composedQuery namesOf propertiesOf token firstTyped comparator pieceAt headLength splitDots trimNames piecesWithin readPieces plainBody closedInner closedGroup closedBody nextTerm queryWithin readQuery readWhole namesIn depth longest breaksNames breaks breaksValue categoriesFrom identifiersFrom surface readText nodes compared elaborateReference elaborateIdentifiers elaborateCategories elaborateConstant elaborateValue inside joined along elaborate fit Ca Cv follows Q someOther mismatch run namespaceMeant meansReference meansIdentifiers meansCategories standsTo meansValue meansChain means meaning
+unfolding holdsTest answers sameMarks coreAnswer directAnswer marksAt cases sampleText coreOf runText any all same orderOf numbers span trimEnd trim starts after isFree isQuotable isNameByte isValueByte isDigit table find composition isMark isPlain isWide pairCode isPair read encode write compose composed composedName hasNameShape isName isPropertyName isNamespace isValue reference decimal readDigits readNumber readBoolean readLink judge kindAmong holds leads quoted firstKind kindWordAt propForm pageForm catForm valForm closing nextEntry entriesWithin entriesFrom someTwice properties valueOf countOf overLimits addCategory addHeld filled pagesOf registerOf composedEntries readRegister composedChain composedCategories composedIdentifiers composedQuery namesOf propertiesOf token firstTyped comparator pieceAt headLength splitDots trimNames piecesWithin readPieces plainBody closedInner closedGroup closedBody nextTerm queryWithin readQuery readWhole namesIn depth longest breaksNames breaks breaksValue categoriesFrom identifiersFrom surface readText nodes compared elaborateReference elaborateIdentifiers elaborateCategories elaborateConstant elaborateValue inside joined along elaborate fit Ca Cv Cl follows Q someOther mismatch run namespaceMeant isMeant meansIdentifiers meansCategories standsTo meansLink meansValue meansChain means meaning
 claim = refl
 
 -- The law that turns the claim into each entry.

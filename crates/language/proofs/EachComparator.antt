@@ -2,7 +2,7 @@
 use Prim.Native.Nat.{ℕ, zero, suc, _≤_}
 use mathlib.Core.Path.{_≡_, refl}
 use mathlib.Core.Bool.{Bool, true, false, cond, false≢true}
-use mathlib.Core.List.{[], _∷_, _++_}
+use mathlib.Core.List.{_∷_, _++_}
 use native.Mathlib.Omega.{arith}
 use lib.Dec.{eqb, leb}
 use Rattle.text.specs.Bytes.{Bytes, bytes, same, all, isBlank, span, starts}
@@ -10,7 +10,7 @@ use Rattle.text.specs.Class.{isOther}
 use Rattle.text.specs.declared.Order.{Order}
 use Rattle.language.specs.Comparators.{word, typed, firstTyped, isEqual, comparatorCode, lastComparator, comparatorFrom, inAnyNamespace}
 use Rattle.language.specs.Semantics.{stands}
-use Rattle.language.specs.Direct.{standsAs}
+use Rattle.language.specs.References.{standsAs}
 use Rattle.language.specs.declared.SurfaceComparator.{SurfaceComparator}
 use Rattle.language.proofs.AllComparators.{byCore}
 

@@ -1,17 +1,16 @@
 -- A run without a mismatch compares no values of two kinds: whatever a comparison of two kinds were to answer, and wherever a
 -- value that is no link were to lead, the marks are the same (thesis 4.5.2; document 01, "Text to core").
-use Prim.Native.Nat.{ℕ}
-use mathlib.Core.Path.{_≡_, refl, sym, ap, ap₂, _∙_}
+use mathlib.Core.Path.{_≡_, refl, ap₂}
 use mathlib.Core.Bool.{Bool, true, false, _&&_, _||_, false≢true}
-use mathlib.Core.List.{List, List·Memᴰ, map}
-use Rattle.text.specs.Bytes.{Bytes}
+use mathlib.Core.List.{List·Memᴰ, map}
 use Rattle.values.specs.declared.Kind.{Kind}
-use Rattle.values.specs.Values.{Constant, scalar, string, Value, plain, link, kindOf, kindOfConstant, orderConstants, sameKind}
-use Rattle.language.specs.Answer.{found}
-use Rattle.language.specs.Register.{Page, Register, leads}
+use Rattle.values.specs.Names.{Reference}
+use Rattle.values.specs.Values.{Constant, scalar, string, Value, plain, link, kindOf, kindOfConstant, sameKind}
+use Rattle.language.specs.Register.{Page, Register}
 use Rattle.language.specs.Core.{Selector, Core}
-use Rattle.language.specs.Semantics.{Mixed, stands, Cv, follows, S, Q, someOther, mismatchIn, mismatch}
+use Rattle.language.specs.Semantics.{Mixed, Cv, Cl, follows, S, Q, someOther, mismatchIn, mismatch}
 use Rattle.language.specs.declared.Comparator.{Comparator}
+use Rattle.language.specs.declared.SurfaceComparator.{SurfaceComparator}
 use Rattle.language.proofs.Members.{or-false, map-same}
 use Rattle.language.proofs.Holding.{holds-same, leads-same, kind-there}
 
@@ -25,6 +24,13 @@ module _ (u w : Mixed) where
   compared-free c (string x) (plain (scalar k y)) e = absurd (false≢true e)
   compared-free c (string x) (plain (string y)) e = refl
   compared-free c (string x) (link i) e = absurd (false≢true e)
+
+  -- a link
+  meant-free : (c : SurfaceComparator) (r : Reference) (a : Value) → sameKind (kindOf a) Kind.Page ≡ true → Cl u c r a ≡ Cl w c r a
+  unfolding Cl
+  meant-free c r (plain (scalar k x)) e = absurd (false≢true e)
+  meant-free c r (plain (string x)) e = absurd (false≢true e)
+  meant-free c r (link i) e = refl
 
   module _ (R : Register) where
     -- a link, followed by tests that answer alike
@@ -47,6 +53,8 @@ module _ (u w : Mixed) where
       selector-free (Selector.article c x) h p m = refl
       selector-free (Selector.value x c v) h p m =
           holds-same x _ _ p (λ a n s. compared-free c v (a .value) (kind-there R x (kindOfConstant v) h p m a n s))
+      selector-free (Selector.link x c r) h p m =
+          holds-same x _ _ p (λ a n s. meant-free c r (a .value) (kind-there R x Kind.Page h p m a n s))
 
       query-free : (q : Core) → mismatch q R ≡ false → (p : Page) → List·Memᴰ p (R .pages) → Q q u R p ≡ Q q w R p
       query-free (Core.select s) h p m = selector-free s h p m

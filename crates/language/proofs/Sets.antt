@@ -8,17 +8,21 @@ use borrow.Author.Tests.{not-true}
 use Rattle.text.specs.Bytes.{Bytes, orderOf, same, any}
 use Rattle.text.specs.declared.Order.{Order}
 use Rattle.text.proofs.Laws.{same-eq, same-refl, order-eq, eq-order}
-use Rattle.values.specs.Names.{Identifier, sameIdentifier}
+use Rattle.values.specs.Names.{Identifier, Reference, sameIdentifier}
 use Rattle.values.specs.Values.{Constant, Value, plain, link, orderConstants, isEqualOrder}
 use Rattle.values.proofs.Sameness.{identifier-eq, identifier-refl, value-eq, value-refl}
 use Rattle.language.specs.Answer.{found}
 use Rattle.language.specs.Register.{Held, Page, Register, holds, leads, distinct, samePage}
 use Rattle.language.specs.Rules.{isRegister}
 use Rattle.language.specs.Core.{Selector, Core}
-use Rattle.language.specs.Semantics.{stands, Ca, Cv, follows, S, Q, noMixed, selects}
-use Rattle.language.specs.Sets.{𝒫, _∈_, _∩_, _≠∅, dom, idents, compares, matches, pageSet, pageOf, pageNamed, databaseOf}
+use Rattle.language.specs.Semantics.{stands, Ca, Cv, Cl, follows, S, Q, noMixed, selects}
+use Rattle.language.specs.Sets.{𝒫, _∈_, _∩_, _≠∅, dom, idents, compares, comparesAs, meant, matches, pageSet, pageOf, pageNamed, databaseOf}
 use Rattle.language.specs.Sets as Sets
+use Rattle.language.specs.Comparators.{strictly, orEqual}
+use Rattle.language.specs.References.{standsAs, namespaceMeant, articleMeant, isMeant}
 use Rattle.language.specs.declared.Comparator.{Comparator}
+use Rattle.language.specs.declared.SurfaceComparator.{SurfaceComparator}
+use Rattle.language.proofs.EachComparator.{stands-each}
 use Rattle.language.proofs.Members.{and-true, both-true, any-at, any-found, any-mem}
 use Rattle.language.proofs.Rules.{register-rules}
 
@@ -63,6 +67,36 @@ compared Comparator.Less x y o e = (is-less o, ap (stands Comparator.Less))
 names-compared : (c : Comparator) (x y : Bytes) → (Ca c x y ≡ true) ↔ Sets.Ca c x y
 unfolding Ca
 names-compared c x y = compared c x y (orderOf x y) (order-eq x y, eq-order x y)
+
+-- 5.3.1, the comparators as written
+written-compared : {A : Type 0} (c : SurfaceComparator) (x y : A) (o : Order) → (o ≡ Order.Equal) ↔ (x ≡ y) → (standsAs c o ≡ true) ↔ comparesAs c x y o
+written-compared c x y o e = rw (← stands-each c o) (go (orEqual c) refl)
+  where
+    strict : (stands (strictly c) o ≡ true) ↔ compares (strictly c) x y o
+    strict = compared (strictly c) x y o e
+
+    equal : (stands Comparator.Equal o ≡ true) ↔ (x ≡ y)
+    equal = compared Comparator.Equal x y o e
+
+    go : (t : Bool) → orEqual c ≡ t → (cond t (stands (strictly c) o || stands Comparator.Equal o) (stands (strictly c) o) ≡ true) ↔ comparesAs c x y o
+    go true q =
+        let or = either (stands (strictly c) o) (stands Comparator.Equal o) in
+        (λ h. ⊎-map (strict .0) (λ k. (q, equal .0 k)) (or .0 h), λ t. or .1 (⊎-map (strict .1) (λ k. equal .1 (k .1)) t))
+    go false q = (λ h. inl (strict .0 h), λ t. ⊎-elim (strict .1) (λ k. absurd (false≢true (sym q ∙ k .0))) t)
+
+-- the identifiers that a reference means
+namespace-meant : (o : Option Bytes) (x : Bytes) → (found o (λ n. same x n) true ≡ true) ↔ ((n : Bytes) → o ≡ some n → x ≡ n)
+namespace-meant none x = (λ h n e. let i : _≡_ {A = Option Bytes} none (some n) = e in cc, λ f. refl)
+namespace-meant (some m) x = (λ h n e. let i : m ≡ n = cc in same-eq x m h ∙ i, λ f. same-is x m .1 (f m refl))
+
+identifiers-meant : (c : SurfaceComparator) (r : Reference) (i : Identifier) → (isMeant c r i ≡ true) ↔ (i ∈ meant c r)
+unfolding isMeant
+identifiers-meant c r i =
+    let n = namespace-meant (namespaceMeant c r) (i .namespace) in
+    let a = written-compared c (i .article) (articleMeant r) (orderOf (i .article) (articleMeant r)) (order-eq (i .article) (articleMeant r), eq-order (i .article) (articleMeant r)) in (
+      λ h. let t = and-true _ _ h in (n .0 (t .0), a .0 (t .1)),
+      λ t. both-true (n .1 (t .0)) (a .1 (t .1)),
+    )
 
 -- 4.5.2
 ordered-equal : (v w : Constant) (o : Order) → orderConstants v w ≡ some o → (o ≡ Order.Equal) ↔ (v ≡ w)
@@ -118,6 +152,16 @@ constants-in x c w p = made-in plain (λ v. Sets.Cv c v w) x (Cv noMixed c w) p 
     there : (v : Value) → Cv noMixed c w v ≡ true → (a : Constant) × (v ≡ plain a) × Sets.Cv c a w
     there (plain a) h = (a, refl, constants-compared c a w .0 h)
     there (link i) h = absurd (false≢true h)
+
+links-meant : (x : Bytes) (c : SurfaceComparator) (r : Reference) (p : Page) → (holds x (Cl noMixed c r) p ≡ true) ↔ (idents (pageOf p .props x) ∩ meant c r ≠∅)
+unfolding Cl
+links-meant x c r p =
+    let t = made-in link (meant c r) x (Cl noMixed c r) p there (λ i. identifiers-meant c r i .1) in
+    (λ h. let j = t .0 h in (j .0, (j .1, j .2)), λ j. t .1 (j .0, j .1 .0, j .1 .1))
+  where
+    there : (v : Value) → Cl noMixed c r v ≡ true → (i : Identifier) × (v ≡ link i) × (i ∈ meant c r)
+    there (plain a) h = absurd (false≢true h)
+    there (link i) h = (i, refl, identifiers-meant c r i .0 h)
 
 -- The page that is named: that of the one page with the identifier.
 named : {p : Page} (l : List Page) → distinct samePage l ≡ true → List·Memᴰ p l → pageNamed l (p .identifier) ≡ some (pageOf p)
@@ -184,6 +228,7 @@ module _ (R : Register) (once : distinct samePage (R .pages) ≡ true) where
         rw (named (R .pages) once m)
         (links-in (λ p. Q q noMixed R p) (pageSet q (databaseOf R)) (query-set q) x p)
     selector-set (Selector.article c x) p m = names-compared c (p .identifier .article) x
+    selector-set (Selector.link x c r) p m = rw (named (R .pages) once m) (links-meant x c r p)
     selector-set (Selector.value x c w) p m = rw (named (R .pages) once m) (constants-in x c w p)
 
     query-set : (q : Core) → IsSet R (λ p. Q q noMixed R p) (pageSet q (databaseOf R))

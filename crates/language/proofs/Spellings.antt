@@ -1,14 +1,14 @@
 -- Replacing a name in a query by another spelling of it changes no answer.
-use mathlib.Core.Path.{_≡_, refl, sym, ap, ap₂, _∙_}
-use mathlib.Core.Bool.{true, cond}
-use mathlib.Core.Option.{Option, some, none}
+use mathlib.Core.Path.{_≡_, refl, ap, ap₂}
+use mathlib.Core.Bool.{true}
+use mathlib.Core.Option.{some}
 use Rattle.text.specs.Bytes.{Bytes}
-use Rattle.names.specs.Names.{composedName, isName, isNamespace}
+use Rattle.names.specs.Names.{composedName}
 use Rattle.names.proofs.Composed.{two-spellings}
 use Rattle.values.specs.Names.{Reference, reference, isReference, composedReference}
 use Rattle.values.specs.Names as Names
 use Rattle.values.specs.declared.Kind.{Kind}
-use Rattle.language.specs.Register.{Register, Page}
+use Rattle.language.specs.Register.{Page}
 use Rattle.language.specs.Surface.{Chain, Categories, Identifiers, Alternatives, Query, composedChain, composedCategories, composedIdentifiers, composedIn, composedQuery}
 use Rattle.language.specs.Surface as Surface
 use Rattle.language.specs.Elaboration.{elaborateValue}
@@ -61,6 +61,6 @@ module _ (v w : Bytes) (h : isReference (reference v) ≡ true) (k : isReference
   unfolding elaborateValue
   pieces-one x c = rw (h, k, references-one (reference v) (reference w) t)
 
-  pub meanings-one : (R : Register) (x : Bytes) (c : SurfaceComparator) (p : Page) → meansValue R x c v (some Kind.Page) p ≡ meansValue R x c w (some Kind.Page) p
+  pub meanings-one : (x : Bytes) (c : SurfaceComparator) (p : Page) → meansValue x c v (some Kind.Page) p ≡ meansValue x c w (some Kind.Page) p
   unfolding meansValue
-  meanings-one R x c p = rw (h, k, references-one (reference v) (reference w) t)
+  meanings-one x c p = rw (h, k, references-one (reference v) (reference w) t)

@@ -1,20 +1,20 @@
 -- Type soundness, thesis 5.3.5: a query that elaborates is well-typed by 4.4.3.
 use Prim.Native.Nat.{ℕ}
-use mathlib.Core.Path.{_≡_, refl, sym, ap, _∙_, subst}
-use mathlib.Core.Bool.{Bool, true, false, cond, _&&_}
+use mathlib.Core.Path.{_≡_, refl, ap, subst}
+use mathlib.Core.Bool.{Bool, true, false, cond}
 use mathlib.Core.List.{[]}
 use mathlib.Core.Option.{Option, some, none}
 use Rattle.text.specs.Bytes.{Bytes}
 use Rattle.values.specs.declared.Kind.{Kind}
 use Rattle.values.specs.Names.{Reference, bare, qualified, reference, isReference, composedReference}
-use Rattle.values.specs.Values.{Constant, kindOfConstant, mapOption, scalar, string, readScalar, readConstant}
+use Rattle.values.specs.Values.{Constant, kindOfConstant, mapOption, scalar, readScalar, readConstant}
 use Rattle.language.specs.Answer.{_>>=_}
 use Rattle.language.specs.Comparators.{isEqual, inAnyNamespace}
 use Rattle.language.specs.Register.{Typing, hasKind}
 use Rattle.language.specs.Surface.{Chain, single, chain, Categories, Identifiers, Alternatives, Query}
 use Rattle.language.specs.Core.{Selector, Core}
 use Rattle.language.specs.Elaboration.{compared, articleStands, within, elaborateReference, elaborateIdentifiers, elaborateCategories, elaborateConstant, elaborateValue, inside, joined, along, elaborateIn, elaborate}
-use Rattle.language.specs.Semantics.{wellTyped, wellTypedIn}
+use Rattle.language.specs.Semantics.{wellTyped}
 use Rattle.language.specs.declared.Comparator.{Comparator}
 use Rattle.language.specs.declared.SurfaceComparator.{SurfaceComparator}
 use Rattle.language.proofs.AllComparators.{of-cond, of-compared}
@@ -77,8 +77,8 @@ module _ (Γ : Typing) where
   unfolding elaborateValue wellTyped
   value-typed x c v Kind.Page h = go (isReference (reference v))
     where
-      go : (b : Bool) → OnSome Typed (cond b (some (Core.select (Selector.subquery x (elaborateReference c (composedReference (reference v)))))) none)
-      go true = both-true h (reference-typed c (composedReference (reference v)))
+      go : (b : Bool) → OnSome Typed (cond b (some (Core.select (Selector.link x c (composedReference (reference v))))) none)
+      go true = h
       go false = tt
   value-typed x c v (Kind.Scalar k) h = constant-typed x c (Kind.Scalar k) h (readConstant (Kind.Scalar k) v) (constant-kind (Kind.Scalar k) v)
   value-typed x c v Kind.String h = constant-typed x c Kind.String h (readConstant Kind.String v) (constant-kind Kind.String v)

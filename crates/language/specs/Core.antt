@@ -1,8 +1,10 @@
 -- Core queries: thesis 4.2.1, with comparators equal, unequal, greater, less. Document 01, "Text to core".
 use Prim.Native.Nat.{ℕ, suc, _+_}
 use Rattle.text.specs.Bytes.{Bytes}
+use Rattle.values.specs.Names.{Reference}
 use Rattle.values.specs.Values.{Constant}
 use Rattle.language.specs.declared.Comparator.{Comparator}
+use Rattle.language.specs.declared.SurfaceComparator.{SurfaceComparator}
 
 mutual
   -- CSel.
@@ -13,6 +15,8 @@ mutual
     subquery : Bytes → Core → Selector
     article : Comparator → Bytes → Selector
     value : Bytes → Comparator → Constant → Selector
+    -- Document 02, "Pledges from bakeries with no page yet": "one link node with any of the six comparators, in place of the subquery".
+    link : Bytes → SurfaceComparator → Reference → Selector
 
   -- CQuery.
   pub data Core : Type 0 where
@@ -29,6 +33,7 @@ unfoldable mutual
   nodesIn (Selector.subquery x q) = suc (nodes q)
   nodesIn (Selector.article c x) = 1
   nodesIn (Selector.value x c v) = 1
+  nodesIn (Selector.link x c r) = 1
 
   pub nodes : Core → ℕ
   nodes (Core.select s) = nodesIn s

@@ -1,55 +1,21 @@
 -- The direct meaning of a query, page by page, with no core query in it. Document 01, "Text to core", its last paragraph.
-use mathlib.Core.Bool.{Bool, true, false, cond, not, _&&_, _||_}
-use mathlib.Core.List.{List, [], _∷_, map}
+use mathlib.Core.Bool.{Bool, true, false, cond, _&&_, _||_}
+use mathlib.Core.List.{List, map}
 use mathlib.Core.Option.{Option, some, none}
-use Rattle.text.specs.Bytes.{Bytes, bytes, orderOf, same, any}
-use Rattle.text.specs.declared.Order.{Order}
+use Rattle.text.specs.Bytes.{Bytes, same, any}
 use Rattle.values.specs.declared.Kind.{Kind}
-use Rattle.values.specs.Names.{Reference, bare, qualified, reference, isReference, composedReference}
+use Rattle.values.specs.Names.{Reference, reference, isReference, composedReference}
 use Rattle.values.specs.Values.{Constant, Value, plain, link, orderConstants, readConstant}
-use Rattle.language.specs.Answer.{Answer, refused, accepted, found, onlyIf}
-use Rattle.language.specs.Comparators.{word, isEqual}
+use Rattle.language.specs.Answer.{Answer, refused, accepted, found}
+use Rattle.language.specs.References.{standsAs, isMeant}
 use Rattle.language.specs.Register.{Page, Register, kindsOf, holds, leads}
 use Rattle.language.specs.Surface.{Chain, single, chain, Categories, Identifiers, Alternatives, Query}
 use Rattle.language.specs.QueryText.{readText}
 use Rattle.language.specs.declared.SurfaceComparator.{SurfaceComparator}
 
--- "`>` means greater or equal, `>>` strictly greater, `<` and `<<` likewise, `!` unequal, none equal"
-abbrev pub standsAs : SurfaceComparator → Order → Bool
-standsAs SurfaceComparator.Equal Order.Less = false
-standsAs SurfaceComparator.Equal Order.Equal = true
-standsAs SurfaceComparator.Equal Order.Greater = false
-standsAs SurfaceComparator.Unequal Order.Less = true
-standsAs SurfaceComparator.Unequal Order.Equal = false
-standsAs SurfaceComparator.Unequal Order.Greater = true
-standsAs SurfaceComparator.Greater Order.Less = false
-standsAs SurfaceComparator.Greater Order.Equal = false
-standsAs SurfaceComparator.Greater Order.Greater = true
-standsAs SurfaceComparator.Less Order.Less = true
-standsAs SurfaceComparator.Less Order.Equal = false
-standsAs SurfaceComparator.Less Order.Greater = false
-standsAs SurfaceComparator.AtLeast Order.Less = false
-standsAs SurfaceComparator.AtLeast Order.Equal = true
-standsAs SurfaceComparator.AtLeast Order.Greater = true
-standsAs SurfaceComparator.AtMost Order.Less = true
-standsAs SurfaceComparator.AtMost Order.Equal = true
-standsAs SurfaceComparator.AtMost Order.Greater = false
-
--- "any written namespace save with `!`; with neither colon nor comparator, main"
-unfoldable pub namespaceMeant : SurfaceComparator → Reference → Option Bytes
-namespaceMeant c (bare x) = onlyIf (isEqual c) (some [])
-namespaceMeant c (qualified n x) = onlyIf (not (same (word c) (bytes "!"))) (some n)
-
-abbrev pub articleMeant : Reference → Bytes
-articleMeant (bare x) = x
-articleMeant (qualified n x) = x
-
--- "A reference wants the page's article name to stand to its own as the comparator says, and any written namespace save with `!`;
--- with neither colon nor comparator, main."
-unfoldable pub meansReference : SurfaceComparator → Reference → Page → Bool
-meansReference c r p =
-    found (namespaceMeant c r) (λ n. same (p .identifier .namespace) n) true
-    && standsAs c (orderOf (p .identifier .article) (articleMeant r))
+-- A reference, of the page's own identifier.
+abbrev pub meansReference : SurfaceComparator → Reference → Page → Bool
+meansReference c r p = isMeant c r (p .identifier)
 
 unfoldable pub meansIdentifiers : Identifiers → Page → Bool
 meansIdentifiers (Identifiers.namespace n) p = same (p .identifier .namespace) n
@@ -66,12 +32,17 @@ unfoldable pub standsTo : SurfaceComparator → Constant → Value → Bool
 standsTo c v (plain w) = found (orderConstants w v) (standsAs c) false
 standsTo c v (link i) = false
 
-unfoldable pub meansValue : Register → Bytes → SurfaceComparator → Bytes → Option Kind → Page → Bool
-meansValue R x c v none p = false
-meansValue R x c v (some Kind.Page) p =
-    cond (isReference (reference v)) (holds x (leads R (meansReference c (composedReference (reference v)))) p) false
-meansValue R x c v (some (Kind.Scalar k)) p = found (readConstant (Kind.Scalar k) v) (λ w. holds x (standsTo c w) p) false
-meansValue R x c v (some Kind.String) p = found (readConstant Kind.String v) (λ w. holds x (standsTo c w) p) false
+-- A link that the reference means, "page or no page".
+unfoldable pub meansLink : SurfaceComparator → Reference → Value → Bool
+meansLink c r (plain w) = false
+meansLink c r (link i) = isMeant c r i
+
+unfoldable pub meansValue : Bytes → SurfaceComparator → Bytes → Option Kind → Page → Bool
+meansValue x c v none p = false
+meansValue x c v (some Kind.Page) p =
+    cond (isReference (reference v)) (holds x (meansLink c (composedReference (reference v))) p) false
+meansValue x c v (some (Kind.Scalar k)) p = found (readConstant (Kind.Scalar k) v) (λ w. holds x (standsTo c w) p) false
+meansValue x c v (some Kind.String) p = found (readConstant Kind.String v) (λ w. holds x (standsTo c w) p) false
 
 -- "a chain `a.p` wants a link under `a` to one that the rest selects"
 unfoldable pub meansChain : Register → Chain → (Bytes → Page → Bool) → Page → Bool
@@ -81,7 +52,7 @@ meansChain R (chain x c) f p = holds x (leads R (meansChain R c f)) p
 unfoldable mutual
   pub meansIn : Alternatives → Register → Bytes → Page → Bool
   meansIn Alternatives.existence R x p = holds x (λ v. true) p
-  meansIn (Alternatives.value c v) R x p = meansValue R x c v (kindsOf R x) p
+  meansIn (Alternatives.value c v) R x p = meansValue x c v (kindsOf R x) p
   meansIn (Alternatives.subquery q) R x p = holds x (leads R (λ p. means q R p)) p
   meansIn (Alternatives.either a b) R x p = meansIn a R x p || meansIn b R x p
 

@@ -1,7 +1,6 @@
 -- Elaboration of surface queries to core queries: thesis 5.3.1 to 5.3.4, with document 01's decisions ("Text to core").
-use Prim.Native.Nat.{ℕ}
 use mathlib.Core.Bool.{Bool, true, false, cond}
-use mathlib.Core.List.{List, [], _∷_}
+use mathlib.Core.List.{[]}
 use mathlib.Core.Option.{Option, some, none}
 use lib.Dec.{ltb}
 use Rattle.text.specs.Bytes.{Bytes, any}
@@ -54,11 +53,10 @@ elaborateConstant x c v = compared (λ d. Core.select (Selector.value x d v)) c
 abbrev pub subqueryOn : Bytes → Core → Core
 subqueryOn x q = Core.select (Selector.subquery x q)
 
--- "For page properties this paper decides: a piece, with any comparator, is one subquery over the core query its reference
--- has by 5.3.1.", its names composed. On the other kinds 5.3.3.
+-- On a page property "one link node with any of the six comparators", its reference's names composed. On the other kinds 5.3.3.
 unfoldable pub elaborateValue : Bytes → SurfaceComparator → Bytes → Kind → Option Core
 elaborateValue x c v Kind.Page =
-    cond (isReference (reference v)) (some (subqueryOn x (elaborateReference c (composedReference (reference v))))) none
+    cond (isReference (reference v)) (some (Core.select (Selector.link x c (composedReference (reference v))))) none
 elaborateValue x c v (Kind.Scalar k) = mapOption (elaborateConstant x c) (readConstant (Kind.Scalar k) v)
 elaborateValue x c v Kind.String = mapOption (elaborateConstant x c) (readConstant Kind.String v)
 

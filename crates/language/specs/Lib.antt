@@ -7,6 +7,7 @@ pub mod Comparators
 pub mod Surface
 pub mod RawQuery
 pub mod QueryText
+pub mod References
 pub mod Core
 pub mod Elaboration
 pub mod Semantics

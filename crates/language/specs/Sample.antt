@@ -6,7 +6,6 @@ use mathlib.Core.List.{List, [], _∷_, _++_}
 use lib.Dec.{eqb}
 use Rattle.text.specs.Bytes.{Bytes, bytes, any}
 use Rattle.language.specs.Answer.{Answer, accepted, andThen}
-use Rattle.language.specs.Register.{Register}
 use Rattle.language.specs.RegisterText.{readRegister}
 use Rattle.language.specs.Direct.{directMarks}
 use Rattle.language.specs.Calls.{runText}
@@ -48,7 +47,7 @@ cases =
     ∷ bytes "[[!Talk:D1]]" gives (0 ∷ 1 ∷ 2 ∷ 4 ∷ [])
     ∷ bytes "[[Talk:+]]" gives (5 ∷ [])
     ∷ bytes "[[Brought by.In region::North]]" gives (3 ∷ [])
-    ∷ bytes "[[In region::East]]" gives []
+    ∷ bytes "[[In region::East]]" gives (1 ∷ [])
     ∷ bytes "[[Category:Region]] OR [[Category:Supplier]] AND [[In region::North]]" gives (0 ∷ 2 ∷ [])
     ∷ bytes "[[Crates::-0||-3]]" gives (4 ∷ [])
     ∷ bytes "[[Chilled::>no]]" gives (3 ∷ 4 ∷ [])

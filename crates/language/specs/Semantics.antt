@@ -1,16 +1,17 @@
 -- The meaning of core queries, page by page: thesis 4.5.1 to 4.5.3; the mismatch of document 01, "Text to core".
-use Prim.Native.Nat.{ℕ}
 use mathlib.Core.Bool.{Bool, true, false, cond, not, _&&_, _||_}
-use mathlib.Core.List.{List, [], _∷_, map}
-use mathlib.Core.Option.{Option, some, none}
+use mathlib.Core.List.{List, map}
 use Rattle.text.specs.Bytes.{Bytes, orderOf, same, any}
 use Rattle.text.specs.declared.Order.{Order}
 use Rattle.values.specs.declared.Kind.{Kind}
+use Rattle.values.specs.Names.{Reference}
 use Rattle.values.specs.Values.{Constant, Value, plain, link, kindOf, kindOfConstant, orderConstants, sameKind}
 use Rattle.language.specs.Answer.{Answer, refused, accepted, found}
 use Rattle.language.specs.Register.{Page, Register, Typing, holds, leads, hasKind}
 use Rattle.language.specs.Core.{Selector, Core}
+use Rattle.language.specs.References.{isMeant}
 use Rattle.language.specs.declared.Comparator.{Comparator}
+use Rattle.language.specs.declared.SurfaceComparator.{SurfaceComparator}
 
 -- The order is what the comparator asks for.
 abbrev pub stands : Comparator → Order → Bool
@@ -42,6 +43,11 @@ unfoldable pub Cv : Mixed → Comparator → Constant → Value → Bool
 Cv u c v (plain w) = found (orderConstants w v) (stands c) (u .compared c (plain w) v)
 Cv u c v (link i) = u .compared c (link i) v
 
+-- A link that the reference means, "page or no page".
+unfoldable pub Cl : Mixed → SurfaceComparator → Reference → Value → Bool
+Cl u c r (plain w) = u .followed w
+Cl u c r (link i) = isMeant c r i
+
 -- The value leads to a page of the register that the test selects.
 unfoldable pub follows : Mixed → Register → (Page → Bool) → Value → Bool
 follows u R test (plain c) = u .followed c
@@ -56,6 +62,7 @@ unfoldable mutual
   S (Selector.subquery x q) u R p = holds x (follows u R (λ p. Q q u R p)) p
   S (Selector.article c x) u R p = Ca c (p .identifier .article) x
   S (Selector.value x c v) u R p = holds x (Cv u c v) p
+  S (Selector.link x c r) u R p = holds x (Cl u c r) p
 
   pub Q : Core → Mixed → Register → Page → Bool
   Q (Core.select s) u R p = S s u R p
@@ -67,7 +74,7 @@ unfoldable pub someOther : Register → Bytes → Kind → Bool
 someOther R x k = any (holds x (λ v. not (sameKind (kindOf v) k))) (R .pages)
 
 -- 23: "a value selector names a property under which any page holds another kind than the constant's, or a subquery names
--- one under which any page holds a non-page value", anywhere in the core query
+-- one under which any page holds a non-page value", anywhere in the core query; a link node as a subquery
 unfoldable mutual
   pub mismatchIn : Selector → Register → Bool
   mismatchIn (Selector.category x) R = false
@@ -76,6 +83,7 @@ unfoldable mutual
   mismatchIn (Selector.subquery x q) R = someOther R x Kind.Page || mismatch q R
   mismatchIn (Selector.article c x) R = false
   mismatchIn (Selector.value x c v) R = someOther R x (kindOfConstant v)
+  mismatchIn (Selector.link x c r) R = someOther R x Kind.Page
 
   pub mismatch : Core → Register → Bool
   mismatch (Core.select s) R = mismatchIn s R
@@ -103,6 +111,7 @@ unfoldable mutual
   wellTypedIn (Selector.subquery x q) Γ = hasKind (Γ x) Kind.Page && wellTyped q Γ
   wellTypedIn (Selector.article c x) Γ = true
   wellTypedIn (Selector.value x c v) Γ = hasKind (Γ x) (kindOfConstant v)
+  wellTypedIn (Selector.link x c r) Γ = hasKind (Γ x) Kind.Page
 
   pub wellTyped : Core → Typing → Bool
   wellTyped (Core.select s) Γ = wellTypedIn s Γ

@@ -1,18 +1,21 @@
 -- The meaning of core queries on sets, as the thesis writes it: 4.3.1, 4.3.2 and 4.5.1 to 4.5.3. That the meaning page by page
 -- (Semantics.antt) is membership in these sets is proved: `page-set` and `page-set-known`.
 use mathlib.Core.Path.{_≡_}
-use mathlib.Core.Bool.{cond}
+use mathlib.Core.Bool.{true, cond}
 use mathlib.Core.List.{List, [], _∷_, List·Memᴰ}
 use mathlib.Core.Logic.{_⊎_, _≢_}
 use mathlib.Core.Option.{Option, some, none, IsSome}
 use Rattle.text.specs.Bytes.{Bytes, orderOf}
 use Rattle.text.specs.declared.Order.{Order}
-use Rattle.values.specs.Names.{Identifier, sameIdentifier}
+use Rattle.values.specs.Names.{Identifier, Reference, sameIdentifier}
 use Rattle.values.specs.Values.{Constant, Value, plain, link, orderConstants}
 use Rattle.language.specs.Register as Registers
 use Rattle.language.specs.Register.{Register}
 use Rattle.language.specs.Core.{Selector, Core}
+use Rattle.language.specs.Comparators.{strictly, orEqual}
+use Rattle.language.specs.References.{namespaceMeant, articleMeant}
 use Rattle.language.specs.declared.Comparator.{Comparator}
+use Rattle.language.specs.declared.SurfaceComparator.{SurfaceComparator}
 
 -- A set is a predicate: of each thing, that it is an element.
 abbrev pub 𝒫 : Type 0 → Type 1
@@ -80,6 +83,16 @@ Ca ω x y = compares ω x y (orderOf x y)
 abbrev pub Cv : Comparator → Constant → Constant → Type 0
 Cv ω v w = (o : Order) × (orderConstants v w ≡ some o) × compares ω v w o
 
+-- 5.3.1, a comparator as written: as it says strictly, or equal where it adds that.
+abbrev pub comparesAs : {A : Type 0} → SurfaceComparator → A → A → Order → Type 0
+comparesAs ω x y o = compares (strictly ω) x y o ⊎ ((orEqual ω ≡ true) × (x ≡ y))
+
+-- The identifiers that a reference means.
+abbrev pub meant : SurfaceComparator → Reference → 𝒫 Identifier
+meant ω r i =
+    ((n : Bytes) → namespaceMeant ω r ≡ some n → i .namespace ≡ n)
+    × comparesAs ω (i .article) (articleMeant r) (orderOf (i .article) (articleMeant r))
+
 -- 4.5.3: S, that the identifier matches the selector, and Q, the page set.
 unfoldable mutual
   pub matches : Selector → Identifier → Database → Type 0
@@ -88,6 +101,7 @@ unfoldable mutual
   matches (Selector.existence x) i D = props (D i) x ≠∅
   matches (Selector.subquery x q) i D = idents (props (D i) x) ∩ pageSet q D ≠∅
   matches (Selector.article ω x) i D = Ca ω (i .article) x
+  matches (Selector.link x ω r) i D = idents (props (D i) x) ∩ meant ω r ≠∅
   matches (Selector.value x ω w) i D = (v : Constant) × (plain v ∈ props (D i) x) × Cv ω v w
 
   pub pageSet : Core → Database → 𝒫 Identifier

@@ -96,7 +96,7 @@ refused-first (refused m) n f out after r e few h w = subst (λ j. Appends out 0
 refused-first (accepted x) n f out after r e few h w = absurd (h e)
 
 -- answer_text
-module _ (h s b q : Bytes) (n : ℕ) (room : 21570 ≤ length b) (k : Answered (queryCall h s b) b n q) (out after : Bytes) (r : ℕ) where
+module _ (h s b q : Bytes) (n : ℕ) (room : 29794 ≤ length b) (k : Answered (queryCall h s b) b n q) (out after : Bytes) (r : ℕ) where
   text-number : (R : Register) → heldRegister h ≡ some R → n ≡ numberOf (coreOf R s)
   unfolding queryCall writtenIn
   text-number R p =

@@ -5,24 +5,26 @@ use mathlib.Core.Bool.{true, _&&_}
 use mathlib.Core.List.{List, [], _∷_, _++_, append-assoc, append-nil}
 use mathlib.Core.Option.{some}
 use native.Mathlib.Omega.{arith}
-use lib.Dec.{leb, ltb}
+use lib.Dec.{eqb, leb, ltb}
 use lib.ListN.{length, length-append}
 use lib.Seq.{append-snoc}
 use Rattle.text.specs.Bytes.{Bytes, all}
 use Rattle.text.specs.Parts.{partOf}
 use Rattle.text.proofs.Laws.{all-append}
-use Rattle.values.specs.Names.{isValue}
+use Rattle.names.specs.Names.{isComposedPropertyName}
+use Rattle.values.specs.Names.{Reference, isComposedReference, isValue}
 use Rattle.values.specs.Values.{Constant, scalar, string, kindCount, kindFrom, inRange}
 use Rattle.values.specs.declared.Kind.{Kind}
 use Rattle.language.specs.Answer.{_>>=_}
+use Rattle.language.specs.declared.SurfaceComparator.{SurfaceComparator}
 use Rattle.language.specs.Core.{Core, nodes}
 use Rattle.language.proofs.Members.{and-true, both-true}
 use Rattle.language.proofs.Options.{OnSome, on-bind, on-weaker}
 use Rattle.query_core.specs.declared.Slot.{Slot}
 use Rattle.query_core.specs.Postfix.{Node, post, stepped, runs, only, readBack}
-use Rattle.query_core.specs.Held.{querySize, countIn, heapIn, constantOfKind, constantFrom, constantOf, nodeOf, slotIn, nodeIn, nodesTo, hasSizes, heldQuery}
+use Rattle.query_core.specs.Held.{querySize, countIn, heapIn, constantOfKind, constantFrom, constantOf, surfaceFrom, linkFrom, linkBy, nodeOf, slotIn, nodeIn, nodesTo, hasSizes, heldQuery}
 use Rattle.query_core.specs.Form.{isConstant, isNode, isCore}
-use Rattle.query_core.proofs.Nodewise.{on-only, on-node}
+use Rattle.query_core.proofs.Nodewise.{on-cond, on-only, on-any, on-node}
 use Rattle.query_core.proofs.Postfix.{length-post}
 
 -- Constants.
@@ -42,11 +44,26 @@ constant-kept s x = on-only KeptConstant (ltb (x .kind) kindCount) _ (λ e. kind
 abbrev KeptNode : Node → Type 0
 KeptNode m = isNode m ≡ true
 
+Any : SurfaceComparator → Type 0
+Any d = Unit {0}
+
+link-kept : (c : ℕ) (y : Bytes) (r : Reference) → OnSome KeptNode (linkFrom c y r)
+unfolding linkFrom isNode Any
+link-kept c y r =
+    on-only KeptNode (isComposedPropertyName y && isComposedReference r) (surfaceFrom c >>= λ d. some (Node.link y d r))
+    (λ h. on-bind Any KeptNode (surfaceFrom c) (λ d. some (Node.link y d r)) (on-any Any (surfaceFrom c) (λ d. tt)) (λ d u. h))
+
+links-kept : (s : Bytes) (k : ℕ) (x : Slot) → OnSome KeptNode (linkBy s k x)
+unfolding linkBy
+links-kept s zero x = link-kept _ _ _
+links-kept s (suc n) x = link-kept _ _ _
+
 node-kept : (s : Bytes) (tag : ℕ) (x : Slot) → OnSome KeptNode (nodeOf s tag x)
 unfolding nodeOf isNode
 node-kept s tag x =
-    on-node KeptNode KeptConstant tag (x .comparator) (constantOf s x) (partOf s (x .first)) (partOf s (x .second)) (constant-kept s x)
-    (λ e. refl) (λ e. refl) (λ e h. h) (λ e h. h) (λ e h. h) (λ e h. h) (λ e h d. h) (λ e h d w k. both-true h k)
+    on-cond KeptNode (eqb tag 8) _ _ (λ e. links-kept s (x .kind) x)
+    (on-node KeptNode KeptConstant tag (x .comparator) (constantOf s x) (partOf s (x .first)) (partOf s (x .second)) (constant-kept s x)
+    (λ e. refl) (λ e. refl) (λ e h. h) (λ e h. h) (λ e h. h) (λ e h. h) (λ e h d. h) (λ e h d w k. both-true h k))
 
 -- The nodes that were read.
 pub record NodesRead (n : ℕ) (l : List Node) : Type 0 where
@@ -88,6 +105,7 @@ stepped-codes (Node.subquery x) [] = tt
 stepped-codes (Node.subquery x) (a ∷ st) = sym (append-assoc (codes st) (post a) (Node.subquery x ∷ []))
 stepped-codes (Node.article c x) st = refl
 stepped-codes (Node.value x c v) st = refl
+stepped-codes (Node.link x c r) st = refl
 
 runs-codes : (l : List Node) (st : List Core) → OnSome (Codes (codes st ++ l)) (runs l st)
 unfolding runs

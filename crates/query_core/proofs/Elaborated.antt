@@ -1,6 +1,6 @@
 -- What the rules keep of a surface query, elaboration keeps of its core query: it has a form.
 use Prim.Native.Nat.{ℕ, _≤_}
-use mathlib.Core.Path.{_≡_, refl, sym, subst, _∙_}
+use mathlib.Core.Path.{_≡_, refl, subst, _∙_}
 use mathlib.Core.Bool.{Bool, true, false, cond, not, _&&_}
 use mathlib.Core.List.{List, [], _∷_, _++_}
 use mathlib.Core.Option.{Option, some, none}
@@ -81,6 +81,10 @@ value-keeps : (x : Bytes) (d : Comparator) (v : Constant) → isComposedProperty
 unfolding Keeps post isNode
 value-keeps x d v h k = one-keeps (Node.value x d v) (both-true h k)
 
+link-keeps : (x : Bytes) (c : SurfaceComparator) (r : Reference) → isComposedPropertyName x ≡ true → isComposedReference r ≡ true → Keeps (Core.select (Core.link x c r))
+unfolding Keeps post isNode
+link-keeps x c r h k = one-keeps (Node.link x c r) (both-true h k)
+
 -- References.
 stands-keeps : (x : Bytes) (c : SurfaceComparator) → isComposedName x ≡ true → Keeps (compared (λ d. Core.select (Core.article d x)) c)
 stands-keeps x c h = compared-keeps (λ d. Core.select (Core.article d x)) c (λ d. article-keeps x d h)
@@ -125,9 +129,9 @@ piece-keeps x c v Kind.Page h j = go (isReference (reference v)) refl
     r : Reference
     r = composedReference (reference v)
 
-    go : (b : Bool) → isReference (reference v) ≡ b → KeepsSome (cond b (some (Core.select (Core.subquery x (elaborateReference c r)))) none)
+    go : (b : Bool) → isReference (reference v) ≡ b → KeepsSome (cond b (some (Core.select (Core.link x c r))) none)
     go false e = tt
-    go true e = subquery-keeps x (elaborateReference c r) h (reference-keeps c r (composed-is-reference (reference v) e))
+    go true e = link-keeps x c r h (composed-is-reference (reference v) e)
 piece-keeps x c v (Kind.Scalar k) h j = constant-keeps x c (readConstant (Kind.Scalar k) v) h (read-keeps (Kind.Scalar k) v j)
 piece-keeps x c v Kind.String h j = constant-keeps x c (readConstant Kind.String v) h (read-keeps Kind.String v j)
 
@@ -211,6 +215,7 @@ some-node (Core.select (Core.existence x)) = omega arith
 some-node (Core.select (Core.subquery x q)) = omega arith
 some-node (Core.select (Core.article c x)) = omega arith
 some-node (Core.select (Core.value x c v)) = omega arith
+some-node (Core.select (Core.link x c r)) = omega arith
 some-node (Core.disjunction a b) = omega arith
 some-node (Core.conjunction a b) = omega arith
 

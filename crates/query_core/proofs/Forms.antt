@@ -1,9 +1,10 @@
 -- A core query that keeps its rules is held by its form.
-use Prim.Native.Nat.{ℕ, zero, suc, _+_, _*_, _≤_, _<_, _^_}
+use Prim.Native.Nat.{ℕ, zero, suc, _+_, _-_, _*_, _%_, _≤_, _<_, _^_}
 use mathlib.Core.Path.{_≡_, refl, sym, ap, subst, _∙_}
-use mathlib.Core.Bool.{true}
-use mathlib.Core.List.{List, _∷_, _++_, append-assoc}
+use mathlib.Core.Bool.{true, _&&_}
+use mathlib.Core.List.{List, [], _∷_, _++_, append-assoc}
 use mathlib.Core.Option.{some}
+use native.Mathlib.Nat.{add-zero, mod-eq-of-lt}
 use native.Mathlib.Omega.{arith}
 use lib.ListN.{length, getD, take, drop, length-append}
 use lib.Seq.{split-at, take-suc, take-length, length-take-le}
@@ -15,24 +16,28 @@ use Rattle.buffer.proofs.Numbers.{two-there}
 use Rattle.buffer.proofs.Parts.{part-before}
 use Rattle.buffer.proofs.Joined.{part-middle, part-first, part-second}
 use Rattle.buffer.proofs.Regions.{length-padded, part-region}
-use Rattle.names.specs.Names.{isComposedPropertyName}
+use Rattle.names.specs.Names.{isComposedName, isComposedNamespace, isComposedPropertyName}
+use Rattle.values.specs.Names.{bare, qualified, isComposedReference}
 use Rattle.values.specs.Values.{Constant, scalar, string, kindCode, kindCount}
 use Rattle.values.specs.declared.Kind.{Kind}
 use Rattle.values.proofs.AllKinds.{range-small}
 use Rattle.values.proofs.EachKind.{kind-coded, code-below}
 use Rattle.names.proofs.Composed.{composed-named}
 use Rattle.language.specs.Core.{Core, nodes}
+use Rattle.language.specs.Comparators.{comparatorCode as surfaceCode}
 use Rattle.language.specs.declared.Comparator.{Comparator}
+use Rattle.language.specs.declared.SurfaceComparator.{SurfaceComparator}
+use Rattle.language.proofs.EachComparator.{comparator-coded, comparator-few}
 use Rattle.language.proofs.Members.{and-true}
 use Rattle.query_core.specs.declared.Slot.{Slot}
 use Rattle.query_core.specs.Postfix.{Node, post}
-use Rattle.query_core.specs.Held.{querySize, countIn, slot, heapIn, slotFrom, comparatorFrom, constantOfKind, constantFrom, constantOf, nodeFrom, nodeOf, slotIn, nodeIn, nodesTo, heldQuery}
+use Rattle.query_core.specs.Held.{querySize, countIn, slot, heapIn, slotFrom, comparatorFrom, constantOfKind, constantFrom, constantOf, nodeFrom, surfaceFrom, linkFrom, linkBy, nodeOf, slotIn, nodeIn, nodesTo, heldQuery}
 use Rattle.query_core.specs.Form.{constantString, stringOf, strings, comparatorCode, spanAt, valueSlot, slotAt, slotBytes, slotsFrom, queryBytes, queryOf, isConstant, isNode, isCore}
 use Rattle.query_core.specs.Writing.{Fits}
 use Rattle.query_core.proofs.Postfix.{length-post}
 use Rattle.query_core.proofs.Slots.{Short, slot-back}
 use Rattle.query_core.proofs.Laying.{strings-append, slots-append, length-slot, length-slots}
-use Rattle.query_core.proofs.Counts.{property-short, namespace-short, constant-short, core-kept}
+use Rattle.query_core.proofs.Counts.{property-short, namespace-short, constant-short, reference-short, core-kept}
 use Rattle.query_core.proofs.Stacks.{holds-held, stack-post}
 
 -- The numbers of a node's slot fit its bytes.
@@ -41,7 +46,7 @@ pub record Fitting (x : Slot) : Type 0 where
   pub second : Short (x .second)
   pub number : x .number < 2 ^ 64
 
-module _ (at : ℕ) (low : at ≤ 16448) where
+module _ (at : ℕ) (low : at ≤ 24672) where
   one-fits : (n : ℕ) → n ≤ 64 → Short (spanAt at n)
   one-fits n l = (omega arith, omega arith)
 
@@ -63,9 +68,17 @@ module _ (at : ℕ) (low : at ≤ 16448) where
   slot-fits (Node.existence x) h = first-fits 4 (length x) (property-short x h)
   slot-fits (Node.subquery x) h = first-fits 5 (length x) (property-short x h)
   slot-fits (Node.article c x) h = record { first = (omega arith, omega arith); second = one-fits (length x) (composed-named x h .short); number = omega arith }
+  slot-fits (Node.link x c r) h =
+      let k = and-true (isComposedPropertyName x) (isComposedReference r) h in
+      let j = reference-short r (k .1) in
+      let l = property-short x (k .0) in
+      record { first = (omega (arith, low), omega (arith, l, j .0)); second = (omega (arith, low, l, j .0), omega (arith, j .1)); number = omega arith }
   slot-fits (Node.value x c v) h = let k = and-true (isComposedPropertyName x) (isConstant v) h in value-fits x c v (property-short x (k .0)) (k .1)
 
 -- A node comes back from its slot and its string.
+surface-back : (c : SurfaceComparator) → surfaceFrom (surfaceCode c) ≡ some c
+surface-back c = rw (comparator-few c, comparator-coded c)
+
 code-back : (c : Comparator) → comparatorFrom (comparatorCode c) ≡ some c
 unfolding comparatorFrom
 code-back Comparator.Equal = refl
@@ -88,6 +101,25 @@ module _ (s : Bytes) (at : ℕ) where
   value-back x c (scalar j n) h e k = rw (e, h, code-back c, k)
   value-back x c (string y) h e k = rw (e, h, code-back c, k)
 
+  link-bare : (x : Bytes) (c : SurfaceComparator) (y : Bytes) → isComposedPropertyName x && isComposedName y ≡ true → part s at (length (x ++ [] ++ y)) ≡ x ++ [] ++ y → nodeOf s 8 (slotAt at (Node.link x c (bare y))) ≡ some (Node.link x c (bare y))
+  unfolding nodeOf linkBy linkFrom
+  link-bare x c y h e =
+      let f : part s at (length x + 0) ≡ x = ap (part s at) (add-zero (length x)) ∙ part-first s at x [] (part-first s at (x ++ []) y e) in
+      let g : part s (at + length x + 0) (length y) ≡ y = ap (λ (k : ℕ). part s k (length y)) (let z : at + length x + 0 ≡ at + length (x ++ []) = omega (arith, length-append x []) in z) ∙ part-second s at (x ++ []) y e in
+      rw (f, g, h, surface-back c)
+
+  link-qualified : (x : Bytes) (c : SurfaceComparator) (n y : Bytes) → length n ≤ 64 → isComposedPropertyName x && (isComposedNamespace n && isComposedName y) ≡ true → part s at (length (x ++ n ++ y)) ≡ x ++ n ++ y
+      → nodeOf s 8 (slotAt at (Node.link x c (qualified n y))) ≡ some (Node.link x c (qualified n y))
+  unfolding nodeOf linkBy linkFrom
+  link-qualified x c n y l h e =
+      let m : suc (length n) % 256 ≡ suc (length n) = mod-eq-of-lt (omega arith) in
+      let a = part-first s at (x ++ n) y e in
+      let k : length x + length n - length n ≡ length x = omega arith in
+      let f : part s at (length x + length n - length n) ≡ x = ap (part s at) k ∙ part-first s at x n a in
+      let g : part s (at + (length x + length n - length n)) (length n) ≡ n = ap (λ (j : ℕ). part s (at + j) (length n)) k ∙ part-second s at x n a in
+      let i : part s (at + length x + length n) (length y) ≡ y = ap (λ (j : ℕ). part s j (length y)) (let z : at + length x + length n ≡ at + length (x ++ n) = omega (arith, length-append x n) in z) ∙ part-second s at (x ++ n) y e in
+      rw (m, f, g, i, h, surface-back c)
+
   node-back : (x : Node) → isNode x ≡ true → part s at (length (stringOf x)) ≡ stringOf x → nodeOf s (slotAt at x .tag) (slotAt at x) ≡ some x
   unfolding nodeOf nodeFrom isNode stringOf
   node-back Node.conjunction h e = refl
@@ -97,6 +129,10 @@ module _ (s : Bytes) (at : ℕ) where
   node-back (Node.existence x) h e = rw (e, h)
   node-back (Node.subquery x) h e = rw (e, h)
   node-back (Node.article c x) h e = rw (e, h, code-back c)
+  node-back (Node.link x c (bare y)) h e = link-bare x c y h e
+  node-back (Node.link x c (qualified n y)) h e =
+      let k = and-true (isComposedPropertyName x) (isComposedNamespace n && isComposedName y) h in
+      link-qualified x c n y (namespace-short n (and-true (isComposedNamespace n) (isComposedName y) (k .1) .0)) h e
   node-back (Node.value x c v) h e =
       let k = and-true (isComposedPropertyName x) (isConstant v) h in
       value-back x c v (k .0) (part-first s at x (constantString v) e) (constant-back x c v (k .1) (part-second s at x (constantString v) e))
@@ -105,7 +141,7 @@ module _ (s : Bytes) (at : ℕ) where
 pub record Holding (h : Bytes) (l : List Node) : Type 0 where
   pub count : countIn h ≡ length l
   pub slots : part h 2 5120 ≡ padded 5120 (slotsFrom 0 l)
-  pub heap : heapIn h ≡ padded 16448 (strings l)
+  pub heap : heapIn h ≡ padded 24672 (strings l)
 
 -- The slot and the string of a node behind some others.
 module _ (h : Bytes) (k : List Node) (x : Node) (m : List Node) (f : Fits (k ++ (x ∷ m))) (d : Holding h (k ++ (x ∷ m))) where
@@ -158,24 +194,24 @@ module _ (l : List Node) (f : Fits l) where
   slots-long : length (padded 5120 (slotsFrom 0 l)) ≡ 5120
   slots-long = length-padded 5120 (slotsFrom 0 l) (omega (arith, length-slots 0 l, f .0))
 
-  heap-long : length (padded 16448 (strings l)) ≡ 16448
-  heap-long = length-padded 16448 (strings l) (f .1)
+  heap-long : length (padded 24672 (strings l)) ≡ 24672
+  heap-long = length-padded 24672 (strings l) (f .1)
 
   pub length-bytes : length (queryBytes l) ≡ querySize
   unfolding queryBytes
-  length-bytes = omega (arith, length-append (padded 5120 (slotsFrom 0 l)) (padded 16448 (strings l)), slots-long, heap-long)
+  length-bytes = omega (arith, length-append (padded 5120 (slotsFrom 0 l)) (padded 24672 (strings l)), slots-long, heap-long)
 
   pub bytes-hold : (r : Bytes) → Holding (queryBytes l ++ r) l
   unfolding queryBytes
   bytes-hold r =
       let slots = padded 5120 (slotsFrom 0 l) in
-      let heap = padded 16448 (strings l) in
+      let heap = padded 24672 (strings l) in
       let parts : queryBytes l ++ r ≡ twoBytes (length l) ++ (slots ++ (heap ++ r)) = ap (λ (t : Bytes). twoBytes (length l) ++ t) (append-assoc slots heap r) in
       let behind : twoBytes (length l) ++ (slots ++ (heap ++ r)) ≡ (twoBytes (length l) ++ slots) ++ (heap ++ r) = refl in
       record {
         count = two-there (queryBytes l ++ r) 0 (length l) (omega (arith, f .0)) refl;
         slots = ap (λ (t : Bytes). part t 2 5120) parts ∙ part-middle (twoBytes (length l)) slots (heap ++ r) 2 5120 refl slots-long;
-        heap = ap (λ (t : Bytes). part t 5122 16448) (parts ∙ behind) ∙ part-middle (twoBytes (length l) ++ slots) heap r 5122 16448 (omega (arith, slots-long)) heap-long;
+        heap = ap (λ (t : Bytes). part t 5122 24672) (parts ∙ behind) ∙ part-middle (twoBytes (length l) ++ slots) heap r 5122 24672 (omega (arith, slots-long)) heap-long;
       }
 
 -- The form of a core query holds it, and has the size of a held query.

@@ -1,7 +1,7 @@
 -- Laws of nodes laid into a buffer: one more behind others, and the count before them.
 use Prim.Native.Nat.{ℕ, _+_, _-_, _*_, _≤_, _<_}
 use mathlib.Core.Path.{_≡_, refl, sym, ap, ap₂, _∙_}
-use mathlib.Core.Bool.{Bool, true, false, not}
+use mathlib.Core.Bool.{Bool, true, false, cond, not}
 use mathlib.Core.List.{List, [], _∷_, _++_, append-assoc, append-nil}
 use native.Mathlib.Nat.{add-zero}
 use native.Mathlib.Omega.{arith}
@@ -16,6 +16,12 @@ use Rattle.buffer.specs.Writing.{written}
 use Rattle.buffer.proofs.Regions.{length-zeros, length-padded}
 use Rattle.buffer.proofs.Written.{length-written, written-none, written-here, written-skip, written-over, next}
 use Rattle.buffer.proofs.Padding.{zeros-add, padded-more}
+use Rattle.values.specs.Names.{Reference, bare, qualified}
+use Rattle.values.specs.Answers.{splitOf}
+use Rattle.values.specs.declared.Split.{Split}
+use Rattle.language.specs.declared.SurfaceComparator.{SurfaceComparator}
+use Rattle.language.specs.Comparators.{comparatorCode as surfaceCode}
+use Rattle.language.specs.References.{articleMeant}
 use Rattle.query_core.specs.declared.Constant.{Constant}
 use Rattle.query_core.specs.declared.Selector.{Selector}
 use Rattle.query_core.specs.declared.Connective.{Connective}
@@ -25,9 +31,9 @@ use Rattle.query_core.specs.declared.Strings.{Strings}
 use Rattle.query_core.specs.declared.Place.{Place}
 use Rattle.query_core.specs.Postfix.{Node}
 use Rattle.query_core.specs.Held.{querySize}
-use Rattle.query_core.specs.Form.{stringOf, strings, spanAt, noSpan, slotAt, slotBytes, slotsFrom, queryBytes}
+use Rattle.query_core.specs.Form.{namespaceString, stringOf, strings, spanAt, noSpan, markOf, linkSlot, slotAt, slotBytes, slotsFrom, queryBytes}
 use Rattle.query_core.specs.Reading.{joinedBy, nodeBy}
-use Rattle.query_core.specs.Writing.{joinedStrings, nodeStrings, joinedSlot, slotOf, joint, hasRoom, Fits, Laid, Puts, Finishes, countOf, endOf}
+use Rattle.query_core.specs.Writing.{joinedStrings, nodeStrings, joinedSlot, slotOf, joint, writtenIn, hasRoom, Fits, Laid, Spells, PutsNode, Puts, Finishes, countOf, endOf}
 
 -- Strings and slots of one more node.
 pub strings-append : (k l : List Node) → strings (k ++ l) ≡ strings k ++ strings l
@@ -63,22 +69,55 @@ module _ (l : List Node) (x : Node) where
       let place : 0 + length (strings l) ≡ length (strings l) = omega arith in
       slots-append 0 l (x ∷ []) ∙ ap (λ (r : Bytes). slotsFrom 0 l ++ r) (append-nil (slotBytes (slotAt (0 + length (strings l)) x)) ∙ ap (λ (n : ℕ). slotBytes (slotAt n x)) place)
 
+-- Strings written one behind the other.
+pub strings-written : (h : Bytes) (at : ℕ) (a b c h1 h2 h3 : Bytes) → h1 ≡ written h at a → h2 ≡ written h1 (at + length a) b → h3 ≡ written h2 (at + length a + length b) c → h3 ≡ written h at (a ++ b ++ c)
+strings-written h at a b c h1 h2 h3 e f g = next h at (a ++ b) c (next h at a b e f) (g ∙ ap (λ (n : ℕ). written h2 n c) (let k : at + length a + length b ≡ at + length (a ++ b) = omega (arith, length-append a b) in k))
+
+-- The strings and the slot of a link whose reference lies in a text of its own.
+module _ (s : Bytes) (p : Span) (t : Bytes) (r : Split) where
+  abbrev referenceIf : Bool → Reference
+  referenceIf b = cond b (qualified (partOf t (r .namespace)) (partOf t (r .article))) (bare (partOf t (r .article)))
+
+  abbrev writtenIf : Bool → Bytes
+  writtenIf b = partOf t (cond b (r .namespace) noSpan)
+
+  link-strings : partOf s p ++ partOf t (writtenIn r) ++ partOf t (r .article) ≡ partOf s p ++ namespaceString (splitOf t r) ++ articleMeant (splitOf t r)
+  link-strings = go (r .qualified)
+    where
+      go : (b : Bool) → partOf s p ++ writtenIf b ++ partOf t (r .article) ≡ partOf s p ++ namespaceString (referenceIf b) ++ articleMeant (referenceIf b)
+      go true = refl
+      go false = refl
+
+  link-slots : (c : SurfaceComparator) (at : ℕ)
+      → linkSlot (surfaceCode c) (cond (r .qualified) (markOf (length (partOf t (writtenIn r)))) 0) (spanAt at (length (partOf s p) + length (partOf t (writtenIn r)))) (spanAt (at + length (partOf s p) + length (partOf t (writtenIn r))) (length (partOf t (r .article))))
+      ≡ slotAt at (Node.link (partOf s p) c (splitOf t r))
+  link-slots c at = go (r .qualified)
+    where
+      go : (b : Bool) → linkSlot (surfaceCode c) (cond b (markOf (length (writtenIf b))) 0) (spanAt at (length (partOf s p) + length (writtenIf b))) (spanAt (at + length (partOf s p) + length (writtenIf b)) (length (partOf t (r .article))))
+          ≡ slotAt at (Node.link (partOf s p) c (referenceIf b))
+      go true = refl
+      go false = refl
+
 -- The strings and the slot of a declared node are those of the node that it is.
 module _ (s : Bytes) where
   abbrev both : Strings → Bytes
-  both r = partOf s (r .first) ++ partOf s (r .second)
+  both r = partOf s (r .first) ++ partOf s (r .second) ++ partOf s (r .third)
+
+  alone : (t : Bytes) → t ++ [] ++ [] ≡ t
+  alone t = append-nil (t ++ []) ∙ append-nil t
 
   strings-joined : (c : Connective) (y : Selector) → both (joinedStrings c y) ≡ stringOf (joinedBy s c y)
   unfolding stringOf
   strings-joined Connective.And y = refl
   strings-joined Connective.Or y = refl
-  strings-joined Connective.Select (Selector.Category p) = append-nil (partOf s p)
-  strings-joined Connective.Select (Selector.Namespace p) = append-nil (partOf s p)
-  strings-joined Connective.Select (Selector.Existence p) = append-nil (partOf s p)
-  strings-joined Connective.Select (Selector.Subquery p) = append-nil (partOf s p)
-  strings-joined Connective.Select (Selector.Article c p) = refl
-  strings-joined Connective.Select (Selector.Value p c (Constant.Scalar k n)) = refl
-  strings-joined Connective.Select (Selector.Value p c (Constant.String q)) = refl
+  strings-joined Connective.Select (Selector.Category p) = alone (partOf s p)
+  strings-joined Connective.Select (Selector.Namespace p) = alone (partOf s p)
+  strings-joined Connective.Select (Selector.Existence p) = alone (partOf s p)
+  strings-joined Connective.Select (Selector.Subquery p) = alone (partOf s p)
+  strings-joined Connective.Select (Selector.Article c p) = append-nil (partOf s p)
+  strings-joined Connective.Select (Selector.Value p c (Constant.Scalar k n)) = alone (partOf s p) ∙ sym (append-nil (partOf s p))
+  strings-joined Connective.Select (Selector.Value p c (Constant.String q)) = append-nil (partOf s p ++ partOf s q)
+  strings-joined Connective.Select (Selector.Link p c r) = link-strings s p s r
 
   -- the strings lie at the place, one behind the other
   abbrev firstAt : ℕ → Strings → Span
@@ -87,7 +126,10 @@ module _ (s : Bytes) where
   abbrev secondAt : ℕ → Strings → Span
   secondAt at r = spanAt (at + length (partOf s (r .first))) (length (partOf s (r .second)))
 
-  slot-joined : (at : ℕ) (c : Connective) (y : Selector) → joinedSlot c y (firstAt at (joinedStrings c y)) (secondAt at (joinedStrings c y)) ≡ slotAt at (joinedBy s c y)
+  abbrev thirdAt : ℕ → Strings → Span
+  thirdAt at r = spanAt (at + length (partOf s (r .first)) + length (partOf s (r .second))) (length (partOf s (r .third)))
+
+  slot-joined : (at : ℕ) (c : Connective) (y : Selector) → joinedSlot c y (firstAt at (joinedStrings c y)) (secondAt at (joinedStrings c y)) (thirdAt at (joinedStrings c y)) ≡ slotAt at (joinedBy s c y)
   slot-joined at Connective.And y = refl
   slot-joined at Connective.Or y = refl
   slot-joined at Connective.Select (Selector.Category p) = refl
@@ -97,51 +139,57 @@ module _ (s : Bytes) where
   slot-joined at Connective.Select (Selector.Article c p) = rw add-zero
   slot-joined at Connective.Select (Selector.Value p c (Constant.Scalar k n)) = refl
   slot-joined at Connective.Select (Selector.Value p c (Constant.String q)) = refl
+  slot-joined at Connective.Select (Selector.Link p c r) = link-slots s p s r c at
 
 -- Whether strings have room.
-module _ (end a b : ℕ) where
-  pub no-room : 16448 < end → false ≡ hasRoom end a b
+module _ (end a b c : ℕ) where
+  full : 24672 < end + a + b + c → false ≡ hasRoom end a b c
   unfolding hasRoom
-  no-room l = sym (lt-leb (end + a + b) 16448 (omega arith))
+  full l = sym (lt-leb (end + a + b + c) 24672 l)
 
-  pub no-first : 16448 - end < a → end ≤ 16448 → false ≡ hasRoom end a b
-  unfolding hasRoom
-  no-first l k = sym (lt-leb (end + a + b) 16448 (omega arith))
+  pub no-room : 24672 < end → false ≡ hasRoom end a b c
+  no-room l = full (omega arith)
 
-  pub second-fits : end ≤ 16448 → a ≤ 16448 - end → leb b (16448 - end - a) ≡ hasRoom end a b
+  pub no-first : 24672 - end < a → end ≤ 24672 → false ≡ hasRoom end a b c
+  no-first l k = full (omega arith)
+
+  pub no-second : 24672 - end - a < b → end ≤ 24672 → a ≤ 24672 - end → false ≡ hasRoom end a b c
+  no-second l k m = full (omega arith)
+
+  pub third-fits : end ≤ 24672 → a ≤ 24672 - end → b ≤ 24672 - end - a → leb c (24672 - end - a - b) ≡ hasRoom end a b c
   unfolding hasRoom
-  second-fits k l = go (leb b (16448 - end - a)) refl
+  third-fits k l m = go (leb c (24672 - end - a - b)) refl
     where
-      go : (t : Bool) → leb b (16448 - end - a) ≡ t → leb b (16448 - end - a) ≡ leb (end + a + b) 16448
-      go true e = e ∙ sym (le-leb (end + a + b) 16448 (let z = leb-true b (16448 - end - a) e in omega (arith, z)))
-      go false e = e ∙ sym (lt-leb (end + a + b) 16448 (let z = leb-false b (16448 - end - a) e in omega (arith, z)))
+      go : (t : Bool) → leb c (24672 - end - a - b) ≡ t → leb c (24672 - end - a - b) ≡ leb (end + a + b + c) 24672
+      go true e = e ∙ sym (le-leb (end + a + b + c) 24672 (let z = leb-true c (24672 - end - a - b) e in omega (arith, z)))
+      go false e = e ∙ sym (lt-leb (end + a + b + c) 24672 (let z = leb-false c (24672 - end - a - b) e in omega (arith, z)))
 
-pub ruleset rooms = (no-room, no-first, second-fits)
+pub ruleset rooms = (no-room, no-first, no-second, third-fits)
 
-module _ (t : Bool) (end a b : ℕ) (e : t ≡ hasRoom end a b) where
-  pub room-left : not t ≡ false → end + a + b ≤ 16448
+module _ (t : Bool) (end a b c : ℕ) (e : t ≡ hasRoom end a b c) where
+  pub room-left : not t ≡ false → end + a + b + c ≤ 24672
   unfolding hasRoom
-  room-left f = leb-true (end + a + b) 16448 (sym e ∙ not-false t f)
+  room-left f = leb-true (end + a + b + c) 24672 (sym e ∙ not-false t f)
 
-  pub room-taken : not t ≡ true → 16448 < end + a + b
+  pub room-taken : not t ≡ true → 24672 < end + a + b + c
   unfolding hasRoom
-  room-taken f = leb-false (end + a + b) 16448 (sym e ∙ not-true t f)
+  room-taken f = leb-false (end + a + b + c) 24672 (sym e ∙ not-true t f)
 
 -- Bytes behind what both regions hold.
-laid-both : (l s v w : Bytes) (n : ℕ) → length l ≡ n → n + length v ≤ 5120 → length s + length w ≤ 16448
-    → written (written (zeros 2 ++ (padded 5120 l ++ padded 16448 s)) (2 + n) v) (5122 + length s) w ≡ zeros 2 ++ (padded 5120 (l ++ v) ++ padded 16448 (s ++ w))
+laid-both : (l s v w : Bytes) (n : ℕ) → length l ≡ n → n + length v ≤ 5120 → length s + length w ≤ 24672
+    → written (written (zeros 2 ++ (padded 5120 l ++ padded 24672 s)) (2 + n) v) (5122 + length s) w ≡ zeros 2 ++ (padded 5120 (l ++ v) ++ padded 24672 (s ++ w))
 laid-both l s v w n e b r =
     let size = length-padded 5120 l (omega (arith, e, b)) in
     let grown = length-padded 5120 (l ++ v) (omega (arith, e, b, length-append l v)) in
     let place : 5122 + length s ≡ 2 + (5120 + length s) = omega arith in
-    let slots : written (padded 5120 l ++ padded 16448 s) n v ≡ padded 5120 (l ++ v) ++ padded 16448 s
-    = written-here v (padded 5120 l) (padded 16448 s) n (omega (arith, size, b))
-    ∙ ap (λ (k : ℕ). written (padded 5120 l) k v ++ padded 16448 s) (sym e)
-    ∙ ap (λ (t : Bytes). t ++ padded 16448 s) (padded-more 5120 l v (omega (arith, e, b))) in
-    ap₂ (λ (t : Bytes) (k : ℕ). written t k w) (written-skip (zeros 2) (padded 5120 l ++ padded 16448 s) v 2 n (length-zeros 2) ∙ ap (λ (t : Bytes). zeros 2 ++ t) slots) place
-    ∙ written-skip (zeros 2) (padded 5120 (l ++ v) ++ padded 16448 s) w 2 (5120 + length s) (length-zeros 2)
-    ∙ ap (λ (t : Bytes). zeros 2 ++ t) (written-skip (padded 5120 (l ++ v)) (padded 16448 s) w 5120 (length s) grown)
-    ∙ ap (λ (t : Bytes). zeros 2 ++ (padded 5120 (l ++ v) ++ t)) (padded-more 16448 s w r)
+    let slots : written (padded 5120 l ++ padded 24672 s) n v ≡ padded 5120 (l ++ v) ++ padded 24672 s
+    = written-here v (padded 5120 l) (padded 24672 s) n (omega (arith, size, b))
+    ∙ ap (λ (k : ℕ). written (padded 5120 l) k v ++ padded 24672 s) (sym e)
+    ∙ ap (λ (t : Bytes). t ++ padded 24672 s) (padded-more 5120 l v (omega (arith, e, b))) in
+    ap₂ (λ (t : Bytes) (k : ℕ). written t k w) (written-skip (zeros 2) (padded 5120 l ++ padded 24672 s) v 2 n (length-zeros 2) ∙ ap (λ (t : Bytes). zeros 2 ++ t) slots) place
+    ∙ written-skip (zeros 2) (padded 5120 (l ++ v) ++ padded 24672 s) w 2 (5120 + length s) (length-zeros 2)
+    ∙ ap (λ (t : Bytes). zeros 2 ++ t) (written-skip (padded 5120 (l ++ v)) (padded 24672 s) w 5120 (length s) grown)
+    ∙ ap (λ (t : Bytes). zeros 2 ++ (padded 5120 (l ++ v) ++ t)) (padded-more 24672 s w r)
 
 -- The place behind nodes.
 abbrev placeAt : ℕ → ℕ → Place
@@ -158,84 +206,90 @@ module _ (l : List Node) (m : Node) where
   fits-less : Fits (l ++ (m ∷ [])) → Fits l
   fits-less f = (omega (arith, f .0, count-more), omega (arith, f .1, bytes-more))
 
--- The ways to lay a node: into no buffer of a held query, too many, no room for its strings, laid.
-module _ (s : Bytes) (x : DeclaredNode) (h : Bytes) (p : Place) where
-  pub put-short : length h < 21570 → Puts s x h p h p
-  unfolding Puts
-  put-short o l d = absurd (omega (arith, o, d .long))
+-- A node laid behind others: into no buffer of a held query, too many, no room for its strings, laid.
+module _ (m : Node) (h : Bytes) (p : Place) where
+  pub node-short : length h < 29794 → PutsNode m h p h p
+  unfolding PutsNode
+  node-short o l d = absurd (omega (arith, o, d .long))
 
-  pub put-full : 256 ≤ countOf p → Puts s x h p h (record { code = p .code - countOf p + 257 })
-  unfolding Puts
-  put-full b l d =
-      record {
-        long = d .long;
-        count = omega (arith, d .count, b, count-more l (nodeBy s x));
-        is = λ f. absurd (omega (arith, d .count, b, count-more l (nodeBy s x), f .0));
-      }
+  pub node-full : 256 ≤ countOf p → PutsNode m h p h (record { code = p .code - countOf p + 257 })
+  unfolding PutsNode
+  node-full b l d =
+      record { long = d .long; count = omega (arith, d .count, b, count-more l m); is = λ f. absurd (omega (arith, d .count, b, count-more l m, f .0)) }
 
-  module _ (few : countOf p < 256) (r : Strings) (e : r ≡ nodeStrings x) (a b : Bytes) (f : a ≡ partOf s (r .first)) (g : b ≡ partOf s (r .second)) where
-    string-is : stringOf (nodeBy s x) ≡ a ++ b
-    string-is = sym (rw (f, g, e) (strings-joined s (x .connective) (x .selector)))
+  module _ (few : countOf p < 256) (x : DeclaredNode) (a b c : Bytes) (z : Spells m x a b c) where
+    string-long : length (stringOf m) ≡ length a + length b + length c
+    string-long = omega (arith, ap length (z .string), length-append (a ++ b) c, length-append a b)
 
-    string-long : length (stringOf (nodeBy s x)) ≡ length a + length b
-    string-long = ap length string-is ∙ length-append a b
-
-    pub put-nothing : 16448 < endOf p + length a + length b → Puts s x h p h (record { code = p .code + 1 })
-    unfolding Puts
-    put-nothing o l d =
+    pub node-nothing : 24672 < endOf p + length a + length b + length c → PutsNode m h p h (record { code = p .code + 1 })
+    unfolding PutsNode
+    node-nothing o l d =
         record {
           long = d .long;
-          count = omega (arith, d .count, few, count-more l (nodeBy s x));
-          is = λ k. absurd (omega (arith, o, d .is (fits-less l (nodeBy s x) k) .1, bytes-more l (nodeBy s x), string-long, k .1));
+          count = omega (arith, d .count, few, count-more l m);
+          is = λ k. absurd (omega (arith, o, d .is (fits-less l m k) .1, bytes-more l m, string-long, k .1));
         }
 
-    pub put-there : (y : Slot) (h1 h2 h3 : Bytes)
-        → y ≡ slotOf x (spanAt (endOf p) (length a)) (spanAt (endOf p + length a) (length b))
+    pub node-there : (y : Slot) (h1 h2 : Bytes)
+        → y ≡ slotOf x (spanAt (endOf p) (length a)) (spanAt (endOf p + length a) (length b)) (spanAt (endOf p + length a + length b) (length c))
         → h1 ≡ written h (2 + 20 * countOf p) (slotBytes y)
-        → h2 ≡ written h1 (5122 + endOf p) a
-        → h3 ≡ written h2 (5122 + endOf p + length a) b
-        → Puts s x h p h3 (placeAt (countOf p + 1) (endOf p + length a + length b))
-    unfolding Puts
-    put-there y h1 h2 h3 w i j k l d =
+        → h2 ≡ written h1 (5122 + endOf p) (a ++ b ++ c)
+        → PutsNode m h p h2 (placeAt (countOf p + 1) (endOf p + length a + length b + length c))
+    unfolding PutsNode
+    node-there y h1 h2 is-slot i laid l d =
         record {
-          long = ap length laid ∙ length-written h1 (5122 + endOf p) (a ++ b) ∙ ap length i ∙ length-written h (2 + 20 * countOf p) (slotBytes y) ∙ d .long;
-          count = omega (arith, d .count, few, count-more l (nodeBy s x));
-          is = λ t. (there t, omega (arith, d .is (fits-less l (nodeBy s x) t) .1, bytes-more l (nodeBy s x), string-long));
+          long = ap length laid ∙ length-written h1 (5122 + endOf p) (a ++ b ++ c) ∙ ap length i ∙ length-written h (2 + 20 * countOf p) (slotBytes y) ∙ d .long;
+          count = omega (arith, d .count, few, count-more l m);
+          is = λ t. (there t, omega (arith, d .is (fits-less l m t) .1, bytes-more l m, string-long));
         }
       where
-        laid : h3 ≡ written h1 (5122 + endOf p) (a ++ b)
-        laid = next h1 (5122 + endOf p) a b j k
-
-        same-slot : y ≡ slotAt (endOf p) (nodeBy s x)
-        same-slot = w ∙ rw (f, g, e) (slot-joined s (endOf p) (x .connective) (x .selector))
-
-        there : Fits (l ++ (nodeBy s x ∷ [])) → h3 ≡ zeros 2 ++ (padded 5120 (slotsFrom 0 (l ++ (nodeBy s x ∷ []))) ++ padded 16448 (strings (l ++ (nodeBy s x ∷ []))))
+        there : Fits (l ++ (m ∷ [])) → h2 ≡ zeros 2 ++ (padded 5120 (slotsFrom 0 (l ++ (m ∷ []))) ++ padded 24672 (strings (l ++ (m ∷ []))))
         there t =
-            let q = d .is (fits-less l (nodeBy s x) t) in
+            let u = d .is (fits-less l m t) in
             let n : length (slotsFrom 0 l) ≡ 20 * countOf p = omega (arith, length-slots 0 l, d .count, few) in
             laid
-            ∙ ap (λ (z : Bytes). written z (5122 + endOf p) (a ++ b)) (i ∙ ap (λ (z : Bytes). written z (2 + 20 * countOf p) (slotBytes y)) (q .0))
-            ∙ ap (λ (z : ℕ). written (written (zeros 2 ++ (padded 5120 (slotsFrom 0 l) ++ padded 16448 (strings l))) (2 + 20 * countOf p) (slotBytes y)) (5122 + z) (a ++ b)) (q .1)
-            ∙ laid-both (slotsFrom 0 l) (strings l) (slotBytes y) (a ++ b) (20 * countOf p) n (omega (arith, few, length-slot y)) (omega (arith, bytes-more l (nodeBy s x), string-long, length-append a b, t .1))
-            ∙ ap₂ (λ (u v : Bytes). zeros 2 ++ (padded 5120 u ++ padded 16448 v))
-            (ap (λ (z : Slot). slotsFrom 0 l ++ slotBytes z) same-slot ∙ ap (λ (z : ℕ). slotsFrom 0 l ++ slotBytes (slotAt z (nodeBy s x))) (q .1) ∙ sym (slots-more l (nodeBy s x)))
-            (ap (λ (z : Bytes). strings l ++ z) (sym string-is) ∙ sym (strings-more l (nodeBy s x)))
+            ∙ ap (λ (z : Bytes). written z (5122 + endOf p) (a ++ b ++ c)) (i ∙ ap (λ (z : Bytes). written z (2 + 20 * countOf p) (slotBytes y)) (u .0))
+            ∙ ap (λ (z : ℕ). written (written (zeros 2 ++ (padded 5120 (slotsFrom 0 l) ++ padded 24672 (strings l))) (2 + 20 * countOf p) (slotBytes y)) (5122 + z) (a ++ b ++ c)) (u .1)
+            ∙ laid-both (slotsFrom 0 l) (strings l) (slotBytes y) (a ++ b ++ c) (20 * countOf p) n (omega (arith, few, length-slot y)) (omega (arith, bytes-more l m, string-long, length-append (a ++ b) c, length-append a b, t .1))
+            ∙ ap₂ (λ (w v : Bytes). zeros 2 ++ (padded 5120 w ++ padded 24672 v))
+            (ap (λ (k : Slot). slotsFrom 0 l ++ slotBytes k) (is-slot ∙ z .slot (endOf p)) ∙ ap (λ (z : ℕ). slotsFrom 0 l ++ slotBytes (slotAt z m)) (u .1) ∙ sym (slots-more l m))
+            (ap (λ (z : Bytes). strings l ++ z) (sym (z .string)) ∙ sym (strings-more l m))
+
+-- A declared node of one text, by its strings.
+module _ (s : Bytes) (x : DeclaredNode) where
+  pub node-spells : (r : Strings) → r ≡ nodeStrings x → (a b c : Bytes) → a ≡ partOf s (r .first) → b ≡ partOf s (r .second) → c ≡ partOf s (r .third) → Spells (nodeBy s x) x a b c
+  node-spells r e a b c f g q =
+      rw (f, g, q, e) (record { string = sym (strings-joined s (x .connective) (x .selector)); slot = λ at. slot-joined s at (x .connective) (x .selector) })
+
+-- A link whose reference lies in a text of its own.
+pub link-spells : (s : Bytes) (name : Span) (t : Bytes) (r : Split) (k : SurfaceComparator) (a b c : Bytes) (w : Span) → a ≡ partOf s name → w ≡ writtenIn r → b ≡ partOf t w → c ≡ partOf t (r .article)
+    → Spells (Node.link (partOf s name) k (splitOf t r)) (record { connective = Connective.Select; selector = Selector.Link name k r }) a b c
+unfolding stringOf
+link-spells s name t r k a b c w f e g q = rw (f, g, q, e) (record { string = sym (link-strings s name t r); slot = link-slots s name t r k })
 
 -- AND or OR, laid: it has no strings.
 module _ (h : Bytes) (p : Place) (few : countOf p < 256) (y : Slot) (h1 : Bytes) (i : h1 ≡ written h (2 + 20 * countOf p) (slotBytes y)) where
-  same-place : placeAt (countOf p + 1) (endOf p + 0 + 0) ≡ record { code = p .code + 1 }
-  same-place = let e : countOf p + 1 + 512 * (endOf p + 0 + 0) ≡ p .code + 1 = omega arith in rw e
+  same-place : placeAt (countOf p + 1) (endOf p + 0 + 0 + 0) ≡ record { code = p .code + 1 }
+  same-place = let e : countOf p + 1 + 512 * (endOf p + 0 + 0 + 0) ≡ p .code + 1 = omega arith in rw e
 
-  pub put-joint : (or : Bool) → y ≡ slotOf (joint or) noSpan noSpan → Puts [] (joint or) h p h1 (record { code = p .code + 1 })
-  put-joint true w = rw same-place at (put-there [] (joint true) h p few (nodeStrings (joint true)) refl [] [] refl refl y h1 h1 h1 w i (sym (written-none h1 _)) (sym (written-none h1 _)))
-  put-joint false w = rw same-place at (put-there [] (joint false) h p few (nodeStrings (joint false)) refl [] [] refl refl y h1 h1 h1 w i (sym (written-none h1 _)) (sym (written-none h1 _)))
+  pub put-joint : (or : Bool) → y ≡ slotOf (joint or) noSpan noSpan noSpan → Puts [] (joint or) h p h1 (record { code = p .code + 1 })
+  unfolding Puts
+  put-joint or w = rw same-place at (node-there (nodeBy [] (joint or)) h p few (joint or) [] [] [] (spells or) y h1 h1 (w ∙ slot or) i (sym (written-none h1 _)))
+    where
+      spells : (or : Bool) → Spells (nodeBy [] (joint or)) (joint or) [] [] []
+      spells true = node-spells [] (joint true) (nodeStrings (joint true)) refl [] [] [] refl refl refl
+      spells false = node-spells [] (joint false) (nodeStrings (joint false)) refl [] [] [] refl refl refl
+
+      slot : (or : Bool) → slotOf (joint or) noSpan noSpan noSpan ≡ slotOf (joint or) (spanAt (endOf p) 0) (spanAt (endOf p + 0) 0) (spanAt (endOf p + 0 + 0) 0)
+      slot true = refl
+      slot false = refl
 
 -- The count before the nodes.
 pub put-count : (h h′ : Bytes) (p : Place) → h′ ≡ written h 0 (twoBytes (countOf p)) → Finishes h p h′
 unfolding Finishes queryBytes
 put-count h h′ p e l d f =
     let n : countOf p ≡ length l = omega (arith, d .count, f .0) in
-    let rest = padded 5120 (slotsFrom 0 l) ++ padded 16448 (strings l) in
+    let rest = padded 5120 (slotsFrom 0 l) ++ padded 24672 (strings l) in
     e
     ∙ ap₂ (λ (t : Bytes) (k : ℕ). written t 0 (twoBytes k)) (d .is f .0) n
     ∙ written-here (twoBytes (length l)) (zeros 2) rest 0 (omega (arith, length-zeros 2))
@@ -251,7 +305,7 @@ laid-none =
     record {
       long = length-zeros querySize;
       count = refl;
-      is = λ f. (zeros-add 2 21568 ∙ ap (λ (t : Bytes). zeros 2 ++ t) (zeros-add 5120 16448), refl);
+      is = λ f. (zeros-add 2 29792 ∙ ap (λ (t : Bytes). zeros 2 ++ t) (zeros-add 5120 24672), refl);
     }
 
 pub laid-clear : (h h′ : Bytes) → length h ≡ querySize → h′ ≡ written h 0 (zeros querySize) → Laid h′ (placeAt 0 0) []
@@ -261,7 +315,7 @@ laid-clear h h′ e f =
 
 -- One node more, and the count, where a call has laid or written them.
 pub laid-more : (s : Bytes) (x : DeclaredNode) (h : Bytes) (p : Place) (h′ : Bytes) (p′ : Place) (l : List Node) → Puts s x h p h′ p′ → Laid h p l → Laid h′ p′ (l ++ (nodeBy s x ∷ []))
-unfolding Puts
+unfolding Puts PutsNode
 laid-more s x h p h′ p′ l f d = f l d
 
 pub laid-done : (h : Bytes) (p : Place) (h′ : Bytes) (l : List Node) → Finishes h p h′ → Laid h p l → Fits l → h′ ≡ queryBytes l

@@ -27,6 +27,7 @@ mutual
   runs-in (Selector.subquery x q) st = runs-append (post q) (Node.subquery x ∷ []) st ∙ rw (runs-post q st)
   runs-in (Selector.article c x) st = refl
   runs-in (Selector.value x c v) st = refl
+  runs-in (Selector.link x c r) st = refl
 
   -- a query's code puts it on the stack
   pub runs-post : (q : Core) (st : List Core) → runs (post q) st ≡ some (q ∷ st)
@@ -50,6 +51,7 @@ mutual
   length-in (Selector.subquery x q) = length-append (post q) (Node.subquery x ∷ []) ∙ rw (length-post q) (omega arith)
   length-in (Selector.article c x) = refl
   length-in (Selector.value x c v) = refl
+  length-in (Selector.link x c r) = refl
 
   -- "Each selector, AND and OR is one node."
   pub length-post : (q : Core) → length (post q) ≡ nodes q

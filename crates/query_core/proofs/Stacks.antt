@@ -81,6 +81,7 @@ stepped-height (Node.subquery x) [] = sym (risen-none (Node.subquery x) 0 (omega
 stepped-height (Node.subquery x) (a ∷ st) = sym (risen-some (Node.subquery x) _ _ (omega arith) (omega arith))
 stepped-height (Node.article c x) st = sym (risen-some (Node.article c x) _ _ (omega arith) (omega arith))
 stepped-height (Node.value x c v) st = sym (risen-some (Node.value x c v) _ _ (omega arith) (omega arith))
+stepped-height (Node.link x c r) st = sym (risen-some (Node.link x c r) _ _ (omega arith) (omega arith))
 
 -- The height after one node more; what does not run does not run on.
 pub height-suc : (h : Bytes) (i : ℕ) → heightAt h (suc i) ≡ (heightAt h i >>= λ k. nodeIn h i >>= λ m. risen m k)
@@ -125,6 +126,7 @@ arity-is s Connective.Select (Selector.Existence p) = refl
 arity-is s Connective.Select (Selector.Subquery p) = refl
 arity-is s Connective.Select (Selector.Article c p) = refl
 arity-is s Connective.Select (Selector.Value p c k) = refl
+arity-is s Connective.Select (Selector.Link p c r) = refl
 
 -- What the form asks, and what is on the stack.
 only-some : (o : Option (List Core)) (q : Core) → (o >>= only) ≡ some q → o ≡ some (q ∷ [])

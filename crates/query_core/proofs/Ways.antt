@@ -1,8 +1,8 @@
 -- The ways through the functions that read a node: what the calls gave, and what the answer then is.
-use Prim.Native.Nat.{ℕ, _/_, _≤_, _<_}
-use mathlib.Core.Path.{_≡_, refl, sym, _∙_}
+use Prim.Native.Nat.{ℕ, suc, _-_, _/_, _≤_, _<_}
+use mathlib.Core.Path.{_≡_, refl, sym, ap, subst, _∙_}
 use mathlib.Core.List.{[]}
-use mathlib.Core.Bool.{Bool, true, false}
+use mathlib.Core.Bool.{Bool, true, false, cond, not, _&&_, _||_, and-assoc, and-eq-true-iff}
 use mathlib.Core.Option.{Option, some, none}
 use native.Mathlib.Omega.{arith}
 use lib.ListN.{length, getD, drop-of-length-le}
@@ -12,11 +12,17 @@ use Rattle.text.specs.Bytes.{Bytes, part}
 use Rattle.text.specs.Parts.{partOf}
 use Rattle.text.specs.declared.Span.{Span}
 use Rattle.names.specs.Names.{isComposedName, isComposedPropertyName, isComposedNamespace}
-use Rattle.values.specs.Names.{isValue}
+use Rattle.values.specs.Names.{bare, qualified, isComposedReference, isValue}
+use Rattle.values.specs.Answers.{splitOf}
+use Rattle.values.specs.declared.Split.{Split}
 use Rattle.values.specs.Values.{kindCount, kindFrom, inRange}
 use Rattle.values.specs.declared.Kind.{Kind}
 use Rattle.values.specs.declared.Scalar.{Scalar}
-use Rattle.language.specs.Answer.{onlyIf}
+use lib.Dec.{leb}
+use Rattle.language.specs.Answer.{_>>=_, onlyIf}
+use Rattle.language.specs.Comparators.{lastComparator, comparatorFrom as comparatorOf}
+use Rattle.language.specs.declared.SurfaceComparator.{SurfaceComparator}
+use Rattle.language.proofs.Members.{both-true}
 use Rattle.language.specs.declared.Comparator.{Comparator}
 use Rattle.query_core.specs.declared.Constant.{Constant}
 use Rattle.query_core.specs.declared.Selector.{Selector}
@@ -26,7 +32,7 @@ use Rattle.query_core.specs.declared.ComparatorRead.{ComparatorRead}
 use Rattle.query_core.specs.declared.ConstantRead.{ConstantRead}
 use Rattle.query_core.specs.declared.NodeRead.{NodeRead}
 use Rattle.query_core.specs.Postfix.{Node}
-use Rattle.query_core.specs.Held.{slot, heapIn, comparatorFrom, constantOfKind, constantFrom, constantOf, nodeFrom, nodeOf, slotFrom, nodeIn}
+use Rattle.query_core.specs.Held.{slot, heapIn, comparatorFrom, constantOfKind, constantFrom, constantOf, nodeFrom, before, behind, linkFrom, linkBy, nodeOf, slotFrom, slotIn, nodeIn}
 use Rattle.query_core.specs.Reading.{constantBy, selectorBy, keepsConstant, keepsSelector, comparatorRead, chosen, ConstantReads, selected, joining, ReadsNode}
 
 -- The constant of a slot, by its kind.
@@ -113,6 +119,56 @@ module _ (s : Bytes) (x : Slot) (q : ComparatorRead) (e : q ≡ comparatorRead (
       value-reads k t b r g p w l =
           selected-reads s r _ b _ (rw (read-comparator q (comparatorFrom (x .comparator)) e c f, u .is, g, w, p)) (λ h. rw (← p, ← w, h) (rw g at (u .keeps))) l
 
+-- Links.
+split-told : (s : Bytes) (r : Split) (n a : Bytes) (spaced named : Bool) → n ≡ partOf s (r .namespace) → a ≡ partOf s (r .article) → spaced ≡ isComposedNamespace n → named ≡ isComposedName a
+    → ((not (r .qualified) || spaced) && named) ≡ isComposedReference (splitOf s r)
+split-told s r n a spaced named en ea es em = rw (es, em, en, ea) (go (r .qualified))
+  where
+    x : Bool
+    x = isComposedNamespace (partOf s (r .namespace))
+
+    y : Bool
+    y = isComposedName (partOf s (r .article))
+
+    go : (q : Bool) → ((not q || isComposedNamespace (partOf s (r .namespace))) && isComposedName (partOf s (r .article))) ≡ isComposedReference (cond q (qualified (partOf s (r .namespace)) (partOf s (r .article))) (bare (partOf s (r .article))))
+    go true = refl
+    go false = refl
+
+link-is : (s : Bytes) (code : ℕ) (name : Span) (r : Split) (p q l : Bool) → p ≡ isComposedPropertyName (partOf s name) → q ≡ isComposedReference (splitOf s r) → l ≡ leb code lastComparator
+    → linkFrom code (partOf s name) (splitOf s r) ≡ onlyIf (p && q && l) (some (selectorBy s (Selector.Link name (comparatorOf code) r)))
+unfolding linkFrom
+link-is s code name r p q l ep eq el = rw (← ep, ← eq, ← el) (go p q l)
+  where
+    go : (p q l : Bool) → _≡_ {A = Option Node} (onlyIf (p && q) (onlyIf l (some (comparatorOf code)) >>= λ d. some (Node.link (partOf s name) d (splitOf s r)))) (onlyIf (p && q && l) (some (Node.link (partOf s name) (comparatorOf code) (splitOf s r))))
+    go true true true = refl
+    go true true false = refl
+    go true false l = refl
+    go false q l = refl
+
+pub link-reads : (s : Bytes) (code : ℕ) (name : Span) (r : Split) (c : SurfaceComparator) (a x n : Bytes) (named spaced owned : Bool) (k : NodeRead) → c ≡ comparatorOf code → a ≡ partOf s (r .article) → named ≡ isComposedName a
+    → n ≡ partOf s (r .namespace) → spaced ≡ isComposedNamespace n → x ≡ partOf s name → owned ≡ isComposedPropertyName x
+    → k ≡ selected (owned && (not (r .qualified) || spaced) && named && leb code lastComparator) (Selector.Link name c r) → ReadsNode s (linkFrom code (partOf s name) (splitOf s r)) k
+link-reads s code name r c a x n named spaced owned k ec ea em en es ex eo g =
+    let q = split-told s r n a spaced named en ea es em in
+    let p : owned ≡ isComposedPropertyName (partOf s name) = eo ∙ rw ex in
+    let e : (owned && (not (r .qualified) || spaced) && named && leb code lastComparator) ≡ (owned && ((not (r .qualified) || spaced) && named) && leb code lastComparator) = ap (λ (t : Bool). t && leb code lastComparator) (and-assoc owned (not (r .qualified) || spaced) named) in
+    selected-reads s k _ (owned && ((not (r .qualified) || spaced) && named) && leb code lastComparator) (Selector.Link name (comparatorOf code) r) (link-is s code name r owned _ _ p q refl)
+    (λ h. let t = and-eq-true-iff _ _ .0 h in let u = and-eq-true-iff _ _ .0 (t .0) in both-true (sym p ∙ u .0) (sym q ∙ u .1)) (g ∙ rw (e, ec))
+
+module _ (s b : Bytes) (mark : ℕ) (w : mark ≡ getD b 2 0) (code : ℕ) (v : code ≡ getD b 1 0) (y : Span) (z : y ≡ slotFrom b .second) (r : NodeRead) where
+  pub bare-link : mark ≡ 0 → (x n : Span) → x ≡ slotFrom b .first → ReadsNode s (linkFrom code (partOf s x) (splitOf s (record { qualified = false; namespace = n; article = y }))) r → ReadsNode s (nodeOf s 8 (slotFrom b)) r
+  unfolding nodeOf linkBy slotFrom
+  bare-link e x n f h =
+      let q : nodeOf s 8 (slotFrom b) ≡ linkFrom code (partOf s x) (bare (partOf s y)) = ap (λ (k : ℕ). linkBy s k (slotFrom b)) (sym w ∙ e) ∙ rw (v, f, z) in
+      rw q h
+
+  pub qualified-link : (mark ≡ 0 → ⊥) → (k : ℕ) → k ≡ mark - 1 → (x n : Span) → x ≡ before k (slotFrom b .first) → n ≡ behind k (slotFrom b .first) → ReadsNode s (linkFrom code (partOf s x) (splitOf s (record { qualified = true; namespace = n; article = y }))) r → ReadsNode s (nodeOf s 8 (slotFrom b)) r
+  unfolding nodeOf linkBy slotFrom
+  qualified-link o k e x n f g h =
+      let m : mark ≡ suc k = omega (arith, e) in
+      let q : nodeOf s 8 (slotFrom b) ≡ linkFrom code (partOf s x) (qualified (partOf s n) (partOf s y)) = ap (λ (k : ℕ). linkBy s k (slotFrom b)) (sym w ∙ m) ∙ rw (v, f, g, z) in
+      rw q h
+
 -- The node of a slot's bytes, by its tag.
 module _ (s b : Bytes) (r : NodeRead) (tag : ℕ) where
   pub and-reads : tag ≡ 0 → r ≡ joining Connective.And → ReadsNode s (nodeOf s tag (slotFrom b)) r
@@ -146,11 +202,14 @@ module _ (s b : Bytes) (r : NodeRead) (tag : ℕ) where
   pub value-tag : (x : Slot) → tag ≡ 7 → x ≡ slotFrom b → ReadsNode s (nodeOf s 7 x) r → ReadsNode s (nodeOf s tag (slotFrom b)) r
   value-tag x e w h = rw (e, ← w) h
 
-pub no-tag : (s : Bytes) (x : Slot) (tag : ℕ) → (tag ≡ 0 → ⊥) × (tag ≡ 1 → ⊥) × (tag ≡ 2 → ⊥) × (tag ≡ 3 → ⊥) × (tag ≡ 4 → ⊥) × (tag ≡ 5 → ⊥) × (tag ≡ 6 → ⊥) × (tag ≡ 7 → ⊥) → ReadsNode s (nodeOf s tag x) NodeRead.Nothing
+pub link-tag : (s b : Bytes) (r : NodeRead) (tag : ℕ) → tag ≡ 8 → ReadsNode s (nodeOf s 8 (slotFrom b)) r → ReadsNode s (nodeOf s tag (slotFrom b)) r
+link-tag s b r tag e h = rw e h
+
+pub no-tag : (s : Bytes) (x : Slot) (tag : ℕ) → (tag ≡ 0 → ⊥) × (tag ≡ 1 → ⊥) × (tag ≡ 2 → ⊥) × (tag ≡ 3 → ⊥) × (tag ≡ 4 → ⊥) × (tag ≡ 5 → ⊥) × (tag ≡ 6 → ⊥) × (tag ≡ 7 → ⊥) × (tag ≡ 8 → ⊥) → ReadsNode s (nodeOf s tag x) NodeRead.Nothing
 unfolding nodeOf nodeFrom
 no-tag s x tag n =
     record {
-      is = rw (ne-eqb tag 0 (n .0), ne-eqb tag 1 (n .1), ne-eqb tag 2 (n .2), ne-eqb tag 3 (n .3), ne-eqb tag 4 (n .4), ne-eqb tag 5 (n .5), ne-eqb tag 6 (n .6), ne-eqb tag 7 (n .7));
+      is = rw (ne-eqb tag 0 (n .0), ne-eqb tag 1 (n .1), ne-eqb tag 2 (n .2), ne-eqb tag 3 (n .3), ne-eqb tag 4 (n .4), ne-eqb tag 5 (n .5), ne-eqb tag 6 (n .6), ne-eqb tag 7 (n .7), ne-eqb tag 8 (n .8));
       keeps = refl;
     }
 
@@ -162,6 +221,12 @@ slot-past h i l =
     let k : length h ≤ slot i = omega arith in
     rw (drop-of-length-le h k, take-nil)
 
+tag-of : (b : Bytes) → getD b 0 0 ≡ slotFrom b .tag
+unfolding slotFrom
+tag-of b = refl
+
 pub in-place : (h t b : Bytes) (i tag : ℕ) (r : NodeRead) → t ≡ heapIn h → b ≡ part h (slot i) 20 → tag ≡ getD b 0 0 → ReadsNode t (nodeOf t tag (slotFrom b)) r → ReadsNode (heapIn h) (nodeIn h i) r
-unfolding nodeIn slotFrom nodeOf constantOf
-in-place h t b i tag r f g k u = rw (← f, ← g, ← k) u
+unfolding nodeIn
+in-place h t b i tag r f g k u =
+    let e : tag ≡ slotIn h i .tag = k ∙ tag-of b ∙ ap (λ (z : Bytes). slotFrom z .tag) g in
+    subst (λ (m : ℕ). ReadsNode (heapIn h) (nodeOf (heapIn h) m (slotIn h i)) r) e (rw (← f, ← g) u)

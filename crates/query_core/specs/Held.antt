@@ -1,6 +1,6 @@
--- The held query: 21,570 bytes. Two bytes with the number of nodes (low byte first), 256 nodes of 20 bytes in postfix order, then a
--- heap of 16,448 bytes with their names and string constants. docs/LAYOUT.md has it byte by byte.
-use Prim.Native.Nat.{ℕ, zero, suc, _+_, _*_}
+-- The held query: 29,794 bytes. Two bytes with the number of nodes (low byte first), 256 nodes of 20 bytes in postfix order, then a
+-- heap of 24,672 bytes with their names and string constants. docs/LAYOUT.md has it byte by byte.
+use Prim.Native.Nat.{ℕ, zero, suc, _+_, _-_, _*_}
 use mathlib.Core.Bool.{Bool, cond, _&&_}
 use mathlib.Core.List.{List, [], _∷_, _++_}
 use mathlib.Core.Option.{Option, some, none}
@@ -10,17 +10,20 @@ use Rattle.text.specs.Bytes.{Bytes, part}
 use Rattle.text.specs.Parts.{partOf}
 use Rattle.buffer.specs.Numbers.{twoAt, eightAt}
 use Rattle.names.specs.Names.{isComposedName, isComposedPropertyName, isComposedNamespace}
-use Rattle.values.specs.Names.{isValue}
+use Rattle.text.specs.declared.Span.{Span}
+use Rattle.values.specs.Names.{Reference, bare, qualified, isComposedReference, isValue}
 use Rattle.values.specs.Values.{Constant, scalar, string, kindCount, kindFrom, inRange}
 use Rattle.values.specs.declared.Kind.{Kind}
 use Rattle.language.specs.Answer.{_>>=_, onlyIf}
 use Rattle.language.specs.Core.{Core}
+use Rattle.language.specs.Comparators.{lastComparator, comparatorFrom as comparatorOf}
 use Rattle.language.specs.declared.Comparator.{Comparator}
+use Rattle.language.specs.declared.SurfaceComparator.{SurfaceComparator}
 use Rattle.query_core.specs.declared.Slot.{Slot}
 use Rattle.query_core.specs.Postfix.{Node, readBack}
 
 abbrev pub querySize : ℕ
-querySize = 21570
+querySize = 29794
 
 -- The number of nodes, and the names and string constants that are held.
 abbrev pub countIn : Bytes → ℕ
@@ -30,7 +33,7 @@ abbrev pub slot : ℕ → ℕ
 slot i = 2 + 20 * i
 
 abbrev pub heapIn : Bytes → Bytes
-heapIn h = part h 5122 16448
+heapIn h = part h 5122 24672
 
 -- The numbers in a node's 20 bytes: the tag, the comparator, the constant's kind, start and length of two strings within the heap,
 -- a scalar's code. Byte 3 is not read.
@@ -78,8 +81,26 @@ nodeFrom tag c v x y =
 unfoldable pub constantOf : Bytes → Slot → Option Constant
 constantOf s x = constantFrom (x .kind) (x .number) (partOf s (x .second))
 
+-- A link, a slot of tag 8: its comparator is one of the six as written; a namespace stands behind the property's name.
+abbrev pub surfaceFrom : ℕ → Option SurfaceComparator
+surfaceFrom c = onlyIf (leb c lastComparator) (some (comparatorOf c))
+
+-- Where a namespace of n bytes stands at the end of a place, and what is before it.
+abbrev pub before : ℕ → Span → Span
+before n p = record { start = p .start; len = p .len - n }
+
+abbrev pub behind : ℕ → Span → Span
+behind n p = record { start = p .start + (p .len - n); len = n }
+
+unfoldable pub linkFrom : ℕ → Bytes → Reference → Option Node
+linkFrom c x r = onlyIf (isComposedPropertyName x && isComposedReference r) (surfaceFrom c >>= λ d. some (Node.link x d r))
+
+unfoldable pub linkBy : Bytes → ℕ → Slot → Option Node
+linkBy s zero x = linkFrom (x .comparator) (partOf s (x .first)) (bare (partOf s (x .second)))
+linkBy s (suc n) x = linkFrom (x .comparator) (partOf s (before n (x .first))) (qualified (partOf s (behind n (x .first))) (partOf s (x .second)))
+
 unfoldable pub nodeOf : Bytes → ℕ → Slot → Option Node
-nodeOf s tag x = nodeFrom tag (x .comparator) (constantOf s x) (partOf s (x .first)) (partOf s (x .second))
+nodeOf s tag x = cond (eqb tag 8) (linkBy s (x .kind) x) (nodeFrom tag (x .comparator) (constantOf s x) (partOf s (x .first)) (partOf s (x .second)))
 
 -- The slot in place i, and its node.
 abbrev pub slotIn : Bytes → ℕ → Slot

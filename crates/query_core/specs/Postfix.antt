@@ -1,12 +1,13 @@
 -- A core query as postfix nodes, and the stack machine that reads it back: by it a held query says what it holds.
-use Prim.Native.Nat.{ℕ}
 use mathlib.Core.List.{List, [], _∷_, _++_}
 use mathlib.Core.Option.{Option, some, none}
 use Rattle.text.specs.Bytes.{Bytes}
+use Rattle.values.specs.Names.{Reference}
 use Rattle.values.specs.Values.{Constant}
 use Rattle.language.specs.Answer.{_>>=_}
 use Rattle.language.specs.Core.{Selector, Core}
 use Rattle.language.specs.declared.Comparator.{Comparator}
+use Rattle.language.specs.declared.SurfaceComparator.{SurfaceComparator}
 
 -- A node without what stands below it.
 pub data Node : Type 0 where
@@ -18,6 +19,7 @@ pub data Node : Type 0 where
   subquery : Bytes → Node
   article : Comparator → Bytes → Node
   value : Bytes → Comparator → Constant → Node
+  link : Bytes → SurfaceComparator → Reference → Node
 
 unfoldable mutual
   pub postIn : Selector → List Node
@@ -27,6 +29,7 @@ unfoldable mutual
   postIn (Selector.subquery x q) = post q ++ (Node.subquery x ∷ [])
   postIn (Selector.article c x) = Node.article c x ∷ []
   postIn (Selector.value x c v) = Node.value x c v ∷ []
+  postIn (Selector.link x c r) = Node.link x c r ∷ []
 
   pub post : Core → List Node
   post (Core.select s) = postIn s
@@ -48,6 +51,7 @@ stepped (Node.subquery x) [] = none
 stepped (Node.subquery x) (a ∷ st) = some (Core.select (Selector.subquery x a) ∷ st)
 stepped (Node.article c x) st = some (Core.select (Selector.article c x) ∷ st)
 stepped (Node.value x c v) st = some (Core.select (Selector.value x c v) ∷ st)
+stepped (Node.link x c r) st = some (Core.select (Selector.link x c r) ∷ st)
 
 unfoldable pub runs : List Node → List Core → Option (List Core)
 runs [] st = some st

@@ -5,7 +5,8 @@ use mathlib.Core.Option.{Option, some, none}
 use Rattle.text.specs.Bytes.{Bytes}
 use Rattle.text.specs.Parts.{partOf}
 use Rattle.names.specs.Names.{isComposedName, isComposedPropertyName, isComposedNamespace}
-use Rattle.values.specs.Names.{isValue}
+use Rattle.values.specs.Names.{isComposedReference, isValue}
+use Rattle.values.specs.Answers.{splitOf}
 use Rattle.values.specs.Values.{scalar, string, inRange, Constant as CoreConstant}
 use Rattle.language.specs.declared.Comparator.{Comparator}
 use Rattle.query_core.specs.declared.Constant.{Constant}
@@ -31,6 +32,7 @@ selectorBy s (Selector.Existence p) = Postfix.existence (partOf s p)
 selectorBy s (Selector.Subquery p) = Postfix.subquery (partOf s p)
 selectorBy s (Selector.Article c p) = Postfix.article c (partOf s p)
 selectorBy s (Selector.Value p c k) = Postfix.value (partOf s p) c (constantBy s k)
+selectorBy s (Selector.Link p c r) = Postfix.link (partOf s p) c (splitOf s r)
 
 abbrev pub joinedBy : Bytes → Connective → Selector → Postfix.Node
 joinedBy s Connective.And x = Postfix.conjunction
@@ -52,6 +54,7 @@ keepsSelector s (Selector.Existence p) = isComposedPropertyName (partOf s p)
 keepsSelector s (Selector.Subquery p) = isComposedPropertyName (partOf s p)
 keepsSelector s (Selector.Article c p) = isComposedName (partOf s p)
 keepsSelector s (Selector.Value p c k) = isComposedPropertyName (partOf s p) && keepsConstant s k
+keepsSelector s (Selector.Link p c r) = isComposedPropertyName (partOf s p) && isComposedReference (splitOf s r)
 
 abbrev pub keepsJoined : Bytes → Connective → Selector → Bool
 keepsJoined s Connective.And x = true
@@ -113,6 +116,7 @@ expectsKind (Postfix.namespace x) = false
 expectsKind (Postfix.existence x) = false
 expectsKind (Postfix.article c x) = false
 expectsKind (Postfix.value x c v) = true
+expectsKind (Postfix.link x c r) = true
 
 -- What is told of a node, where there is one.
 unfoldable pub TestsNode : (Postfix.Node → Bool) → Option Postfix.Node → Bool → Type 0

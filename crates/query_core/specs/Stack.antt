@@ -46,6 +46,7 @@ arity (Postfix.existence x) = 0
 arity (Postfix.subquery x) = 1
 arity (Postfix.article c x) = 0
 arity (Postfix.value x c v) = 0
+arity (Postfix.link x c r) = 0
 
 unfoldable pub risen : Postfix.Node → ℕ → Option ℕ
 risen m k = onlyIf (leb (arity m) k) (some ((k - arity m) + 1))
@@ -58,6 +59,7 @@ selectorArity (Selector.Existence p) = 0
 selectorArity (Selector.Subquery p) = 1
 selectorArity (Selector.Article c p) = 0
 selectorArity (Selector.Value p c k) = 0
+selectorArity (Selector.Link p c r) = 0
 
 abbrev pub joinedArity : Connective → Selector → ℕ
 joinedArity Connective.And x = 2

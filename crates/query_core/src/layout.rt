@@ -7,7 +7,7 @@ pub const NODE_BYTES: usize = 20;
 
 pub const HEAP: usize = NODES + NODE_BYTES * MOST_NODES;
 
-pub const HEAP_BYTES: usize = 64 * MOST_NODES + 64;
+pub const HEAP_BYTES: usize = 96 * MOST_NODES + 96;
 
 pub const QUERY_BYTES: usize = HEAP + HEAP_BYTES;
 
@@ -27,6 +27,8 @@ pub const SUBQUERY: u8 = 5;
 pub const ARTICLE: u8 = 6;
 
 pub const VALUE: u8 = 7;
+
+pub const LINK: u8 = 8;
 
 // The codes of comparators.
 pub const EQUAL: u8 = 0;

@@ -1,20 +1,25 @@
 // Core queries as postfix nodes, and the held query that carries them.
 pub mod layout; // layout.rt: the regions and tags of a held query
 pub mod query; // query.rt: number 21's test
+mod links; // links.rt: a link from the bytes of its slot
 pub mod reading; // reading.rt: a node from its bytes
+mod fields; // fields.rt: the fields of a slot, from its bytes
 mod placing; // placing.rt: where the strings of nodes lie, and their slots
 pub mod writing; // writing.rt: nodes into a held query
 
 use language::Comparator;
+use language::SurfaceComparator;
 pub use layout::QUERY_BYTES;
 pub use query::is_query;
 pub use reading::expects_kind_at;
 pub use reading::node_at;
 use text::Span;
 use values::Scalar;
+use values::Split;
 pub use writing::count_of;
 pub use writing::finish;
 pub use writing::put_connective;
+pub use writing::put_link;
 pub use writing::put_node;
 
 // A constant: the kind and the code of a scalar, or where a string lies in a text.
@@ -31,6 +36,7 @@ pub enum Selector {
     Subquery(Span),
     Article(Comparator, Span),
     Value(Span, Comparator, Constant),
+    Link(Span, SurfaceComparator, Split),
 }
 
 // What a node does with the queries before it.
@@ -46,10 +52,11 @@ pub struct Node {
     pub selector: Selector,
 }
 
-// Where the first and the second string of a node lie.
+// Where the strings of a node lie, at most three.
 pub struct Strings {
     pub first: Span,
     pub second: Span,
+    pub third: Span,
 }
 
 // The place behind nodes that are laid into a held query: how many there are, 257 for more than 256, and 512 times how many bytes of

@@ -28,6 +28,7 @@ fn arity(node: Node) -> usize
             Selector::Subquery(_) => 1,
             Selector::Article(_, _) => 0,
             Selector::Value(_, _, _) => 0,
+            Selector::Link(_, _, _) => 0,
         },
     }
 }

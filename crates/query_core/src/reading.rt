@@ -1,4 +1,8 @@
 // A node from its bytes: the numbers are read first, and the rest decides on numbers.
+ghost use mathlib.Core.Path.{_≡_};
+ghost use Rattle.text.specs.Bytes.{part as partFrom};
+ghost use Rattle.query_core.specs.Held.{slot, comparatorFrom, slotFrom, slotIn, heapIn, nodeOf, nodeIn};
+ghost use Rattle.query_core.specs.Reading.{comparatorRead, chosen, joining, ConstantReads, ReadsNode, expectsKind, TestsNode};
 use crate::ComparatorRead;
 use crate::Connective;
 use crate::Constant;
@@ -7,14 +11,16 @@ use crate::Node;
 use crate::NodeRead;
 use crate::Selector;
 use crate::Slot;
+use crate::fields::first_of;
+use crate::fields::second_of;
+use crate::fields::selected_if;
+use crate::fields::slot_from;
 use crate::layout;
-use buffer::eight_at;
-use buffer::two_at;
+use crate::links::link_from;
 use language::Comparator;
 use names::is_composed_name;
 use names::is_composed_namespace;
 use names::is_composed_property_name;
-use tables::widen;
 use text::Span;
 use text::byte_at;
 use text::part;
@@ -23,10 +29,6 @@ use values::Kind;
 use values::in_range;
 use values::is_value;
 use values::kind_from;
-ghost use mathlib.Core.Path.{_≡_};
-ghost use Rattle.text.specs.Bytes.{part as partFrom};
-ghost use Rattle.query_core.specs.Held.{slot, comparatorFrom, slotFrom, slotIn, heapIn, nodeOf, nodeIn};
-ghost use Rattle.query_core.specs.Reading.{comparatorRead, chosen, selected, joining, ConstantReads, ReadsNode, expectsKind, TestsNode};
 
 // The comparator of a code.
 fn comparator_from(code: u8) -> ComparatorRead
@@ -72,55 +74,6 @@ fn constant_from(heap: &[u8], x: Slot) -> ConstantRead
             let fit = is_value(part(heap, p.start, p.len));
             chosen_if(fit, Constant::String(p))
         }
-    }
-}
-
-// The node of a selector, where its name keeps its rule.
-fn selected_if(fit: bool, s: Selector) -> NodeRead
-    ensures { λ r. ⌜ r ≡ selected fit s ⌝ }
-{
-    if fit {
-        NodeRead::Is(Node {
-            connective: Connective::Select,
-            selector: s,
-        })
-    } else {
-        NodeRead::Nothing
-    }
-}
-
-// The places of the two strings in a node's bytes.
-fn first_of(b: &[u8]) -> Span
-    ensures { λ r. ⌜ r ≡ slotFrom (now (b .entry)) .first ⌝ }
-{
-    Span {
-        start: widen(two_at(b, 4)),
-        len: widen(two_at(b, 6)),
-    }
-}
-
-fn second_of(b: &[u8]) -> Span
-    ensures { λ r. ⌜ r ≡ slotFrom (now (b .entry)) .second ⌝ }
-{
-    Span {
-        start: widen(two_at(b, 8)),
-        len: widen(two_at(b, 10)),
-    }
-}
-
-// The numbers in a node's bytes.
-fn slot_from(b: &[u8]) -> Slot
-    ensures { λ r. ⌜ r ≡ slotFrom (now (b .entry)) ⌝ }
-{
-    let first = first_of(b);
-    let second = second_of(b);
-    Slot {
-        tag: byte_at(b, 0),
-        comparator: byte_at(b, 1),
-        kind: byte_at(b, 2),
-        first,
-        second,
-        number: eight_at(b, 12),
     }
 }
 
@@ -202,6 +155,7 @@ fn node_from(heap: &[u8], tag: u8, b: &[u8]) -> NodeRead
         }
         layout::ARTICLE => article_from(heap, b),
         layout::VALUE => value_from(heap, slot_from(b)),
+        layout::LINK => link_from(heap, b),
         _ => NodeRead::Nothing,
     }
 }
@@ -227,12 +181,12 @@ fn tag_at(h: &[u8], i: usize) -> u8
     byte_at(slot_bytes(h, i), 0)
 }
 
-// Whether the node in a place is a subquery or a value comparison: by its tag alone.
+// Whether the node in a place is a subquery, a value comparison or a link: by its tag alone.
 pub fn expects_kind_at(h: &[u8], i: usize) -> bool
     ensures { λ r. ⌜ TestsNode expectsKind (nodeIn (now (h .entry)) i) r ⌝ }
 {
     let tag = tag_at(h, i);
-    (tag == layout::SUBQUERY) | (tag == layout::VALUE)
+    (tag == layout::SUBQUERY) | (tag == layout::VALUE) | (tag == layout::LINK)
 }
 
 // The node in a place.

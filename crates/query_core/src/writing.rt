@@ -1,23 +1,31 @@
 // Nodes into a held query: each in its 20 bytes, its strings in the heap behind those before it.
+use crate::Connective;
 use crate::Node;
 use crate::Place;
+use crate::Selector;
 use crate::Slot;
 use crate::layout;
 use crate::placing::connective_slot;
 use crate::placing::slot_of;
 use crate::placing::strings_of;
+use crate::placing::written;
 use buffer::put_bytes;
 use buffer::put_two;
+use language::SurfaceComparator;
 use text::Span;
 use text::part;
+use values::Split;
 ghost use mathlib.Core.Path.{_≡_};
-ghost use mathlib.Core.List.{[]};
+ghost use mathlib.Core.List.{[], _++_};
+ghost use Rattle.text.specs.Parts.{partOf};
+ghost use Rattle.values.specs.Answers.{splitOf};
 ghost use Prim.Native.Nat.{_+_, _≤_};
 ghost use lib.ListN.{length};
 ghost use Rattle.buffer.specs.Numbers.{twoBytes, eightBytes};
 ghost use Rattle.buffer.specs.Writing.{written};
 ghost use Rattle.query_core.specs.Form.{headBytes, spanBytes, slotBytes};
-ghost use Rattle.query_core.specs.Writing.{joint, hasRoom, countOf, Puts, Finishes};
+ghost use Rattle.query_core.specs.Writing.{joint, hasRoom, countOf, Spells, PutsNode, Puts, Finishes};
+ghost use Rattle.query_core.specs.Postfix.{Node as PostfixNode, link};
 
 // Writes a slot's first three numbers, a byte each, and a byte 0.
 fn put_head(h: &mut [u8], at: usize, x: Slot)
@@ -77,8 +85,8 @@ fn put_slot(h: &mut [u8], at: usize, x: Slot)
 }
 
 // Whether strings of so many bytes have room in the heap behind others.
-fn has_room(end: usize, first: usize, second: usize) -> bool
-    ensures { λ r. ⌜ r ≡ hasRoom end first second ⌝ }
+fn has_room(end: usize, first: usize, second: usize, third: usize) -> bool
+    ensures { λ r. ⌜ r ≡ hasRoom end first second third ⌝ }
 {
     if layout::HEAP_BYTES < end {
         return false;
@@ -86,7 +94,21 @@ fn has_room(end: usize, first: usize, second: usize) -> bool
     if layout::HEAP_BYTES - end < first {
         return false;
     }
-    second <= layout::HEAP_BYTES - end - first
+    if layout::HEAP_BYTES - end - first < second {
+        return false;
+    }
+    third <= layout::HEAP_BYTES - end - first - second
+}
+
+// Writes strings into the heap, one behind the other.
+fn put_strings(held: &mut [u8], end: usize, first: &[u8], second: &[u8], third: &[u8])
+    requires { ⌜ end + length (now first) + length (now second) + length (now third) ≤ 24672 ⌝ }
+    ensures { λ _. ⌜ now (held .exit) ≡ written (now (held .entry)) (5122 + end) (now (first .entry) ++ now (second .entry) ++ now (third .entry)) ⌝ }
+{
+    let at = layout::HEAP + end;
+    put_bytes(held, at, first);
+    put_bytes(held, at + first.len(), second);
+    put_bytes(held, at + first.len() + second.len(), third);
 }
 
 // How many nodes there are before a place.
@@ -114,9 +136,9 @@ pub fn put_connective(held: &mut [u8], at: Place, or: bool) -> Place
     Place { code: at.code + 1 }
 }
 
-// Lays a node behind others, where there is room for it; its strings lie in s.
-pub fn put_node(s: &[u8], held: &mut [u8], at: Place, node: Node) -> Place
-    ensures { λ r. ⌜ Puts (now (s .entry)) node (now (held .entry)) at (now (held .exit)) r ⌝ }
+// Lays a node behind others, where there is room for it: its strings, one behind the other, and a slot that tells of them.
+fn lay(held: &mut [u8], at: Place, node: Node, first: &[u8], second: &[u8], third: &[u8]) -> Place
+    ensures { λ r. ⌜ ((m : PostfixNode) → Spells m node (now (first .entry)) (now (second .entry)) (now (third .entry)) → PutsNode m (now (held .entry)) at (now (held .exit)) r) ⌝ }
 {
     if held.len() < layout::QUERY_BYTES {
         return at;
@@ -128,14 +150,10 @@ pub fn put_node(s: &[u8], held: &mut [u8], at: Place, node: Node) -> Place
             code: at.code - count + 257,
         };
     }
-    let strings = strings_of(node);
-    let p = strings.first;
-    let q = strings.second;
-    let first = part(s, p.start, p.len);
-    let second = part(s, q.start, q.len);
     let a = first.len();
     let b = second.len();
-    if !has_room(end, a, b) {
+    let c = third.len();
+    if !has_room(end, a, b, c) {
         return Place { code: at.code + 1 };
     }
     let slot = slot_of(
@@ -145,13 +163,56 @@ pub fn put_node(s: &[u8], held: &mut [u8], at: Place, node: Node) -> Place
             start: end + a,
             len: b,
         },
+        Span {
+            start: end + a + b,
+            len: c,
+        },
     );
     put_slot(held, layout::NODES + layout::NODE_BYTES * count, slot);
-    put_bytes(held, layout::HEAP + end, first);
-    put_bytes(held, layout::HEAP + end + a, second);
+    put_strings(held, end, first, second, third);
     Place {
-        code: count + 1 + 512 * (end + a + b),
+        code: count + 1 + 512 * (end + a + b + c),
     }
+}
+
+// Lays a node whose strings lie in s.
+pub fn put_node(s: &[u8], held: &mut [u8], at: Place, node: Node) -> Place
+    ensures { λ r. ⌜ Puts (now (s .entry)) node (now (held .entry)) at (now (held .exit)) r ⌝ }
+{
+    let strings = strings_of(node);
+    let p = strings.first;
+    let q = strings.second;
+    let r = strings.third;
+    let first = part(s, p.start, p.len);
+    let second = part(s, q.start, q.len);
+    let third = part(s, r.start, r.len);
+    lay(held, at, node, first, second, third)
+}
+
+// Lays a link whose property's name lies in s and whose reference lies in t.
+pub fn put_link(
+    s: &[u8],
+    name: Span,
+    t: &[u8],
+    split: Split,
+    comparator: SurfaceComparator,
+    held: &mut [u8],
+    at: Place,
+) -> Place
+    ensures { λ r. ⌜ PutsNode (link (partOf (now (s .entry)) name) comparator (splitOf (now (t .entry)) split)) (now (held .entry)) at (now (held .exit)) r ⌝ }
+{
+    let q = written(split);
+    let r = split.article;
+    let first = part(s, name.start, name.len);
+    let second = part(t, q.start, q.len);
+    let third = part(t, r.start, r.len);
+    let connective = Connective::Select;
+    let selector = Selector::Link(name, comparator, split);
+    let node = Node {
+        connective,
+        selector,
+    };
+    lay(held, at, node, first, second, third)
 }
 
 // Writes how many nodes there are.

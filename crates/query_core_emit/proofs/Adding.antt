@@ -1,10 +1,8 @@
 -- Nodes put one behind the other.
-use mathlib.Core.Path.{_≡_, refl, sym, subst}
+use mathlib.Core.Path.{_≡_, subst}
 use mathlib.Core.Bool.{Bool, true, false}
 use mathlib.Core.List.{List, [], _∷_, _++_, append-assoc}
-use mathlib.Core.Option.{Option, some, none}
 use Rattle.text.specs.Bytes.{Bytes}
-use Rattle.text.specs.declared.Span.{Span}
 use Rattle.language.specs.Core.{Core}
 use Rattle.language.specs.Elaboration.{strictOrEqual}
 use Rattle.language.specs.declared.Comparator.{Comparator}
@@ -12,9 +10,8 @@ use Rattle.query_core.specs.declared.Connective.{Connective}
 use Rattle.query_core.specs.declared.Selector.{Selector}
 use Rattle.query_core.specs.declared.Place.{Place}
 use Rattle.query_core.specs.Postfix.{Node, post}
-use Rattle.query_core.specs.Form.{noSpan}
 use Rattle.query_core.specs.Reading.{selectorBy}
-use Rattle.query_core.specs.Writing.{joint, Laid, Puts}
+use Rattle.query_core.specs.Writing.{joint, Laid, PutsNode, Puts}
 use Rattle.query_core_emit.specs.Emission.{Adds, connectiveNode, selectorOf, comparing}
 use Rattle.query_core_emit.specs.declared.Comparison.{Comparison}
 
@@ -25,7 +22,7 @@ adds-then k m {h″ = h″} {p″ = p″} a b =
 module _ (s h h′ : Bytes) (p p′ : Place) where
   -- a selector
   pub select-adds : (x : Selector) → Puts s (record { connective = Connective.Select; selector = x }) h p h′ p′ → Adds (selectorBy s x ∷ []) h p h′ p′
-  unfolding Puts
+  unfolding Puts PutsNode
   select-adds x d = record { laid = d }
 
   -- one comparison
@@ -36,7 +33,7 @@ module _ (s h h′ : Bytes) (p p′ : Place) where
 
 -- a connective
 pub joint-adds : (h h′ : Bytes) (p p′ : Place) (or : Bool) → Puts [] (joint or) h p h′ p′ → Adds (connectiveNode or ∷ []) h p h′ p′
-unfolding Puts
+unfolding Puts PutsNode
 joint-adds h h′ p p′ true d = record { laid = d }
 joint-adds h h′ p p′ false d = record { laid = d }
 

@@ -1,26 +1,25 @@
 -- A reference's names, composed into a table and put from there.
-use Prim.Native.Nat.{ℕ, _+_, _≤_}
-use mathlib.Core.Path.{_≡_, refl, sym, ap, ap₂, _∙_}
+use Prim.Native.Nat.{ℕ, _≤_}
+use mathlib.Core.Path.{_≡_, refl, ap, ap₂, _∙_}
 use mathlib.Core.Bool.{Bool, true, false}
-use mathlib.Core.List.{replicate}
+use mathlib.Core.List.{[], _∷_, replicate}
 use native.Mathlib.Omega.{arith}
 use lib.ListN.{length, length-replicate}
 use Rattle.text.specs.Bytes.{Bytes, part}
 use Rattle.text.specs.Parts.{partOf}
-use Rattle.text.specs.declared.Span.{Span}
 use Rattle.buffer.specs.Writing.{written}
 use Rattle.buffer.proofs.Written.{length-written}
 use Rattle.buffer.proofs.Joined.{part-below, part-there}
 use Rattle.names.specs.Names.{composedName, isName, isNamespace}
 use Rattle.names.proofs.Composed.{composed-le, name-keeps, namespace-short}
-use Rattle.values.specs.Names.{Reference, bare, qualified, isReference, composedReference}
+use Rattle.values.specs.Names.{qualified, isReference, composedReference}
 use Rattle.values.specs.Answers.{splitOf}
 use Rattle.values.specs.declared.Split.{Split}
 use Rattle.language.proofs.Members.{and-true}
-use Rattle.language.specs.Elaboration.{elaborateReference}
 use Rattle.language.specs.declared.SurfaceComparator.{SurfaceComparator}
 use Rattle.query_core.specs.declared.Place.{Place}
-use Rattle.query_core.specs.Postfix.{post}
+use Rattle.query_core.specs.Postfix.{Node}
+use Rattle.query_core.specs.Writing.{PutsNode}
 use Rattle.query_core_emit.specs.Emission.{Adds}
 
 module _ (s : Bytes) (r : Split) (x y t u : Bytes) (i j : ℕ) (ex : x ≡ partOf s (r .namespace)) (ey : y ≡ partOf s (r .article))
@@ -49,6 +48,7 @@ module _ (s : Bytes) (r : Split) (x y t u : Bytes) (i j : ℕ) (ex : x ≡ partO
       let k : isName y ≡ true = rw ey (rw e at h) in
       rw (e, article-there (name-keeps y k .short), ey)
 
-  pub typed-adds : (c : SurfaceComparator) (h h′ : Bytes) (p p′ : Place) → Adds (post (elaborateReference c (splitOf u typed))) h p h′ p′
-      → isReference (splitOf s r) ≡ true → Adds (post (elaborateReference c (composedReference (splitOf s r)))) h p h′ p′
-  typed-adds c h h′ p p′ d k = rw (← there (r .qualified) refl k) d
+  pub typed-adds : (v : Bytes) (c : SurfaceComparator) (h h′ : Bytes) (p p′ : Place) → PutsNode (Node.link v c (splitOf u typed)) h p h′ p′
+      → isReference (splitOf s r) ≡ true → Adds (Node.link v c (composedReference (splitOf s r)) ∷ []) h p h′ p′
+  unfolding PutsNode
+  typed-adds v c h h′ p p′ d k = rw (← there (r .qualified) refl k) (record { laid = d })

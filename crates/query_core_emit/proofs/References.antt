@@ -1,8 +1,7 @@
 -- The core queries of comparisons, references and values, put.
 use mathlib.Core.Path.{_≡_, refl, sym, ap, _∙_}
 use mathlib.Core.Bool.{Bool, true, false, cond, not}
-use mathlib.Core.List.{List, [], _∷_, _++_}
-use mathlib.Core.Option.{Option, some, none}
+use mathlib.Core.List.{[], _∷_}
 use borrow.Author.Tests.{not-true, not-false}
 use Rattle.text.specs.Bytes.{Bytes}
 use Rattle.text.specs.Parts.{partOf}
@@ -31,7 +30,7 @@ use Rattle.query_core_emit.specs.Emission.{Adds, Emits, connectiveNode, 
 use Rattle.query_core_emit.specs.declared.Comparison.{Comparison}
 use Rattle.query_core_emit.specs.declared.Scope.{Scope}
 use Rattle.query_core_emit.specs.declared.Emitted.{Emitted}
-use Rattle.query_core_emit.proofs.Adding.{adds-then, conjunction-adds, one-adds, either-adds}
+use Rattle.query_core_emit.proofs.Adding.{conjunction-adds, one-adds, either-adds}
 use Rattle.query_core_emit.proofs.Constants.{constant-is}
 
 -- Selectors and scopes.
@@ -133,13 +132,12 @@ module _ (s : Bytes) (x p : Span) (c : SurfaceComparator) (h : Bytes) (at : Plac
     unfolding Emits elaborateValue
     link-unfit g = rw (← e, ← f, not-true q g)
 
-    pub link-emits : (r : Split) (h₁ h₂ : Bytes) (p₁ p₂ : Place) → not q ≡ false → SplitsAt s p r → (isReference (splitOf s r) ≡ true → Adds (post (elaborateReference c (composedReference (splitOf s r)))) h at h₁ p₁) → Adds (selectorBy s (Selector.Subquery x) ∷ []) h₁ p₁ h₂ p₂ → Valued Kind.Page (Emitted.At p₂) h₂
+    pub link-emits : (r : Split) (h₁ : Bytes) (p₁ : Place) → not q ≡ false → SplitsAt s p r → (isReference (splitOf s r) ≡ true → Adds (Node.link (partOf s x) c (composedReference (splitOf s r)) ∷ []) h at h₁ p₁) → Valued Kind.Page (Emitted.At p₁) h₁
     unfolding Emits elaborateValue post
-    link-emits r h₁ h₂ p₁ p₂ g d a b =
+    link-emits r h₁ p₁ g d a =
         let yes : isReference (reference (partOf s p)) ≡ true = rw (← e, ← f) (not-false q g) in
-        let meant = elaborateReference c (composedReference (reference (partOf s p))) in
-        let there : Adds (post meant) h at h₁ p₁ = rw (← d .is) (a (ap isReference (d .is) ∙ yes)) in
-        (Core.select (Core.subquery (partOf s x) meant), rw yes, adds-then (post meant) (Node.subquery (partOf s x) ∷ []) there b)
+        let there : Adds (Node.link (partOf s x) c (composedReference (reference (partOf s p))) ∷ []) h at h₁ p₁ = rw (← d .is) (a (ap isReference (d .is) ∙ yes)) in
+        (Core.select (Core.link (partOf s x) c (composedReference (reference (partOf s p)))), rw yes, there)
 
   -- a constant of a kind
   module _ (kind : Kind) (r : ConstantRead) (e : r ≡ constantIn s p kind) where

@@ -7,10 +7,9 @@ ghost use Rattle.values.specs.declared.Kind.the-variants.{Page};
 ghost use Rattle.values.specs.Names.{isReference, composedReference};
 ghost use Rattle.values.specs.Answers.{splitOf};
 ghost use Rattle.values.specs.Values.{mapOption, readConstant};
-ghost use Rattle.language.specs.Core.{Core};
 ghost use Rattle.language.specs.Elaboration.{strictOrEqual, compared, elaborateReference, elaborateConstant, elaborateValue};
-ghost use Rattle.query_core.specs.Postfix.{post};
-ghost use Rattle.query_core.specs.Reading.{selectorBy, joinedBy};
+ghost use Rattle.query_core.specs.Postfix.{post, link};
+ghost use Rattle.query_core.specs.Reading.{selectorBy};
 ghost use Rattle.query_core_emit.specs.declared.Comparison.the-variants.{Article};
 ghost use Rattle.query_core_emit.specs.Emission.{comparing, selectorOf, scopeOf, Adds, Emits, connectiveNode};
 use crate::Comparison;
@@ -154,9 +153,16 @@ pub fn put_reference(
     }
 }
 
-// A reference as typed, its names composed: they are put from a table of their own.
-fn put_typed(s: &[u8], held: &mut [u8], at: Place, c: SurfaceComparator, split: Split) -> Place
-    ensures { λ r. ⌜ (isReference (splitOf (now (s .entry)) split) ≡ true → Adds (post (elaborateReference c (composedReference (splitOf (now (s .entry)) split)))) (now (held .entry)) at (now (held .exit)) r) ⌝ }
+// A link to a reference as typed, its names composed: they are put from a table of their own.
+fn put_typed(
+    s: &[u8],
+    held: &mut [u8],
+    at: Place,
+    name: Span,
+    c: SurfaceComparator,
+    split: Split,
+) -> Place
+    ensures { λ r. ⌜ (isReference (splitOf (now (s .entry)) split) ≡ true → Adds (link (partOf (now (s .entry)) name) c (composedReference (splitOf (now (s .entry)) split)) ∷ []) (now (held .entry)) at (now (held .exit)) r) ⌝ }
 {
     let n = split.namespace;
     let a = split.article;
@@ -178,10 +184,10 @@ fn put_typed(s: &[u8], held: &mut [u8], at: Place, c: SurfaceComparator, split: 
         namespace,
         article,
     };
-    put_reference(&names, held, at, c, typed)
+    query_core::put_link(s, name, &names, typed, c, held, at)
 }
 
-// The piece at p of a page property: one subquery over its reference.
+// The piece at p of a page property: one link.
 fn put_link(
     s: &[u8],
     held: &mut [u8],
@@ -196,9 +202,7 @@ fn put_link(
         return Emitted::Unfit;
     }
     let split = split_at(s, p);
-    let one = put_typed(s, held, at, c, split);
-    let two = put_select(s, held, one, Selector::Subquery(name));
-    Emitted::At(two)
+    Emitted::At(put_typed(s, held, at, name, c, split))
 }
 
 // A comparison with the constant that the piece at p writes.

@@ -1,5 +1,5 @@
 -- What a page of an opened register holds, by its terms.
-use Prim.Native.Nat.{ℕ, suc, _+_, _*_, _≤_, _<_}
+use Prim.Native.Nat.{ℕ, suc, _+_, _≤_, _<_}
 use mathlib.Core.Path.{_≡_, refl, sym, ap, ap₂, _∙_}
 use mathlib.Core.Bool.{Bool, true, false, _&&_, _||_, or-false, and-true}
 use mathlib.Core.List.{List, [], _∷_, _++_, map, List·Memᴰ}
@@ -7,7 +7,7 @@ use native.Mathlib.Omega.{arith}
 use borrow.Author.Tests.{ltb-true, ltb-false}
 use lib.Dec.{ltb}
 use lib.ListN.{length, getD, List·getD-eq-default}
-use Rattle.text.specs.Bytes.{Bytes, same, any, numbers, orderOf}
+use Rattle.text.specs.Bytes.{Bytes, same, any}
 use Rattle.text.specs.Table.{tabulate}
 use Rattle.text.specs.declared.Order.{Order}
 use Rattle.text.proofs.Laws.{any-append}
@@ -15,27 +15,26 @@ use Rattle.text.proofs.Tables.{length-tabulate, getD-tabulate, tabulate-ext}
 use Rattle.values.specs.Values.{Value, kindOf}
 use Rattle.language.specs.Register.{Held, Page, Register, holds}
 use Rattle.language.specs.RegisterText.{emptyPage}
-use Rattle.language.specs.Semantics.{stands, Ca, Cv, follows, noMixed}
+use Rattle.language.specs.Semantics.{stands, Ca, follows, noMixed}
 use Rattle.language.specs.declared.Comparator.{Comparator}
 use Rattle.language.proofs.Members.{any-same, any-none, by-test}
-use Rattle.query_core.specs.Reading.{constantBy}
-use Rattle.query_core.specs.declared.Constant.{Constant}
-use Rattle.register_form.specs.Dictionary.{PageRow, nameOf}
+use Rattle.register_form.specs.Dictionary.{PageRow}
 use Rattle.register_form.specs.Encoding.{identifierText, categoryTerm, valueTerm, pageTerms, encodePage}
-use Rattle.register_form.specs.Form.{pageCount, formStart, registerIn, pageAt, textAt}
+use Rattle.register_form.specs.Form.{pageCount, formStart, registerIn, pageAt}
 use Rattle.register_form.specs.Opened.{pageIn, Opened}
 use Rattle.register_form.proofs.Lists.{mem-at}
 use Rattle.register_form.proofs.Rules.{terms-few}
 use Rattle.register_form.proofs.Decoded.{page-text}
-use Rattle.register_form_view.specs.Ranges.{RankOf, ConstantRank, nameOrder, termNumber, within, CategoryRange, PropertyRange}
-use Rattle.register_form_view.specs.View.{standsAt, leadsInto, formBytes, numbersIn, formPasses, namePasses, namePassesAt, marksBy, marksIn, Agrees}
+use Rattle.register_form_view.specs.Ranges.{RankOf, TestRank, nameOrder, termNumber, within, CategoryRange, PropertyRange}
+use Rattle.register_form_view.specs.View.{passes, passesAt, leadsInto, formBytes, numbersIn, formPasses, namePasses, namePassesAt, marksBy, marksIn, Agrees}
 use Rattle.register_form_view.specs.declared.NameTest.{NameTest}
 use Rattle.register_form_view.specs.declared.Rank.{Rank}
+use Rattle.register_form_view.specs.declared.ValueTest.{ValueTest}
 use Rattle.register_form_view.specs.declared.TermRange.{TermRange}
 use Rattle.register_form_view.proofs.Opening.{known, count-pages, page-row, forms-there}
 use Rattle.register_form_view.proofs.Looking.{range-above}
-use Rattle.register_form_view.proofs.Leading.{form, stands-there, leads-there}
-use Rattle.register_form_view.proofs.Ordering.{order-ranked, order-compared, name-order}
+use Rattle.register_form_view.proofs.Leading.{form, passes-there, leads-there}
+use Rattle.register_form_view.proofs.Ordering.{name-order}
 
 any-map : {A B : Type 0} (p : B → Bool) (f : A → B) (l : List A) → any p (map f l) ≡ any (λ a. p (f a)) l
 unfolding any
@@ -110,12 +109,12 @@ module _ {h : Bytes} {places : List ℕ} {R : Register} (o : Opened h places R) 
         let short : length wanted ≤ f = omega (arith, ap length e, length-tabulate 2048 (λ f. within r f && p f)) in
         List·getD-eq-default wanted false short ∙ sym (range-above (r .low) (r .high) p f (omega (arith, c .most, terms-few R (known o .limits))))))))
 
-    pub value-pages : (q : Bytes) (rank : Rank) (d : Comparator) (w : Constant) → ConstantRank h q w rank → (wanted : List Bool) → wanted ≡ tabulate 2048 (λ f. within r f && standsAt h q rank d w (r .kind) f)
-        → marksBy h (λ f. getD wanted f false) ≡ marksIn R (holds x (Cv noMixed d (constantBy q w)))
-    value-pages q rank d w f wanted e =
+    pub value-pages : (q : Bytes) (rank : Rank) (test : ValueTest) → TestRank h q test rank → (wanted : List Bool) → wanted ≡ tabulate 2048 (λ f. within r f && passesAt h q rank test (r .kind) f)
+        → marksBy h (λ f. getD wanted f false) ≡ marksIn R (holds x (passes q test))
+    value-pages q rank test f wanted e =
         table-has _ wanted e
-        ∙ marks-are _ (holds x (Cv noMixed d (constantBy q w)))
-        (λ i b. property-held o i b x r c _ _ (λ v n k. rw k (stands-there (known o) (page-member o i b) n q rank d w f)))
+        ∙ marks-are _ (holds x (passes q test))
+        (λ i b. property-held o i b x r c _ _ (λ v n k. rw k (passes-there (known o) (page-member o i b) n q rank test f)))
 
     pub link-pages : (marks : List Bool) (inner : Page → Bool) → Agrees R marks inner → (wanted : List Bool) → wanted ≡ tabulate 2048 (λ f. within r f && leadsInto h places marks (r .kind) f)
         → marksBy h (λ f. getD wanted f false) ≡ marksIn R (holds x (follows noMixed R inner))
@@ -140,11 +139,7 @@ module _ (h x : Bytes) (rank : Rank) (test : NameTest) (i : ℕ) (r : Bool) wher
   pub passes-namespace : (y : Bytes) → test ≡ NameTest.Namespace → y ≡ pageIn (registerIn h) i .identifier .namespace → r ≡ same y x → r ≡ namePassesAt h x rank test i
   passes-namespace y e f g = rw (e, ← f) g
 
-  module _ (c : Comparator) (n : ℕ) (d : Order) (e : test ≡ NameTest.Article c) (f : n ≡ pageAt h i .identifier) (u : r ≡ stands c d) where
-    pub article-ranked : n < rank .plain → d ≡ numbers (1 + 2 * n) (rank .key) → r ≡ namePassesAt h x rank test i
-    article-ranked l g = rw (e, ← f, ← order-ranked h x rank n d l g) u
+  pub passes-article : (c : Comparator) (n : ℕ) (d : Order) → test ≡ NameTest.Article c → n ≡ pageAt h i .identifier → d ≡ nameOrder h x rank n → r ≡ stands c d → r ≡ namePassesAt h x rank test i
+  passes-article c n d e f g u = rw (e, ← f, ← g) u
 
-    pub article-compared : (y : Bytes) → rank .plain ≤ n → y ≡ nameOf (textAt h n) → d ≡ orderOf y x → r ≡ namePassesAt h x rank test i
-    article-compared y l w g = rw (e, ← f, ← order-compared h x rank n d l (g ∙ rw w)) u
-
-pub ruleset naming-pages = (passes-namespace, article-ranked, article-compared)
+pub ruleset naming-pages = (passes-namespace, passes-article)

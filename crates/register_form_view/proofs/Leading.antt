@@ -1,31 +1,33 @@
 -- What the term of a value tells: the value, and the page that it leads to.
 use Prim.Native.Nat.{ℕ, zero, suc, _<_}
-use mathlib.Core.Path.{_≡_, refl, sym, ap, _∙_}
+use mathlib.Core.Path.{_≡_, refl, sym, ap, ap₂, _∙_}
 use mathlib.Core.Bool.{Bool, true, false, cond, not, _&&_, _||_, or-false, true≢false}
 use mathlib.Core.List.{List, [], _∷_, map, List·Memᴰ, List·Memᴰ·head, List·Memᴰ·tail}
 use native.Mathlib.Omega.{arith}
-use borrow.Author.Tests.{not-true, eq-eqb, eqb-true, ltb-true}
+use borrow.Author.Tests.{not-true, eq-eqb, eqb-true}
 use lib.Dec.{eqb}
-use lib.IntN.{ℤ}
 use lib.ListN.{length, getD}
 use Rattle.text.specs.Bytes.{Bytes, orderOf, any}
 use Rattle.text.specs.Parts.{partOf}
-use Rattle.text.specs.Table.{bit}
+use Rattle.values.specs.Answers.{splitOf}
+use Rattle.values.specs.declared.Split.{Split}
 use Rattle.values.specs.Names.{Identifier, sameIdentifier}
 use Rattle.values.specs.Values.{scalar, string, Value, plain, link, kindOf}
 use Rattle.values.proofs.Sameness.{identifier-eq, identifier-refl}
 use Rattle.language.specs.Register.{Held, Page, Register, leads, distinct, samePage}
 use Rattle.language.specs.RegisterText.{emptyPage}
 use Rattle.language.specs.Rules.{isStorable}
-use Rattle.language.specs.Semantics.{stands, Cv, follows, noMixed}
+use Rattle.language.specs.References.{standsAs, articleMeant, isMeant}
+use Rattle.language.specs.Semantics.{stands, Cv, Cl, follows, noMixed}
 use Rattle.language.specs.declared.Comparator.{Comparator}
+use Rattle.language.specs.declared.SurfaceComparator.{SurfaceComparator}
 use Rattle.language.proofs.Members.{and-true, any-at, any-none, by-test}
 use Rattle.query_core.specs.Reading.{constantBy}
 use Rattle.query_core.specs.declared.Constant.{Constant}
 use Rattle.sorting.specs.Ascending.{rank}
 use Rattle.sorting.proofs.Canonical.{same-truth}
 use Rattle.buffer.specs.Numbers.{twoAt, eightAt}
-use Rattle.register_form.specs.Dictionary.{Dictionary, nameOf, identifierOf, termCode}
+use Rattle.register_form.specs.Dictionary.{Dictionary, spaceOf, nameOf, identifierOf, termCode}
 use Rattle.register_form.specs.Encoding.{plainText, identifierText, valueTexts, textsOf, valueCode, valueTerm, termsOf, encodePage, encode}
 use Rattle.register_form.specs.Form.{termAt, textAt, dictionaryIn}
 use Rattle.register_form.specs.Opened.{pageIn, next, placeOf, Places, Opened}
@@ -33,9 +35,10 @@ use Rattle.register_form.proofs.Lists.{number-back, number-small}
 use Rattle.register_form.proofs.Codes.{space-back, name-back}
 use Rattle.register_form.proofs.Rules.{value-kept, texts-few}
 use Rattle.register_form.proofs.Decoded.{page-text, value-text, texts-up, terms-up, value-code}
-use Rattle.register_form_view.specs.Ranges.{ConstantRank, nameOrder, termNumber}
-use Rattle.register_form_view.specs.View.{textNumber, valueAt, standsAt, marked, leadsInto, Agrees}
+use Rattle.register_form_view.specs.Ranges.{RankOf, ConstantRank, TestRank, nameOrder, termNumber}
+use Rattle.register_form_view.specs.View.{textNumber, valueAt, standsAt, namespaceFits, meantAt, passes, passesAt, marked, leadsInto, Agrees}
 use Rattle.register_form_view.specs.declared.Rank.{Rank}
+use Rattle.register_form_view.specs.declared.ValueTest.{ValueTest}
 use Rattle.register_form_view.proofs.Opening.{Known, known, term-row, text-row, texts-are}
 use Rattle.register_form_view.proofs.Ordering.{name-order}
 use Rattle.register_form_view.proofs.Covering.{value-in}
@@ -47,6 +50,10 @@ low-bytes t l = omega arith
 
 ident-back : (i : Identifier) → identifierOf (identifierText i) ≡ i
 ident-back i = λ j. record { namespace = space-back (i .namespace) (i .article) j; article = name-back (i .namespace) (i .article) j }
+
+-- The article name of a split's reference.
+article-split : (q : Bytes) (s : Split) → articleMeant (splitOf q s) ≡ partOf q (s .article)
+article-split q s = by-test (s .qualified) (λ t. rw t) (λ t. rw t)
 
 module _ {h : Bytes} {R : Register} (d : Known h R) {p : Page} {v : Held} (m : List·Memᴰ p (R .pages)) (n : List·Memᴰ v (p .values)) where
   -- the number of the value's term
@@ -87,7 +94,7 @@ module _ {h : Bytes} {R : Register} (d : Known h R) {p : Page} {v : Held} (m : L
           ∙ ap link (ident-back i)
 
   -- it stands to a constant as the value does
-  pub stands-there : (q : Bytes) (r : Rank) (c : Comparator) (w : Constant) → ConstantRank h q w r → standsAt h q r c w (kindOf (v .value)) form ≡ Cv noMixed c (constantBy q w) (v .value)
+  stands-there : (q : Bytes) (r : Rank) (c : Comparator) (w : Constant) → ConstantRank h q w r → standsAt h q r c w (kindOf (v .value)) form ≡ Cv noMixed c (constantBy q w) (v .value)
   unfolding Cv ConstantRank valueCode valueTexts
   stands-there q r c w f = go (v .value) refl value-there (value-text R m n) w f
     where
@@ -99,6 +106,28 @@ module _ {h : Bytes} {R : Register} (d : Known h R) {p : Page} {v : Held} (m : L
           let there = texts (plainText s) (List·Memᴰ·head refl) in
           ap (λ (j : ℕ). stands c (nameOrder h (partOf q p) r j)) (number-there (plainText s) (ap (valueCode (textsOf R)) e) there)
           ∙ ap (stands c) (name-order d (partOf q p) r f (plainText s) there [] s refl)
+
+  -- it is a link that a reference means where the value is one
+  pub meant-there : (q : Bytes) (r : Rank) (c : SurfaceComparator) (s : Split) → RankOf h (partOf q (s .article)) r → meantAt h q r c s (kindOf (v .value)) form ≡ Cl noMixed c (splitOf q s) (v .value)
+  unfolding Cl isMeant valueCode valueTexts
+  meant-there q r c s f = go (v .value) refl (value-text R m n)
+    where
+      go : (u : Value) → v .value ≡ u → ((t : Bytes) → List·Memᴰ t (valueTexts u) → List·Memᴰ t (textsOf R)) → meantAt h q r c s (kindOf u) form ≡ Cl noMixed c (splitOf q s) u
+      go (plain (scalar k b)) e texts = refl
+      go (plain (string t)) e texts = refl
+      go (link i) e texts =
+          let there = texts (identifierText i) (List·Memᴰ·head refl) in
+          let is = ap (valueCode (textsOf R)) e in
+          ap₂ _&&_
+          (ap (λ (t : Bytes). namespaceFits c (splitOf q s) (spaceOf t)) (text-there (identifierText i) is there) ∙ ap (namespaceFits c (splitOf q s)) (space-back (i .namespace) (i .article)))
+          (ap (λ (j : ℕ). standsAs c (nameOrder h (partOf q (s .article)) r j)) (number-there (identifierText i) is there)
+          ∙ ap (standsAs c) (name-order d (partOf q (s .article)) r f (identifierText i) there (i .namespace) (i .article) refl ∙ ap (orderOf (i .article)) (sym (article-split q s))))
+
+  -- it passes a test as the value does
+  pub passes-there : (q : Bytes) (r : Rank) (test : ValueTest) → TestRank h q test r → passesAt h q r test (kindOf (v .value)) form ≡ passes q test (v .value)
+  unfolding TestRank
+  passes-there q r (ValueTest.Constant c w) f = stands-there q r c w f
+  passes-there q r (ValueTest.Reference c s) f = meant-there q r c s f
 
 -- The mark of a place, 1 more than a page's
 abbrev markBy : (ℕ → Bool) → ℕ → Bool

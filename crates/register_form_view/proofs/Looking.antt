@@ -1,33 +1,39 @@
 -- The terms of a page: what is asked of one, and of one after the other.
 use Prim.Native.Nat.{ℕ, zero, suc, _+_, _*_, _-_, _/_, _≤_, _<_}
 use mathlib.Core.Path.{_≡_, refl, sym, ap, ap₂, _∙_}
-use mathlib.Core.Bool.{Bool, true, false, cond, _&&_, _||_, or-false}
+use mathlib.Core.Bool.{Bool, true, false, cond, not, _&&_, _||_, or-false}
 use mathlib.Core.List.{List, [], _∷_}
 use mathlib.Core.Option.{some, none}
 use native.Mathlib.Omega.{arith}
-use borrow.Author.Tests.{ltb-true, ltb-false, lt-ltb, le-ltb, le-leb, lt-leb}
+use borrow.Author.Tests.{lt-ltb, le-ltb, le-leb, lt-leb, ne-eqb}
 use lib.Dec.{leb, ltb, eqb}
 use lib.ListN.{length, getD}
-use Rattle.text.specs.Bytes.{Bytes, part, numbers, orderOf, any}
+use Rattle.text.specs.Bytes.{Bytes, part, same, numbers, any}
 use Rattle.text.specs.Parts.{partOf}
 use Rattle.text.specs.Table.{tabulate}
 use Rattle.text.specs.declared.Order.{Order}
 use Rattle.text.specs.declared.Span.{Span}
-use Rattle.text.proofs.Laws.{numbers-less, numbers-greater, numbers-like, any-append}
+use Rattle.text.proofs.Laws.{any-append}
 use Rattle.values.specs.declared.Kind.{Kind}
 use Rattle.values.specs.declared.Scalar.{Scalar}
+use Rattle.values.specs.declared.Split.{Split}
+use Rattle.values.specs.Answers.{splitOf}
 use Rattle.values.specs.Values.{sameScalar}
-use Rattle.language.specs.Answer.{found}
+use Rattle.language.specs.Answer.{found, onlyIf}
+use Rattle.language.specs.Comparators.{isEqual, strictly, orEqual, inAnyNamespace}
+use Rattle.language.specs.References.{standsAs, namespaceMeant}
 use Rattle.language.specs.Semantics.{stands, Cv}
 use Rattle.language.specs.declared.Comparator.{Comparator}
+use Rattle.language.specs.declared.SurfaceComparator.{SurfaceComparator}
+use Rattle.language.proofs.EachComparator.{mark-word, stands-each}
 use Rattle.query_core.specs.declared.Constant.{Constant}
 use Rattle.buffer.specs.Numbers.{twoAt}
-use Rattle.register_form.specs.Dictionary.{nameOf, termCode}
+use Rattle.register_form.specs.Dictionary.{spaceOf, termCode}
 use Rattle.register_form.specs.Form.{termAt, textAt}
 use Rattle.register_form_view.specs.Ranges.{nameOrder}
-use Rattle.register_form_view.specs.View.{textNumber, standsAt, marked, leadsInto, formBytes, numbersIn}
+use Rattle.register_form_view.specs.View.{textNumber, standsAt, namespaceFits, meantAt, passesAt, marked, leadsInto, formBytes, numbersIn}
 use Rattle.register_form_view.specs.declared.Rank.{Rank}
-use Rattle.register_form_view.proofs.Ordering.{order-ranked, order-compared}
+use Rattle.register_form_view.specs.declared.ValueTest.{ValueTest}
 
 -- text_number
 pub number-of-text : (h : Bytes) (f : ℕ) (t : Bytes) (r : ℕ) → t ≡ termAt h f → r ≡ twoAt t 1 → r ≡ textNumber h f
@@ -65,17 +71,62 @@ module _ (h : Bytes) (f : ℕ) (k : Kind) (c : Comparator) (w : Constant) (q : B
     unfolding Cv
     string-scalar l b v = rw (e, v)
 
-    module _ (p : Span) (n : ℕ) (o : Order) (r : Bool) (v : w ≡ Constant.String p) (is : n ≡ textNumber h f) (u : r ≡ stands c o) where
-      stands-string : o ≡ nameOrder h (partOf q p) rank n → Stands r
-      stands-string g = rw (e, v) (u ∙ ap (stands c) (g ∙ rw is))
+    pub stands-string : (p : Span) (n : ℕ) (x : Bytes) (o : Order) (r : Bool) → w ≡ Constant.String p → n ≡ textNumber h f → x ≡ part q (p .start) (p .len) → o ≡ nameOrder h x rank n → r ≡ stands c o → Stands r
+    stands-string p n x o r v is lies g u = rw (e, v) (u ∙ ap (stands c) (g ∙ rw (is, lies)))
 
-      pub stands-ranked : n < rank .plain → o ≡ numbers (1 + 2 * n) (rank .key) → Stands r
-      stands-ranked l g = stands-string (order-ranked h (partOf q p) rank n o l g)
+pub ruleset standing = (number-of-text, stands-page, stands-scalar, scalar-string, string-scalar, stands-string)
 
-      pub stands-compared : (x : Bytes) → rank .plain ≤ n → x ≡ part q (p .start) (p .len) → o ≡ orderOf (nameOf (textAt h n)) x → Stands r
-      stands-compared x l lies g = stands-string (order-compared h (partOf q p) rank n o l (rw lies at g))
+-- stands_as_typed
+module _ (c : SurfaceComparator) (d : Comparator) (o : Order) (b r : Bool) (e : d ≡ strictly c) (f : b ≡ orEqual c) (g : r ≡ stands d o) where
+  by-columns : (t : Bool) → b ≡ t → cond t (stands (strictly c) o || stands Comparator.Equal o) (stands (strictly c) o) ≡ standsAs c o
+  by-columns t u = ap (λ (t : Bool). cond t (stands (strictly c) o || stands Comparator.Equal o) (stands (strictly c) o)) (sym u ∙ f) ∙ stands-each c o
 
-pub ruleset standing = (number-of-text, stands-page, stands-scalar, scalar-string, string-scalar, stands-ranked, stands-compared)
+  pub typed-or-equal : (s : Bool) → b ≡ true → s ≡ stands Comparator.Equal o → (r || s) ≡ standsAs c o
+  typed-or-equal s t u = rw (g, u, e) (by-columns true t)
+
+  pub typed-strict : b ≡ false → r ≡ standsAs c o
+  typed-strict t = rw (g, e) (by-columns false t)
+
+-- has_namespace
+module _ (q : Bytes) (c : SurfaceComparator) (s : Split) (n t : Bytes) (at : t ≡ n) where
+  pub written-fits : (b r : Bool) (x : Bytes) → s .qualified ≡ true → b ≡ inAnyNamespace c → x ≡ part q (s .namespace .start) (s .namespace .len) → r ≡ same t x → (b || r) ≡ namespaceFits c (splitOf q s) n
+  unfolding namespaceMeant
+  written-fits b r x e f lies g = rw (e, f, g, at, lies, mark-word c) (go (inAnyNamespace c))
+    where
+      go : (m : Bool) → (m || same n (partOf q (s .namespace))) ≡ found (onlyIf (not m) (some (partOf q (s .namespace)))) (λ y. same n y) true
+      go true = refl
+      go false = refl
+
+  pub bare-fits : (b : Bool) → s .qualified ≡ false → b ≡ isEqual c → (not b || eqb (length t) 0) ≡ namespaceFits c (splitOf q s) n
+  unfolding namespaceMeant same
+  bare-fits b e f = rw (e, f, at) (go (isEqual c) n)
+    where
+      go : (m : Bool) (n : Bytes) → (not m || eqb (length n) 0) ≡ found (onlyIf m (some [])) (λ y. same n y) true
+      go true [] = refl
+      go true (a ∷ n) = ne-eqb (length (a ∷ n)) 0 (λ e. omega (arith, e))
+      go false n = refl
+
+-- link_meant
+module _ (h q : Bytes) (rank : Rank) (c : SurfaceComparator) (s : Split) (k : Kind) (f : ℕ) where
+  pub link-meant : (n : ℕ) (x : Bytes) (o : Order) (b r : Bool) → k ≡ Kind.Page → n ≡ textNumber h f → x ≡ part q (s .article .start) (s .article .len)
+      → b ≡ namespaceFits c (splitOf q s) (spaceOf (textAt h n)) → o ≡ nameOrder h x rank n → r ≡ standsAs c o → (b && r) ≡ meantAt h q rank c s k f
+  link-meant n x o b r e is lies g u v = rw (e, g, v, u, lies, is)
+
+  pub scalar-unmeant : (j : Scalar) → k ≡ Kind.Scalar j → false ≡ meantAt h q rank c s k f
+  scalar-unmeant j e = rw e
+
+  pub string-unmeant : k ≡ Kind.String → false ≡ meantAt h q rank c s k f
+  string-unmeant e = rw e
+
+-- value_passes
+module _ (h q : Bytes) (rank : Rank) (test : ValueTest) (k : Kind) (f : ℕ) (r : Bool) where
+  pub passes-constant : (c : Comparator) (w : Constant) → test ≡ ValueTest.Constant c w → r ≡ standsAt h q rank c w k f → r ≡ passesAt h q rank test k f
+  passes-constant c w e g = rw e g
+
+  pub passes-reference : (c : SurfaceComparator) (s : Split) → test ≡ ValueTest.Reference c s → r ≡ meantAt h q rank c s k f → r ≡ passesAt h q rank test k f
+  passes-reference c s e g = rw e g
+
+pub ruleset meaning = (number-of-text, typed-or-equal, typed-strict, written-fits, bare-fits, link-meant, scalar-unmeant, string-unmeant, passes-constant, passes-reference)
 
 -- marked_at
 pub marked-none : (marks : List Bool) (place : ℕ) → place ≡ 0 → false ≡ marked marks place

@@ -14,7 +14,10 @@ use Rattle.text.specs.declared.Span.{Span}
 use Rattle.text.proofs.Laws.{order-eq, numbers-less, numbers-greater, numbers-equal}
 use Rattle.language.specs.Register.{Register}
 use Rattle.language.proofs.Members.{by-test}
+use Rattle.language.specs.declared.Comparator.{Comparator}
+use Rattle.language.specs.declared.SurfaceComparator.{SurfaceComparator}
 use Rattle.values.specs.declared.Scalar.{Scalar}
+use Rattle.values.specs.declared.Split.{Split}
 use Rattle.query_core.specs.declared.Constant.{Constant}
 use Rattle.sorting.specs.Ascending.{isLess, isEqual, ascends, rank}
 use Rattle.sorting.proofs.Canonical.{less-is, equal-is}
@@ -26,9 +29,10 @@ use Rattle.register_form.specs.Form.{textAt, dictionaryIn}
 use Rattle.register_form.proofs.Codes.{name-back}
 use Rattle.register_form.proofs.Decoded.{texts-up}
 use Rattle.register_form.proofs.Lists.{number-back, number-small}
-use Rattle.register_form_view.specs.Ranges.{entriesIn, entryAt, Ranked, Keyed, RankOf, ConstantRank, nameOrder}
+use Rattle.register_form_view.specs.Ranges.{entriesIn, entryAt, Ranked, Keyed, RankOf, ConstantRank, TestRank, nameOrder}
 use Rattle.register_form_view.specs.declared.Index.{Index}
 use Rattle.register_form_view.specs.declared.Rank.{Rank}
+use Rattle.register_form_view.specs.declared.ValueTest.{ValueTest}
 use Rattle.register_form_view.proofs.Opening.{Known, text-row, texts-are}
 use Rattle.register_form_view.proofs.Searching.{entry-in}
 
@@ -128,7 +132,7 @@ module _ (h x : Bytes) where
       let bare : labelled s y ≡ plainText y = ap (λ (z : Bytes). labelled z y) (no-space s y less) in
       g p n b ∙ ap (λ (t : Bytes). orderOf t (plainText x)) (e ∙ bare) ∙ plain-order y x
 
--- rank_for
+-- constant_rank
 module _ (h q : Bytes) (w : Constant) (r : Rank) where
   pub rank-scalar : (k : Scalar) (n : ℕ) → w ≡ Constant.Scalar k n → ConstantRank h q w r
   unfolding ConstantRank
@@ -138,17 +142,27 @@ module _ (h q : Bytes) (w : Constant) (r : Rank) where
   unfolding ConstantRank
   rank-string p x e lies f = rw (e, ← lies) f
 
--- By the rank, where it tells, and by the bytes
+-- rank_for
+module _ (h q : Bytes) (test : ValueTest) (r : Rank) where
+  pub rank-constant : (c : Comparator) (w : Constant) → test ≡ ValueTest.Constant c w → ConstantRank h q w r → TestRank h q test r
+  unfolding TestRank
+  rank-constant c w e f = rw e f
+
+  pub rank-reference : (c : SurfaceComparator) (s : Split) (x : Bytes) → test ≡ ValueTest.Reference c s → x ≡ part q (s .article .start) (s .article .len) → RankOf h x r → TestRank h q test r
+  unfolding TestRank
+  rank-reference c s x e lies f = rw (e, ← lies) f
+
+-- name_order: by the rank, where it tells, and by the bytes
 module _ (h x : Bytes) (r : Rank) (n : ℕ) (o : Order) where
   pub order-ranked : n < r .plain → o ≡ numbers (1 + 2 * n) (r .key) → o ≡ nameOrder h x r n
   unfolding nameOrder
   order-ranked l g = rw (lt-ltb n (r .plain) l) g
 
-  pub order-compared : r .plain ≤ n → o ≡ orderOf (nameOf (textAt h n)) x → o ≡ nameOrder h x r n
+  pub order-compared : (y : Bytes) → r .plain ≤ n → y ≡ nameOf (textAt h n) → o ≡ orderOf y x → o ≡ nameOrder h x r n
   unfolding nameOrder
-  order-compared l g = rw (le-ltb n (r .plain) l) g
+  order-compared y l w g = rw (le-ltb n (r .plain) l) (g ∙ rw w)
 
-pub ruleset ordering = (key-past, key-at, key-none, rank-few, rank-many, rank-scalar, rank-string)
+pub ruleset ordering = (key-past, key-at, key-none, rank-few, rank-many, rank-scalar, rank-string, rank-constant, rank-reference, order-ranked, order-compared)
 
 -- Of an opened register, by rank or not, the name of a text stands to x as it does.
 pub name-order : {h : Bytes} {R : Register} (d : Known h R) (x : Bytes) (r : Rank) → RankOf h x r → (t : Bytes) → List·Memᴰ t (textsOf R) → (s y : Bytes) → t ≡ labelled s y → nameOrder h x r (rank orderOf t (textsOf R)) ≡ orderOf y x

@@ -19,6 +19,7 @@ use Rattle.register_form_view.specs.declared.Index.{Index}
 use Rattle.register_form_view.specs.declared.Found.{Found}
 use Rattle.register_form_view.specs.declared.Rank.{Rank}
 use Rattle.register_form_view.specs.declared.TermRange.{TermRange}
+use Rattle.register_form_view.specs.declared.ValueTest.{ValueTest}
 
 -- The entries of a list, the one in a place, and the one that a key stands for: a text by its name or its bytes, a term by its
 -- bytes.
@@ -60,6 +61,11 @@ RankOf h x r =
 unfoldable pub ConstantRank : Bytes → Bytes → Constant → Rank → Type 0
 ConstantRank h q (Constant.Scalar k n) r = Unit {0}
 ConstantRank h q (Constant.String p) r = RankOf h (partOf q p) r
+
+-- The rank is that of a test's string, if it has one, or of its article name.
+unfoldable pub TestRank : Bytes → Bytes → ValueTest → Rank → Type 0
+TestRank h q (ValueTest.Constant c w) r = ConstantRank h q w r
+TestRank h q (ValueTest.Reference c s) r = RankOf h (partOf q (s .article)) r
 
 -- How the name of text n stands to x: by x's rank, where it tells.
 unfoldable pub nameOrder : Bytes → Bytes → Rank → ℕ → Order

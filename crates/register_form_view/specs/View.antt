@@ -1,29 +1,36 @@
 -- Working definitions: what the functions over the terms of a page answer.
 use Prim.Native.Nat.{ℕ, zero, suc, _+_, _*_, _-_, _/_, _<_}
 use mathlib.Core.Path.{_≡_}
-use mathlib.Core.Bool.{Bool, false, _&&_}
+use mathlib.Core.Bool.{Bool, true, false, _&&_}
 use mathlib.Core.List.{List}
 use mathlib.Core.Option.{Option, some, none}
-use lib.Dec.{ltb, eqb}
+use lib.Dec.{ltb}
 use lib.ListN.{length, getD}
 use Rattle.text.specs.Bytes.{Bytes, part, same, any}
 use Rattle.text.specs.Parts.{partOf}
 use Rattle.text.specs.Table.{tabulate}
 use Rattle.values.specs.declared.Kind.{Kind}
 use Rattle.values.specs.declared.KindRead.{KindRead}
+use Rattle.values.specs.declared.Split.{Split}
+use Rattle.values.specs.Answers.{splitOf}
+use Rattle.values.specs.Names.{Reference}
 use Rattle.values.specs.Values.{scalar, string, Value, plain, link}
 use Rattle.language.specs.Register.{Page, Register}
-use Rattle.language.specs.Semantics.{stands, Ca, Cv, noMixed}
+use Rattle.language.specs.Answer.{found}
+use Rattle.language.specs.References.{standsAs, namespaceMeant}
+use Rattle.language.specs.Semantics.{stands, Ca, Cv, Cl, noMixed}
 use Rattle.language.specs.declared.Comparator.{Comparator}
+use Rattle.language.specs.declared.SurfaceComparator.{SurfaceComparator}
 use Rattle.query_core.specs.Reading.{constantBy}
 use Rattle.query_core.specs.declared.Constant.{Constant}
 use Rattle.buffer.specs.Numbers.{twoAt}
-use Rattle.register_form.specs.Dictionary.{nameOf, identifierOf, termCode}
+use Rattle.register_form.specs.Dictionary.{spaceOf, nameOf, identifierOf, termCode}
 use Rattle.register_form.specs.Form.{pageCount, formStart, registerIn, pageAt, termAt, textAt}
 use Rattle.register_form.specs.Opened.{pageIn}
 use Rattle.register_form_view.specs.Ranges.{nameOrder}
 use Rattle.register_form_view.specs.declared.NameTest.{NameTest}
 use Rattle.register_form_view.specs.declared.Rank.{Rank}
+use Rattle.register_form_view.specs.declared.ValueTest.{ValueTest}
 
 abbrev pub kindOf : KindRead → Option Kind
 kindOf (KindRead.Kind k) = some k
@@ -46,6 +53,28 @@ standsAt h q r c (Constant.String p) Kind.String f = stands c (nameOrder h (part
 standsAt h q r c (Constant.String p) Kind.Page f = false
 standsAt h q r c (Constant.String p) (Kind.Scalar k) f = false
 standsAt h q r c (Constant.Scalar j b) k f = Cv noMixed c (constantBy q (Constant.Scalar j b)) (valueAt h k f)
+
+-- A namespace is the one that a reference asks for, if it asks for one.
+abbrev pub namespaceFits : SurfaceComparator → Reference → Bytes → Bool
+namespaceFits c x n = found (namespaceMeant c x) (λ m. same n m) true
+
+-- The value of a kind that term f is, is a link that a reference means; by the rank of its article name.
+abbrev pub meantAt : Bytes → Bytes → Rank → SurfaceComparator → Split → Kind → ℕ → Bool
+meantAt h q r c s Kind.Page f =
+    namespaceFits c (splitOf q s) (spaceOf (textAt h (textNumber h f)))
+    && standsAs c (nameOrder h (partOf q (s .article)) r (textNumber h f))
+meantAt h q r c s (Kind.Scalar k) f = false
+meantAt h q r c s Kind.String f = false
+
+-- A value passes a test.
+abbrev pub passes : Bytes → ValueTest → Value → Bool
+passes q (ValueTest.Constant c w) = Cv noMixed c (constantBy q w)
+passes q (ValueTest.Reference c s) = Cl noMixed c (splitOf q s)
+
+-- The same of the value of a kind that term f is, by the rank of the test.
+abbrev pub passesAt : Bytes → Bytes → Rank → ValueTest → Kind → ℕ → Bool
+passesAt h q r (ValueTest.Constant c w) k f = standsAt h q r c w k f
+passesAt h q r (ValueTest.Reference c s) k f = meantAt h q r c s k f
 
 -- The mark of a place that is one more than a page's; 0 is that of no page.
 abbrev pub marked : List Bool → ℕ → Bool

@@ -6,25 +6,35 @@ ghost use Rattle.text.specs.Bytes.{any};
 ghost use Rattle.text.specs.Table.{tabulate};
 ghost use Rattle.pageset.specs.Marks.{marksFrom};
 ghost use Rattle.register_form_view.specs.Ranges.{within};
-ghost use Rattle.register_form_view.specs.View.{textNumber, standsAt, marked, leadsInto, formBytes, numbersIn};
+ghost use Rattle.values.specs.Answers.{splitOf};
+ghost use Rattle.register_form.specs.Dictionary.{spaceOf};
+ghost use Rattle.register_form.specs.Form.{textAt};
+ghost use Rattle.register_form_view.specs.View.{textNumber, standsAt, namespaceFits, meantAt, passesAt, marked, leadsInto, formBytes, numbersIn};
 use crate::Rank;
 use crate::TermRange;
 use crate::TermSet;
-use crate::ranks::compare_name;
-use crate::ranks::order_by;
+use crate::ValueTest;
+use crate::ranks::name_order;
 use crate::stands_as;
+use crate::stands_as_typed;
 use buffer::two_at;
 use language::Comparator;
+use language::SurfaceComparator;
+use language::in_any_namespace;
+use language::is_equal;
 use pageset::mark_at;
 use query_core::Constant;
 use register_form::code_at;
 use register_form::minus;
+use register_form::space_at;
 use register_form::term_at;
 use tables::num_at;
 use tables::widen;
 use text::compare_numbers;
 use text::part;
+use text::same_bytes;
 use values::Kind;
+use values::Split;
 use values::same_scalar;
 
 // The number of the text that term f names.
@@ -48,14 +58,56 @@ fn value_stands(h: &[u8], f: u16, k: Kind, c: Comparator, w: Constant, q: &[u8],
         Kind::String => match w {
             Constant::Scalar(_, _) => false,
             Constant::String(p) => {
-                let n = text_number(h, f);
-                if n < rank.plain {
-                    stands_as(c, order_by(rank, n))
-                } else {
-                    stands_as(c, compare_name(h, n, part(q, p.start, p.len)))
-                }
+                let x = part(q, p.start, p.len);
+                stands_as(c, name_order(h, text_number(h, f), x, rank))
             }
         },
+    }
+}
+
+// Whether text n has the namespace that a reference asks for, if it asks for one.
+fn has_namespace(h: &[u8], n: u16, c: SurfaceComparator, split: Split, q: &[u8]) -> bool
+    ensures { λ r. ⌜ r ≡ namespaceFits c (splitOf (now (q .entry)) split) (spaceOf (textAt (now (h .entry)) n)) ⌝ }
+{
+    if split.qualified {
+        let p = split.namespace;
+        return in_any_namespace(c) | same_bytes(space_at(h, n), part(q, p.start, p.len));
+    }
+    let space = space_at(h, n);
+    !is_equal(c) | (space.len() == 0)
+}
+
+// Whether the value of term f, of a kind, is a link that a reference means; its names lie in q, the article's has a rank.
+fn link_meant(
+    h: &[u8],
+    f: u16,
+    k: Kind,
+    c: SurfaceComparator,
+    split: Split,
+    q: &[u8],
+    rank: Rank,
+) -> bool
+    ensures { λ r. ⌜ r ≡ meantAt (now (h .entry)) (now (q .entry)) rank c split k f ⌝ }
+{
+    match k {
+        Kind::Page => {
+            let n = text_number(h, f);
+            let p = split.article;
+            let x = part(q, p.start, p.len);
+            has_namespace(h, n, c, split, q) & stands_as_typed(c, name_order(h, n, x, rank))
+        }
+        Kind::Scalar(_) => false,
+        Kind::String => false,
+    }
+}
+
+// Whether the value of term f, of a kind, passes a test, which has a rank.
+fn value_passes(h: &[u8], f: u16, k: Kind, test: ValueTest, q: &[u8], rank: Rank) -> bool
+    ensures { λ r. ⌜ r ≡ passesAt (now (h .entry)) (now (q .entry)) rank test k f ⌝ }
+{
+    match test {
+        ValueTest::Constant(c, w) => value_stands(h, f, k, c, w, q, rank),
+        ValueTest::Reference(c, split) => link_meant(h, f, k, c, split, q, rank),
     }
 }
 
@@ -94,16 +146,9 @@ fn is_within(range: TermRange, f: u16) -> bool
     (range.low <= f) & (f < range.high)
 }
 
-// Which terms are of a range and stand to a constant: each is tested once.
-pub fn terms_standing(
-    h: &[u8],
-    range: TermRange,
-    c: Comparator,
-    w: Constant,
-    q: &[u8],
-    rank: Rank,
-) -> TermSet
-    ensures { λ r. ⌜ r .marks ≡ tabulate 2048 (λ f. within range f && standsAt (now (h .entry)) (now (q .entry)) rank c w (range .kind) f) ⌝ }
+// Which terms are of a range and pass a test: each is tested once.
+pub fn terms_passing(h: &[u8], range: TermRange, test: ValueTest, q: &[u8], rank: Rank) -> TermSet
+    ensures { λ r. ⌜ r .marks ≡ tabulate 2048 (λ f. within range f && passesAt (now (h .entry)) (now (q .entry)) rank test (range .kind) f) ⌝ }
 {
     let k = range.kind;
     let high = range.high;
@@ -111,7 +156,7 @@ pub fn terms_standing(
     let mut f = range.low;
     while (f < high) & (f < 2048) {
         let at = widen(f);
-        wanted[at] = value_stands(h, f, k, c, w, q, rank);
+        wanted[at] = value_passes(h, f, k, test, q, rank);
         f += 1;
     }
     TermSet { marks: wanted }

@@ -1,6 +1,7 @@
 // What is asked of a held register: its properties by name, its pages by place, its texts and terms by number.
 ghost use mathlib.Core.Path.{_≡_};
 ghost use Rattle.language.specs.Register.{kindsOf};
+ghost use Rattle.language.specs.References.{standsAs};
 ghost use Rattle.language.specs.Semantics.{stands};
 ghost use Rattle.register_form.specs.Dictionary.{spaceOf, nameOf, textIn};
 ghost use Rattle.register_form.specs.Encoding.{placeAmong};
@@ -14,11 +15,15 @@ pub mod ranges; // ranges.rt: the terms of a category and of a property
 pub mod ranks; // ranks.rt: names compared by the numbers of their texts
 
 use language::Comparator;
+use language::SurfaceComparator;
+use language::or_equal;
+use language::strict;
 pub use pages::pages_in_category;
 pub use pages::pages_named;
 pub use pages::pages_with_link;
 pub use pages::pages_with_property;
 pub use pages::pages_with_value;
+use query_core::Constant;
 pub use ranges::binary_search;
 pub use ranges::category_range;
 pub use ranges::find;
@@ -38,6 +43,7 @@ use text::part;
 use text::same_bytes;
 use values::Kind;
 use values::KindRead;
+use values::Split;
 
 // The two lists of a dictionary that are in ascending order; texts by a name with no namespace, or by a text.
 pub enum Index {
@@ -77,6 +83,12 @@ pub enum NameTest {
     Article(Comparator),
 }
 
+// What is asked of a value: that it stands to a constant, or that it is a link that a reference means. Their strings lie in a query.
+pub enum ValueTest {
+    Constant(Comparator, Constant),
+    Reference(SurfaceComparator, Split),
+}
+
 // Whether an order is what a comparator asks for.
 pub fn stands_as(c: Comparator, o: Order) -> bool
     ensures { λ r. ⌜ r ≡ stands c o ⌝ }
@@ -103,6 +115,17 @@ pub fn stands_as(c: Comparator, o: Order) -> bool
             Order::Greater => false,
         },
     }
+}
+
+// The same of a comparator as it is typed.
+pub fn stands_as_typed(c: SurfaceComparator, o: Order) -> bool
+    ensures { λ r. ⌜ r ≡ standsAs c o ⌝ }
+{
+    let d = strict(c);
+    if or_equal(c) {
+        return stands_as(d, o) | stands_as(Comparator::Equal, o);
+    }
+    stands_as(d, o)
 }
 
 // The namespace and the name of text x; past the last text there are none.

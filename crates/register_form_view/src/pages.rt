@@ -6,38 +6,34 @@ ghost use Prim.Native.Nat.{ℕ};
 ghost use lib.ListN.{getD};
 ghost use Rattle.text.specs.Bytes.{same, any};
 ghost use Rattle.language.specs.Register.{Page, Register, holds};
-ghost use Rattle.language.specs.Semantics.{Cv, follows, noMixed};
-ghost use Rattle.query_core.specs.Reading.{constantBy};
+ghost use Rattle.language.specs.Semantics.{follows, noMixed};
 ghost use Rattle.pageset.specs.Marks.{marksFrom};
 ghost use Rattle.register_form.specs.Opened.{Opened};
 ghost use Rattle.register_form_view.specs.Ranges.{within};
-ghost use Rattle.register_form_view.specs.View.{namePasses, namePassesAt, Agrees, marksBy, marksIn};
+ghost use Rattle.register_form_view.specs.View.{passes, namePasses, namePassesAt, Agrees, marksBy, marksIn};
 use crate::NameTest;
 use crate::Rank;
 use crate::TermRange;
+use crate::ValueTest;
 use crate::forms::forms_between;
 use crate::forms::some_marked;
 use crate::forms::some_within;
 use crate::forms::terms_leading;
-use crate::forms::terms_standing;
+use crate::forms::terms_passing;
 use crate::namespace_at;
 use crate::ranges::category_range;
 use crate::ranges::property_range;
-use crate::ranks::order_by;
+use crate::ranks::name_order;
 use crate::ranks::rank_for;
 use crate::ranks::rank_of;
 use crate::stands_as;
-use language::Comparator;
 use pageset::PageSet;
-use query_core::Constant;
 use register_form::form_end;
 use register_form::form_start;
 use register_form::identifier_number;
 use register_form::minus;
-use register_form::name_at;
 use register_form::page_count;
 use tables::widen;
-use text::compare;
 use text::same_bytes;
 
 // The pages that have a term of a range.
@@ -92,13 +88,13 @@ pub fn pages_with_property(h: &[u8], x: &[u8]) -> PageSet
     pages_within(h, property_range(h, x))
 }
 
-// The pages that hold, under the property x, a value that stands to a constant, whose string lies in q.
-pub fn pages_with_value(h: &[u8], x: &[u8], c: Comparator, w: Constant, q: &[u8]) -> PageSet
-    ensures { λ r. ⌜ ((places : List ℕ) (R : Register) → Opened (now (h .entry)) places R → marksFrom (r .words) ≡ marksIn R (holds (now (x .entry)) (Cv noMixed c (constantBy (now (q .entry)) w)))) ⌝ }
+// The pages that hold, under the property x, a value that passes a test, whose strings lie in q.
+pub fn pages_with_value(h: &[u8], x: &[u8], test: ValueTest, q: &[u8]) -> PageSet
+    ensures { λ r. ⌜ ((places : List ℕ) (R : Register) → Opened (now (h .entry)) places R → marksFrom (r .words) ≡ marksIn R (holds (now (x .entry)) (passes (now (q .entry)) test))) ⌝ }
 {
     let range = property_range(h, x);
-    let rank = rank_for(h, w, q, minus(range.high, range.low));
-    let terms = terms_standing(h, range, c, w, q, rank);
+    let rank = rank_for(h, test, q, minus(range.high, range.low));
+    let terms = terms_passing(h, range, test, q, rank);
     let wanted = terms.marks;
     pages_marked(h, &wanted)
 }
@@ -121,11 +117,7 @@ fn name_passes(h: &[u8], i: u16, test: NameTest, x: &[u8], rank: Rank) -> bool
         NameTest::Namespace => same_bytes(namespace_at(h, i), x),
         NameTest::Article(c) => {
             let n = identifier_number(h, i);
-            if n < rank.plain {
-                stands_as(c, order_by(rank, n))
-            } else {
-                stands_as(c, compare(name_at(h, n), x))
-            }
+            stands_as(c, name_order(h, n, x, rank))
         }
     }
 }

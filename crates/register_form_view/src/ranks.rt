@@ -2,13 +2,12 @@
 ghost use mathlib.Core.Path.{_≡_};
 ghost use mathlib.Core.List.{[], _∷_};
 ghost use Prim.Native.Nat.{_+_, _*_};
-ghost use Rattle.text.specs.Bytes.{numbers, orderOf};
-ghost use Rattle.register_form.specs.Dictionary.{nameOf};
-ghost use Rattle.register_form.specs.Form.{textAt};
+ghost use Rattle.text.specs.Bytes.{numbers};
 ghost use Rattle.register_form_view.specs.declared.Index.the-variants.{Texts as TextIndex};
-ghost use Rattle.register_form_view.specs.Ranges.{Ranked, Keyed, RankOf, ConstantRank};
+ghost use Rattle.register_form_view.specs.Ranges.{Ranked, Keyed, RankOf, ConstantRank, TestRank, nameOrder};
 use crate::Index;
 use crate::Rank;
+use crate::ValueTest;
 use crate::ranges::compare_entry;
 use crate::ranges::entry_count;
 use crate::ranges::find;
@@ -66,7 +65,7 @@ pub fn rank_of(h: &[u8], x: &[u8], uses: u16) -> Rank
 }
 
 // The rank of a constant's string, which lies in q.
-pub fn rank_for(h: &[u8], w: Constant, q: &[u8], uses: u16) -> Rank
+fn constant_rank(h: &[u8], w: Constant, q: &[u8], uses: u16) -> Rank
     ensures { λ r. ⌜ ConstantRank (now (h .entry)) (now (q .entry)) w r ⌝ }
 {
     match w {
@@ -75,16 +74,32 @@ pub fn rank_for(h: &[u8], w: Constant, q: &[u8], uses: u16) -> Rank
     }
 }
 
+// The rank of a test's string or article name, which lies in q.
+pub fn rank_for(h: &[u8], test: ValueTest, q: &[u8], uses: u16) -> Rank
+    ensures { λ r. ⌜ TestRank (now (h .entry)) (now (q .entry)) test r ⌝ }
+{
+    match test {
+        ValueTest::Constant(_, w) => constant_rank(h, w, q, uses),
+        ValueTest::Reference(_, split) => {
+            let p = split.article;
+            rank_of(h, part(q, p.start, p.len), uses)
+        }
+    }
+}
+
 // How the name of text n stands to that of the rank, where the rank tells.
-pub fn order_by(rank: Rank, n: u16) -> Order
+fn order_by(rank: Rank, n: u16) -> Order
     ensures { λ r. ⌜ r ≡ numbers (1 + 2 * n) (rank .key) ⌝ }
 {
     compare_numbers(1 + 2 * long(n), rank.key)
 }
 
-// How the name of text n stands to x.
-pub fn compare_name(h: &[u8], n: u16, x: &[u8]) -> Order
-    ensures { λ r. ⌜ r ≡ orderOf (nameOf (textAt (now (h .entry)) n)) (now (x .entry)) ⌝ }
+// How the name of text n stands to x, which has a rank.
+pub fn name_order(h: &[u8], n: u16, x: &[u8], rank: Rank) -> Order
+    ensures { λ r. ⌜ r ≡ nameOrder (now (h .entry)) (now (x .entry)) rank n ⌝ }
 {
+    if n < rank.plain {
+        return order_by(rank, n);
+    }
     compare(name_at(h, n), x)
 }

@@ -20,6 +20,9 @@ enum-known-selector-5 c = search needs
 enum-known-selector-6 : tie.Need-enum-known-selector-6
 enum-known-selector-6 c = search needs
 
+enum-known-selector-7 : tie.Need-enum-known-selector-7
+enum-known-selector-7 c = search needs
+
 returns : tie.Need-returns
 returns c = search needs
 
@@ -38,6 +41,9 @@ returns-5 c = search needs
 returns-6 : tie.Need-returns-6
 returns-6 c = rw (c .before .selector6 .given .1)
 
+returns-7 : tie.Need-returns-7
+returns-7 c = rw (c .before .selector7 .given .1)
+
 pub name-of-spec : {M : Type 1} → statement M
 name-of-spec =
     tie.close
@@ -48,9 +54,11 @@ name-of-spec =
     enum-known-selector-4
     enum-known-selector-5
     enum-known-selector-6
+    enum-known-selector-7
     returns
     returns-2
     returns-3
     returns-4
     returns-5
-    returns-6)
+    returns-6
+    returns-7)

@@ -51,6 +51,12 @@ enum-known-selector-2 c = search needs
 pages-with-value-requires : tie.Need-pages-with-value-requires
 pages-with-value-requires c κs = search needs
 
+enum-known-selector-3 : tie.Need-enum-known-selector-3
+enum-known-selector-3 c = search needs
+
+pages-with-value-requires-2 : tie.Need-pages-with-value-requires-2
+pages-with-value-requires-2 c κs = search needs
+
 returns : tie.Need-returns
 returns c = search (selecting, needs)
 
@@ -68,6 +74,9 @@ returns-5 c = search (selecting, needs)
 
 returns-6 : tie.Need-returns-6
 returns-6 c = search (selecting, needs)
+
+returns-7 : tie.Need-returns-7
+returns-7 c = search (selecting, needs)
 
 pub select-spec : {M : Type 1} → statement M
 select-spec =
@@ -89,9 +98,12 @@ select-spec =
     pages-named-requires-2
     enum-known-selector-2
     pages-with-value-requires
+    enum-known-selector-3
+    pages-with-value-requires-2
     returns
     returns-2
     returns-3
     returns-4
     returns-5
-    returns-6)
+    returns-6
+    returns-7)

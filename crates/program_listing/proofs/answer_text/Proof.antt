@@ -16,7 +16,7 @@ same-length : tie.Need-same-length
 same-length c = search needs
 
 returns : tie.Need-returns
-returns c = text-refused _ _ _ _ _ (zeros-room 21570) (c .before .before .before .before .before .before .query .ensures) _ _ _ (c .before .before .before .before .if1 .taken) (c .before .before .put-refusal .ensures)
+returns c = text-refused _ _ _ _ _ (zeros-room 29794) (c .before .before .before .before .before .before .query .ensures) _ _ _ (c .before .before .before .before .if1 .taken) (c .before .before .put-refusal .ensures)
 
 slice-aggregate-answer-core : tie.Need-slice-aggregate-answer-core
 slice-aggregate-answer-core c = search needs
@@ -28,7 +28,7 @@ same-length-2 : tie.Need-same-length-2
 same-length-2 c = search needs
 
 returns-2 : tie.Need-returns-2
-returns-2 c = text-core _ _ _ _ _ (zeros-room 21570) (c .before .before .before .before .before .before .before .query .ensures) _ _ _ (c .before .before .before .before .before .if1 .left) (c .before .before .answer-core .ensures)
+returns-2 c = text-core _ _ _ _ _ (zeros-room 29794) (c .before .before .before .before .before .before .before .query .ensures) _ _ _ (c .before .before .before .before .before .if1 .left) (c .before .before .answer-core .ensures)
 
 pub answer-text-spec : {M : Type 1} → statement M
 answer-text-spec =

@@ -1,5 +1,5 @@
-use borrow.Author.Needs.{needs}
 use Rattle.ask_evaluation.proofs.Mixing.{expecting}
+use borrow.Author.Needs.{needs}
 use Rattle.ask_evaluation.proofs.mismatch.expected_by.Statement.{statement}
 use Rattle.ask_evaluation.proofs.mismatch.expected_by.Tie as tie
 
@@ -36,6 +36,9 @@ enum-known-v c = search needs
 enum-told-8 : tie.Need-enum-told-8
 enum-told-8 c = search needs
 
+enum-known-selector-3 : tie.Need-enum-known-selector-3
+enum-known-selector-3 c = search needs
+
 returns : tie.Need-returns
 returns c = search needs
 
@@ -63,6 +66,9 @@ returns-8 c = search (expecting, needs)
 returns-9 : tie.Need-returns-9
 returns-9 c = search (expecting, needs)
 
+returns-10 : tie.Need-returns-10
+returns-10 c = search (expecting, needs)
+
 pub expected-by-spec : {M : Type 1} → statement M
 expected-by-spec =
     tie.close
@@ -78,6 +84,7 @@ expected-by-spec =
     enum-known-selector-2
     enum-known-v
     enum-told-8
+    enum-known-selector-3
     returns
     returns-2
     returns-3
@@ -86,4 +93,5 @@ expected-by-spec =
     returns-6
     returns-7
     returns-8
-    returns-9)
+    returns-9
+    returns-10)

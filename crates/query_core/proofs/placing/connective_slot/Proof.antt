@@ -1,9 +1,6 @@
 use borrow.Author.Needs.{needs}
 use Rattle.query_core.proofs.placing.connective_slot.Statement.{statement}
 use Rattle.query_core.proofs.placing.connective_slot.Tie as tie
-use Rattle.query_core.proofs.placing.connective_slot.Reads as reads
-use Rattle.query_core.proofs.placing.connective_slot.Lts as lts
-use Rattle.query_core.proofs.placing.tagged_slot.Reads as tagged-slot-reads
 
 tagged-slot-requires : tie.Need-tagged-slot-requires
 tagged-slot-requires c κs = search needs

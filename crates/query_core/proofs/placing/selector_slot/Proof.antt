@@ -44,6 +44,12 @@ code-of-requires-2 c κs = search needs
 constant-slot-requires : tie.Need-constant-slot-requires
 constant-slot-requires c κs = search needs
 
+enum-known-s-3 : tie.Need-enum-known-s-3
+enum-known-s-3 c = search needs
+
+link-slot-requires : tie.Need-link-slot-requires
+link-slot-requires c κs = search needs
+
 returns : tie.Need-returns
 returns c = rw (c .tagged-slot .ensures, c .before .enum-told .given .1)
 
@@ -61,6 +67,9 @@ returns-5 c = rw (c .tagged-slot5 .ensures, c .before .before .before .s .given 
 
 returns-6 : tie.Need-returns-6
 returns-6 c = rw (c .constant-slot .ensures, c .before .before .before .s2 .given .1, c .before .code-of2 .ensures)
+
+returns-7 : tie.Need-returns-7
+returns-7 c = rw (c .link-slot .ensures, c .before .before .s3 .given .1)
 
 pub selector-slot-spec : {M : Type 1} → statement M
 selector-slot-spec =
@@ -80,9 +89,12 @@ selector-slot-spec =
     enum-known-s-2
     code-of-requires-2
     constant-slot-requires
+    enum-known-s-3
+    link-slot-requires
     returns
     returns-2
     returns-3
     returns-4
     returns-5
-    returns-6)
+    returns-6
+    returns-7)

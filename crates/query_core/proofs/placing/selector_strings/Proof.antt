@@ -23,6 +23,12 @@ enum-known-s-6 c = search needs
 constant-strings-requires : tie.Need-constant-strings-requires
 constant-strings-requires c κs = search needs
 
+enum-known-s-7 : tie.Need-enum-known-s-7
+enum-known-s-7 c = search needs
+
+written-requires : tie.Need-written-requires
+written-requires c κs = search needs
+
 returns : tie.Need-returns
 returns c = rw (c .before .s .given .1)
 
@@ -41,6 +47,9 @@ returns-5 c = rw (c .before .s5 .given .1)
 returns-6 : tie.Need-returns-6
 returns-6 c = rw (c .constant-strings .ensures, c .before .before .s6 .given .1)
 
+returns-7 : tie.Need-returns-7
+returns-7 c = rw (c .before .written .ensures, c .before .before .before .s7 .given .1)
+
 pub selector-strings-spec : {M : Type 1} → statement M
 selector-strings-spec =
     tie.close
@@ -52,9 +61,12 @@ selector-strings-spec =
     enum-known-s-5
     enum-known-s-6
     constant-strings-requires
+    enum-known-s-7
+    written-requires
     returns
     returns-2
     returns-3
     returns-4
     returns-5
-    returns-6)
+    returns-6
+    returns-7)

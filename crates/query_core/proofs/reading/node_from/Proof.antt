@@ -1,4 +1,4 @@
-use Rattle.query_core.proofs.Ways.{ways, article-tag, value-tag, no-tag}
+use Rattle.query_core.proofs.Ways.{ways, article-tag, value-tag, link-tag, no-tag}
 use borrow.Author.Needs.{needs}
 use Rattle.query_core.proofs.reading.node_from.Statement.{statement}
 use Rattle.query_core.proofs.reading.node_from.Tie as tie
@@ -66,6 +66,9 @@ slot-from-requires c κs = search needs
 value-from-requires : tie.Need-value-from-requires
 value-from-requires c κs = search needs
 
+link-from-requires : tie.Need-link-from-requires
+link-from-requires c κs = search needs
+
 returns : tie.Need-returns
 returns c = search ways
 
@@ -91,7 +94,10 @@ returns-8 : tie.Need-returns-8
 returns-8 c = value-tag _ _ _ _ _ (c .before .before .match .keys8) (c .before .slot-from .ensures) (c .value-from .ensures)
 
 returns-9 : tie.Need-returns-9
-returns-9 c = no-tag _ _ _ (c .match .rest .0 .0 .0 .0 .0 .0 .0 .1, c .match .rest .0 .0 .0 .0 .0 .0 .1, c .match .rest .0 .0 .0 .0 .0 .1, c .match .rest .0 .0 .0 .0 .1, c .match .rest .0 .0 .0 .1, c .match .rest .0 .0 .1, c .match .rest .0 .1, c .match .rest .1)
+returns-9 c = link-tag _ _ _ _ (c .before .match .keys9) (c .link-from .ensures)
+
+returns-10 : tie.Need-returns-10
+returns-10 c = no-tag _ _ _ (c .match .rest .0 .0 .0 .0 .0 .0 .0 .0 .1, c .match .rest .0 .0 .0 .0 .0 .0 .0 .1, c .match .rest .0 .0 .0 .0 .0 .0 .1, c .match .rest .0 .0 .0 .0 .0 .1, c .match .rest .0 .0 .0 .0 .1, c .match .rest .0 .0 .0 .1, c .match .rest .0 .0 .1, c .match .rest .0 .1, c .match .rest .1)
 
 pub node-from-spec : {M : Type 1} → statement M
 node-from-spec =
@@ -118,6 +124,7 @@ node-from-spec =
     article-from-requires
     slot-from-requires
     value-from-requires
+    link-from-requires
     returns
     returns-2
     returns-3
@@ -126,4 +133,5 @@ node-from-spec =
     returns-6
     returns-7
     returns-8
-    returns-9)
+    returns-9
+    returns-10)

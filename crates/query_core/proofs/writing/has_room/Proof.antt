@@ -9,11 +9,21 @@ returns c = search rooms
 returns-2 : tie.Need-returns-2
 returns-2 c = search rooms
 
-sub-result : tie.Need-sub-result
-sub-result c = search needs
+sub-if3 : tie.Need-sub-if3
+sub-if3 c = search needs
 
 returns-3 : tie.Need-returns-3
 returns-3 c = search rooms
 
+sub-result : tie.Need-sub-result
+sub-result c = search needs
+
+sub-result-2 : tie.Need-sub-result-2
+sub-result-2 c = search needs
+
+returns-4 : tie.Need-returns-4
+returns-4 c = search rooms
+
 pub has-room-spec : {M : Type 1} → statement M
-has-room-spec = tie.close (tie.spec returns returns-2 sub-result returns-3)
+has-room-spec =
+    tie.close (tie.spec returns returns-2 sub-if3 returns-3 sub-result sub-result-2 returns-4)

@@ -1,14 +1,12 @@
-use Rattle.query_core.proofs.Laying.{put-short, put-full, put-joint}
+use Rattle.query_core.specs.Writing.{Puts}
+use Rattle.query_core.proofs.Laying.{node-short, node-full, put-joint}
 use borrow.Author.Needs.{needs}
 use Rattle.query_core.proofs.writing.put_connective.Statement.{statement}
 use Rattle.query_core.proofs.writing.put_connective.Tie as tie
-use Rattle.query_core.proofs.writing.put_connective.Reads as reads
-use Rattle.query_core.proofs.writing.put_connective.Lts as lts
-use Rattle.query_core.proofs.placing.connective_slot.Reads as connective-slot-reads
-use Rattle.query_core.proofs.writing.put_slot.Reads as put-slot-reads
 
 returns : tie.Need-returns
-returns c = put-short _ _ _ _ (c .if1 .taken)
+unfolding Puts
+returns c = node-short _ _ _ (c .if1 .taken)
 
 sub-t8 : tie.Need-sub-t8
 sub-t8 c = search needs
@@ -17,7 +15,8 @@ add-t9 : tie.Need-add-t9
 add-t9 c = search needs
 
 returns-2 : tie.Need-returns-2
-returns-2 c = put-full _ _ _ _ (c .before .if2 .taken)
+unfolding Puts
+returns-2 c = node-full _ _ _ (c .before .if2 .taken)
 
 connective-slot-requires : tie.Need-connective-slot-requires
 connective-slot-requires c κs = search needs

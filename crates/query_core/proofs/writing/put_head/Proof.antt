@@ -4,8 +4,6 @@ use Rattle.query_core.proofs.Slots.{puts}
 use borrow.Author.Needs.{needs}
 use Rattle.query_core.proofs.writing.put_head.Statement.{statement}
 use Rattle.query_core.proofs.writing.put_head.Tie as tie
-use Rattle.query_core.proofs.writing.put_head.Reads as reads
-use Rattle.query_core.proofs.writing.put_head.Lts as lts
 
 slice-write-h : tie.Need-slice-write-h
 slice-write-h c = search needs

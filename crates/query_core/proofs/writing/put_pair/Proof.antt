@@ -4,8 +4,6 @@ use Rattle.query_core.proofs.Slots.{puts}
 use borrow.Author.Needs.{needs}
 use Rattle.query_core.proofs.writing.put_pair.Statement.{statement}
 use Rattle.query_core.proofs.writing.put_pair.Tie as tie
-use Rattle.query_core.proofs.writing.put_pair.Reads as reads
-use Rattle.query_core.proofs.writing.put_pair.Lts as lts
 
 cast-h : tie.Need-cast-h
 cast-h c = search needs

@@ -2,11 +2,6 @@ use Rattle.query_core.proofs.Slots.{puts}
 use borrow.Author.Needs.{needs}
 use Rattle.query_core.proofs.writing.put_slot.Statement.{statement}
 use Rattle.query_core.proofs.writing.put_slot.Tie as tie
-use Rattle.query_core.proofs.writing.put_slot.Reads as reads
-use Rattle.query_core.proofs.writing.put_slot.Lts as lts
-use Rattle.query_core.proofs.writing.put_head.Reads as put-head-reads
-use Rattle.query_core.proofs.writing.put_number.Reads as put-number-reads
-use Rattle.query_core.proofs.writing.put_span.Reads as put-span-reads
 
 put-head-requires : tie.Need-put-head-requires
 put-head-requires c κs = search needs

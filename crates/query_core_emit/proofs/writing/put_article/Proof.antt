@@ -2,12 +2,6 @@ use Rattle.query_core_emit.proofs.References.{article-strict, article-e
 use borrow.Author.Needs.{needs}
 use Rattle.query_core_emit.proofs.writing.put_article.Statement.{statement}
 use Rattle.query_core_emit.proofs.writing.put_article.Tie as tie
-use Rattle.query_core_emit.proofs.writing.put_article.Reads as reads
-use Rattle.query_core_emit.proofs.writing.put_article.Lts as lts
-use Rattle.language.proofs.or_equal.Reads as or-equal-reads
-use Rattle.language.proofs.strict.Reads as strict-reads
-use Rattle.query_core_emit.proofs.writing.put_join.Reads as put-join-reads
-use Rattle.query_core_emit.proofs.writing.put_select.Reads as put-select-reads
 
 strict-requires : tie.Need-strict-requires
 strict-requires c κs = search needs

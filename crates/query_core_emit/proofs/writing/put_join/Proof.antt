@@ -2,9 +2,6 @@ use Rattle.query_core_emit.proofs.Adding.{adding}
 use borrow.Author.Needs.{needs}
 use Rattle.query_core_emit.proofs.writing.put_join.Statement.{statement}
 use Rattle.query_core_emit.proofs.writing.put_join.Tie as tie
-use Rattle.query_core_emit.proofs.writing.put_join.Reads as reads
-use Rattle.query_core_emit.proofs.writing.put_join.Lts as lts
-use Rattle.query_core.proofs.put_connective.Reads as put-connective-reads
 
 put-connective-requires : tie.Need-put-connective-requires
 put-connective-requires c κs = search needs

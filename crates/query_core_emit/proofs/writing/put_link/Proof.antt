@@ -18,9 +18,6 @@ split-at-requires c κs = search needs
 put-typed-requires : tie.Need-put-typed-requires
 put-typed-requires c κs = search needs
 
-put-select-requires : tie.Need-put-select-requires
-put-select-requires c κs = search needs
-
 same-length : tie.Need-same-length
 same-length c = search needs
 
@@ -36,6 +33,5 @@ put-link-spec =
     returns
     split-at-requires
     put-typed-requires
-    put-select-requires
     same-length
     returns-2)

@@ -13,8 +13,8 @@ minus-requires c κs = search needs
 rank-for-requires : tie.Need-rank-for-requires
 rank-for-requires c κs = search needs
 
-terms-standing-requires : tie.Need-terms-standing-requires
-terms-standing-requires c κs = search needs
+terms-passing-requires : tie.Need-terms-passing-requires
+terms-passing-requires c κs = search needs
 
 slice-aggregate-pages-marked : tie.Need-slice-aggregate-pages-marked
 slice-aggregate-pages-marked c = search needs
@@ -23,7 +23,7 @@ pages-marked-requires : tie.Need-pages-marked-requires
 pages-marked-requires c κs = search needs
 
 returns : tie.Need-returns
-returns c = λ places R o. c .pages-marked .ensures ∙ value-pages o _ _ (c .before .before .before .before .before .before .property-range .ensures places R o) _ _ _ _ (c .before .before .before .before .rank-for .ensures) _ (c .before .before .before .terms-standing .ensures)
+returns c = λ places R o. c .pages-marked .ensures ∙ value-pages o _ _ (c .before .before .before .before .before .before .property-range .ensures places R o) _ _ _ (c .before .before .before .before .rank-for .ensures) _ (c .before .before .before .terms-passing .ensures)
 
 pub pages-with-value-spec : {M : Type 1} → statement M
 pages-with-value-spec =
@@ -32,7 +32,7 @@ pages-with-value-spec =
     property-range-requires
     minus-requires
     rank-for-requires
-    terms-standing-requires
+    terms-passing-requires
     slice-aggregate-pages-marked
     pages-marked-requires
     returns)

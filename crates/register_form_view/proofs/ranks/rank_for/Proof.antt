@@ -1,16 +1,16 @@
-use borrow.Author.Needs.{needs}
 use Rattle.register_form_view.proofs.Ordering.{ordering}
+use borrow.Author.Needs.{needs}
 use Rattle.register_form_view.proofs.ranks.rank_for.Statement.{statement}
 use Rattle.register_form_view.proofs.ranks.rank_for.Tie as tie
 
-enum-told : tie.Need-enum-told
-enum-told c = search needs
+enum-known-test : tie.Need-enum-known-test
+enum-known-test c = search needs
 
-no-rank-requires : tie.Need-no-rank-requires
-no-rank-requires c κs = search needs
+constant-rank-requires : tie.Need-constant-rank-requires
+constant-rank-requires c κs = search needs
 
-enum-known-w : tie.Need-enum-known-w
-enum-known-w c = search needs
+enum-known-test-2 : tie.Need-enum-known-test-2
+enum-known-test-2 c = search needs
 
 part-requires : tie.Need-part-requires
 part-requires c κs = search needs
@@ -28,9 +28,9 @@ pub rank-for-spec : {M : Type 1} → statement M
 rank-for-spec =
     tie.close
     (tie.spec
-    enum-told
-    no-rank-requires
-    enum-known-w
+    enum-known-test
+    constant-rank-requires
+    enum-known-test-2
     part-requires
     rank-of-requires
     returns

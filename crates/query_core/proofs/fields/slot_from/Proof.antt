@@ -1,7 +1,7 @@
 use Rattle.query_core.specs.Held.{slotFrom}
 use borrow.Author.Needs.{needs}
-use Rattle.query_core.proofs.reading.slot_from.Statement.{statement}
-use Rattle.query_core.proofs.reading.slot_from.Tie as tie
+use Rattle.query_core.proofs.fields.slot_from.Statement.{statement}
+use Rattle.query_core.proofs.fields.slot_from.Tie as tie
 
 first-of-requires : tie.Need-first-of-requires
 first-of-requires c κs = search needs

@@ -1,5 +1,5 @@
-use Rattle.query_core.proofs.reading.selected_if.Statement.{statement}
-use Rattle.query_core.proofs.reading.selected_if.Tie as tie
+use Rattle.query_core.proofs.fields.selected_if.Statement.{statement}
+use Rattle.query_core.proofs.fields.selected_if.Tie as tie
 
 returns : tie.Need-returns
 returns c = rw (c .if1 .taken)
