@@ -1,7 +1,8 @@
 """The ask call by core queries, and apart from it the direct meaning of a text."""
 import operator
 
-from core import And, Article, Category, Existence, InNamespace, Or, Subquery, Value, every_node
+from core import And, Article, Category, Existence, InNamespace, Link, Or, Subquery, Value, every_node
+from query import reference_core
 from reading import Categories, Exists, Identifiers, Namespace, Query, read_query
 from values import read_reference, read_value
 
@@ -12,8 +13,8 @@ CORE_COMPARATORS = {'=': operator.eq, '!=': operator.ne, '>': operator.gt, '<': 
 
 def has_mismatch(core, register):
     """Whether a page holds, under a property that the query names, another kind than the query asks of."""
-    nodes = [node for node in every_node(core) if isinstance(node, (Value, Subquery))]
-    named = {(node.prop, b'page' if isinstance(node, Subquery) else node.constant[0]) for node in nodes}
+    nodes = [node for node in every_node(core) if isinstance(node, (Value, Subquery, Link))]
+    named = {(node.prop, node.constant[0] if isinstance(node, Value) else b'page') for node in nodes}
     return any(kind != wanted for page in register.pages for prop, wanted in named for kind, _ in page.values.get(prop, []))
 
 
@@ -32,19 +33,30 @@ def selected(core, register, subqueries=None, inside=0):
     return found
 
 
+def meets(core, identifier):
+    """Whether the (namespace, name) of a page, or of a link, is what the core query of a reference wants (definition 5.3.1)."""
+    if isinstance(core, (And, Or)):
+        sides = [meets(side, identifier) for side in core]
+        return all(sides) if isinstance(core, And) else any(sides)
+    if isinstance(core, InNamespace):
+        return core.name == identifier[0]
+    return CORE_COMPARATORS[core.comparator](identifier[1], core.name)
+
+
 def test_of(selector, inner):
     """What a selector asks of a page. `inner` has the pages that the query inside a subquery selects."""
     if isinstance(selector, Category):
         return lambda page: selector.name in page.categories
-    if isinstance(selector, InNamespace):
-        return lambda page: selector.name == page.namespace
+    if isinstance(selector, (InNamespace, Article)):
+        return lambda page: meets(selector, page[:2])
     if isinstance(selector, Existence):
         return lambda page: selector.prop in page.values
     if isinstance(selector, Subquery):
         return lambda page: any(value in inner for _, value in page.values.get(selector.prop, []))
+    if isinstance(selector, Link):
+        wanted = reference_core(selector.comparator, selector.reference)
+        return lambda page: any(meets(wanted, link) for _, link in page.values.get(selector.prop, []))
     stands = CORE_COMPARATORS[selector.comparator]
-    if isinstance(selector, Article):
-        return lambda page: stands(page.name, selector.name)
     return lambda page: any(stands(value, selector.constant[1]) for _, value in page.values.get(selector.prop, []))
 
 
@@ -70,13 +82,14 @@ STANDS = {
 }
 
 
-def refers(comparator, reference, page):
+def refers(comparator, reference, identifier):
+    """How a page's identifier, or a link, stands to a reference."""
     namespace, name = reference
-    if not STANDS[comparator](page.name, name):
+    if not STANDS[comparator](identifier[1], name):
         return False
     if namespace is None:
-        return comparator != b'' or page.namespace == b''
-    return comparator == b'!' or page.namespace == namespace
+        return comparator != b'' or identifier[0] == b''
+    return comparator == b'!' or identifier[0] == namespace
 
 
 class Direct:
@@ -99,7 +112,7 @@ class Direct:
     def identifier(self, selector, page):
         if isinstance(selector, Namespace):
             return page.namespace == selector.name
-        return refers(selector.comparator, selector.reference, page)
+        return refers(selector.comparator, selector.reference, page[:2])
 
     def chain(self, body, start, page):
         """What the names of the head from `start` on, with the alternatives, ask of the page."""
@@ -127,7 +140,7 @@ class Direct:
             return any(self.query(one, link) for link in links)
         if kind == b'page':
             reference = read_reference(one.text)
-            return reference is not None and any(refers(one.comparator, reference, link) for link in links)
+            return reference is not None and any(refers(one.comparator, reference, link) for _, link in held)
         wanted = read_value(kind, one.text)
         return wanted is not None and any(STANDS[one.comparator](value, wanted[1]) for _, value in held)
 

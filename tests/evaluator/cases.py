@@ -2,6 +2,7 @@
 import sys
 
 import accents
+import links
 from vectors import run
 
 SAMPLE = '''(prop "Brought by" page)
@@ -28,7 +29,7 @@ LETTERED = (
     ('h', '[[!Talk:D1]]', [0, 1, 2, 4]),
     ('i', '[[Talk:+]]', [5]),
     ('j', '[[Brought by.In region::North]]', [3]),
-    ('k', '[[In region::East]]', []),
+    ('k', '[[In region::East]]', [1]),
     ('l', '[[Category:Region]] OR [[Category:Supplier]] AND [[In region::North]]', [0, 2]),
     ('m', '[[Crates::-0||-3]]', [4]),
     ('n', '[[Chilled::>no]]', [3, 4]),
@@ -90,12 +91,20 @@ QUERIES_REFUSED = (
     (16, '[[Lot::' + 'n' * 65 + ']]'),
     (18, '[[Crates::1234567890123456]]'),
     (19, '[[!a]]' * 129),
+    (19, '[[a]]' * 63 + '[[Brought by.In region::<q>[[c]]</q>]]'),
+    (19, '[[a]]' * 63 + '[[' + 'Brought by.' * 4 + 'In region::c]]'),
+    (19, '[[Brought by::' + 'c||' * 128 + 'c]]'),
+    (19, '[[In region.In region.Brought by::' + 'c||' * 127 + 'c]]'),
 )
 
 # query, marked places, nodes
 ACCEPTED = (
     ('[[a]]' * 64, [], 255),
-    ('[[a]]' * 63 + '[[Brought by::c]]', [], 256),
+    ('[[a]]' * 63 + '[[Brought by::c]]', [], 253),
+    ('[[a]]' * 63 + '[[Brought by::<q>[[c]]</q>]]', [], 256),
+    ('[[a]]' * 63 + '[[' + 'Brought by.' * 3 + 'In region::c]]', [], 256),
+    ('[[Brought by::' + 'c||' * 127 + 'Mill Oost]]', [4], 255),
+    ('[[Brought by.In region::' + 'c||' * 127 + 'East]]', [4], 256),
     ('<q>' * 8 + '[[D1]]' + '</q>' * 8, [3], 3),
     ('[[D1]]OR[[D2]]', [3, 4], 7),
     ('[[:D1]]', [3], 3),
@@ -104,7 +113,7 @@ ACCEPTED = (
     ('[[<:D1]]', [0, 3], 5),
     ('[[<D1]]', [0, 3, 5], 3),
     ('[[!D1]]', [0, 1, 2, 4], 1),
-    ('[[Brought by:::Mill Oost]]', [4], 4),
+    ('[[Brought by:::Mill Oost]]', [4], 1),
     ('[[Category]]', [], 3),
     ('[[:+]]', [0, 1, 2, 3, 4], 1),
     ('[[Lot::!+]]', [3, 4], 1),
@@ -113,10 +122,10 @@ ACCEPTED = (
     ('[[Crates::<-3]]', [4], 3),
     ('[[Crates::012]]', [3], 1),
     ('[[Chilled::nO]]', [3], 1),
-    ('[[Brought by.In region::North||East]]', [3], 10),
-    ('[[Brought by::<q>[[Category:Supplier]]</q>||North]]', [3, 4], 7),
+    ('[[Brought by.In region::North||East]]', [3, 4], 4),
+    ('[[Brought by::<q>[[Category:Supplier]]</q>||North]]', [3, 4], 4),
     ('[[ Category : Region || Supplier ]]', [0, 1, 2], 3),
-    ('[[ Brought by . In region :: North ]]', [3], 5),
+    ('[[ Brought by . In region :: North ]]', [3], 2),
     ('[[Crates::<999999999999999]]', [3, 4], 3),
     ('[[!a]]' * 128, [0, 1, 2, 3, 4, 5], 255),
 )
@@ -195,9 +204,11 @@ def second_run(register, query, second, number, marks):
             'query_number': 0, 'second': second, 'second_number': number, 'second_direct': marks}
 
 
-def accented():
-    """Request 4 (Ask 4): accented names typed two ways."""
-    for shape, some in ((accepted, accents.accepted()), (register_refused, accents.registers_refused()),
+def by_request():
+    """The cases of requests that have a file of their own."""
+    for label, register, pages, query, places, nodes in links.accepted():
+        yield accepted(label, register, pages, query, places, nodes=nodes)
+    for shape, some in ((second_run, links.second_runs()), (accepted, accents.accepted()), (register_refused, accents.registers_refused()),
                         (query_refused, accents.queries_refused()), (second_run, accents.second_runs())):
         yield from (shape(*one) for one in some)
 
@@ -212,7 +223,7 @@ def cases():
     for query, places in SECTION:
         yield accepted(query, TABLE, 11, query, places)
     yield from (second_run(*one) for one in SECOND_RUNS)
-    yield from accented()
+    yield from by_request()
 
 
 if __name__ == '__main__':

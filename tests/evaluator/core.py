@@ -1,4 +1,4 @@
-"""Core queries: six selectors, AND and OR. Core comparators are = != > <."""
+"""Core queries: seven selectors, AND and OR. Core comparators are = != > <; a link has one of the six as they are typed."""
 from typing import NamedTuple
 
 
@@ -28,6 +28,12 @@ class Value(NamedTuple):
     prop: bytes
     comparator: str
     constant: tuple  # (kind, value)
+
+
+class Link(NamedTuple):
+    prop: bytes
+    comparator: bytes
+    reference: tuple  # (namespace or None where none is written, name)
 
 
 class And(NamedTuple):

@@ -1,7 +1,7 @@
 """The query call and the fit call: a text, or a tree that was read, and a register to a core query, or a number."""
 from functools import reduce
 
-from core import And, Article, Category, Existence, InNamespace, Or, Subquery, Value, nodes
+from core import And, Article, Category, Existence, InNamespace, Link, Or, Subquery, Value, nodes
 from reading import Categories, Exists, Identifiers, Namespace, Property, Query, read_query
 from values import read_reference, read_value
 
@@ -66,7 +66,7 @@ def alternative_core(prop, one, kinds):
     if isinstance(one, Query):
         return Subquery(prop, query_core(one, kinds))
     if kinds[prop] == b'page':
-        return Subquery(prop, reference_core(one.comparator, read_reference(one.text)))
+        return Link(prop, one.comparator, read_reference(one.text))
     constant = read_value(kinds[prop], one.text)
     return compared(one.comparator, lambda core: Value(prop, core, constant))
 

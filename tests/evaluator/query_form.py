@@ -1,12 +1,13 @@
 """Held queries by docs/LAYOUT.md: written from a core query, and read back by the rules."""
-from core import And, Article, Category, Existence, InNamespace, Or, Subquery, Value
+from core import And, Article, Category, Existence, InNamespace, Link, Or, Subquery, Value
 from values import KINDS, SCALARS, code_of, is_composed, is_name, is_namespace, is_property_name, is_value, scalar_of
 
-NODE, MOST_NODES, MOST_HEAP = 20, 256, 16448
+NODE, MOST_NODES, MOST_HEAP = 20, 256, 24672
 NODES = 2  # where the nodes begin
 HEAP = NODES + NODE * MOST_NODES
 SIZE = HEAP + MOST_HEAP
 COMPARATORS = ['=', '!=', '>', '<']
+TYPED = [b'', b'!', b'>>', b'<<', b'>', b'<']  # the comparators of links
 
 
 def two(number):
@@ -31,14 +32,14 @@ class Heap:
 
 
 def node_bytes(node, heap):
-    tag = [And, Or, Category, InNamespace, Existence, Subquery, Article, Value].index(type(node))
+    tag = [And, Or, Category, InNamespace, Existence, Subquery, Article, Value, Link].index(type(node))
     out = bytearray(NODE)
     out[0] = tag
     if tag in (2, 3):
         out[4:8] = heap.span(node.name)
     if tag in (4, 5, 7):
         out[4:8] = heap.span(node.prop)
-    if tag >= 6:
+    if tag in (6, 7):
         out[1] = COMPARATORS.index(node.comparator)
     if tag == 6:
         out[8:12] = heap.span(node.name)
@@ -49,6 +50,12 @@ def node_bytes(node, heap):
             out[12:20] = code_of(node.constant).to_bytes(8, 'little')
         else:
             out[8:12] = heap.span(value)
+    if tag == 8:
+        namespace, name = node.reference
+        out[1] = TYPED.index(node.comparator)
+        out[2] = 0 if namespace is None else len(namespace) + 1
+        out[4:8] = heap.span(node.prop + (namespace or b''))
+        out[8:12] = heap.span(name)
     return bytes(out)
 
 
@@ -79,6 +86,15 @@ def read_constant(slot, string):
     return constant
 
 
+def read_link(slot, first, second):
+    """A link; where byte 2 is not 0 the last bytes of the first string, one fewer than it says, are its namespace."""
+    comparator, name = TYPED[slot[1]], kept_name(is_name, second)
+    if slot[2] == 0:
+        return Link(kept_name(is_property_name, first), comparator, (None, name))
+    end = max(0, int.from_bytes(slot[6:8], 'little') - (slot[2] - 1))
+    return Link(kept_name(is_property_name, first[:end]), comparator, (kept_name(is_namespace, first[end:]), name))
+
+
 def put_node(stack, slot, first, second):
     """Runs one node; what it lacks or breaks is an error."""
     tag = slot[0]
@@ -98,6 +114,8 @@ def put_node(stack, slot, first, second):
     elif tag == 7:
         constant = read_constant(slot, second)
         stack.append(Value(kept_name(is_property_name, first), COMPARATORS[slot[1]], constant))
+    elif tag == 8:
+        stack.append(read_link(slot, first, second))
     else:
         raise ValueError
 

@@ -1,5 +1,5 @@
 """Random query texts, most of them accepted for the register that they are drawn from, and selecting some of its pages."""
-from random_registers import CATEGORIES, NAMES, PLAIN_VALUES, damaged
+from random_registers import CATEGORIES, KNOWN, NAMES, NAMESPACES, PLAIN_VALUES, damaged
 from respell import retyped, spelled
 from values import read_value
 
@@ -19,7 +19,7 @@ FAULTY = {
 
 
 class Writer:
-    """Writes queries of what the pages of a register hold: names, categories, values, and links that lead to its pages.
+    """Writes queries of what the pages of a register hold: names, categories, values, and links, to its pages and to none.
 
     What is written for a page selects it, unless a term strays."""
 
@@ -93,19 +93,22 @@ class Writer:
     def identifier(self, page):
         if self.rng.random() < 0.15:
             return self.spaced(page.namespace, b':', b'+')
-        return self.reference(page)
+        return self.reference(page[:2])
 
-    def reference(self, page):
-        name = self.rng.choice([page.name, page.name, self.page().name, self.rng.choice(NAMES)])
-        comparator = self.comparator(page.name, name)
-        written = comparator == b'' or self.rng.random() < 0.4
-        return comparator + self.blank() + (spelled(self.rng, (b'page', (page.namespace, name))) if written else name)
+    def reference(self, identifier):
+        """One that a page or a link of that namespace and name meets."""
+        namespace, article = identifier
+        name = self.rng.choice([article, article, self.page().name, self.rng.choice(NAMES)])
+        comparator = self.comparator(article, name)
+        written = comparator == b'' or self.rng.random() < 0.5
+        namespace = self.rng.choice([namespace, *NAMESPACES]) if comparator == b'!' else namespace
+        return comparator + self.blank() + (spelled(self.rng, (b'page', (namespace, name))) if written else name)
 
     def comparator(self, one, other):
         """Some comparator by which the one stands to the other."""
         if one == other:
             return self.rng.choice([b'', b'', b'', b'>', b'<'])
-        return self.rng.choice([b'!', b'>', b'>>'] if one > other else [b'!', b'<', b'<<'])
+        return self.rng.choice([b'!', b'>', b'>>', b'>>'] if one > other else [b'!', b'<', b'<<', b'<<'])
 
     def property(self, names, prop, value, depth, width):
         alternatives = self.several(self.alternative(value, depth, width), lambda: self.alternative(self.value(value[0]), depth, width))
@@ -114,18 +117,18 @@ class Writer:
     def value(self, kind):
         if kind != b'page':
             return read_value(kind, self.rng.choice(PLAIN_VALUES[kind]))
-        page = self.page()
-        return kind, (page.namespace, page.name)
+        return kind, self.rng.choice([self.page()[:2], self.page()[:2], self.rng.choice(KNOWN)])
 
     def alternative(self, value, depth, width):
         """One that the value meets."""
         kind, what = value
         page = self.linked(value)
-        if self.rng.random() < 0.1 or kind == b'page' and page is None:
+        if self.rng.random() < 0.1:
             return b'+'
-        if page:
-            inner = depth and self.rng.random() < 0.5
-            return b'<q>' + self.query(page, depth - 1, width // 2) + b'</q>' if inner else self.reference(page)
+        if page and depth and self.rng.random() < 0.5:
+            return b'<q>' + self.query(page, depth - 1, width // 2) + b'</q>'
+        if kind == b'page':
+            return self.reference(what)
         constant = self.rng.choice([value, self.value(kind), self.value(kind)])
         return self.comparator(what, constant[1]) + self.blank() + spelled(self.rng, constant)
 
@@ -142,9 +145,10 @@ class Writer:
         """Near 256 nodes."""
         names = [page.name for page in self.register.pages if page.namespace == b'' and len(page.name) < 5]
         name, namespace = self.rng.choice(names or [b'a']), self.page().namespace
-        pieces = (name, 64), (b'!%s' % name, 128), (b'>%s' % name, 64), (b'%s:+' % namespace, 128), (b'P::%s' % name, 51)
-        piece, count = self.rng.choice(pieces)
-        text = b'[[%s]]' % piece * (count + self.rng.choice([-1, 0, 0, 1]))
+        more = self.rng.choice([-1, 0, 0, 1])
+        pieces = (name, 64), (b'!%s' % name, 128), (b'>%s' % name, 64), (b'%s:+' % namespace, 128), (b'P::<q>[[%s]]</q>' % name, 51)
+        texts = [b'[[%s]]' % piece * (count + more) for piece, count in pieces]
+        text = self.rng.choice([*texts, b'[[P::%s]]' % b'||'.join([name] * (128 + more))])
         return text + self.rng.choice([b'', b'[[P::c]]', b'[[!b]]', b'[[S::x]]', b'[[P.Q::a]]', b' OR [[!a]]', b' OR [[P::%s]]' % name])
 
 

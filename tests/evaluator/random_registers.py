@@ -35,10 +35,10 @@ def reference(rng):
 
 
 def value(rng, kind, names):
-    """A text of that kind, links mostly to pages of these names."""
+    """A text of that kind; most links go to pages of these names, and others mostly to no page."""
     if kind != b'page':
         return rng.choice(PLAIN_VALUES[kind])
-    return spelled(rng, (kind, rng.choice(names))) if rng.random() < 0.85 else reference(rng)
+    return spelled(rng, (kind, rng.choice(names))) if rng.random() < 0.75 else reference(rng)
 
 
 def form(rng, props, names):

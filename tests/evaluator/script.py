@@ -13,6 +13,7 @@ from register import register_call
 
 TEXTS = 'RrQq'
 ROOM = 256
+MOST_SCRIPT = 131072  # what the program has room for
 
 
 def steps():
@@ -58,6 +59,7 @@ def script():
             out += b'%s%d\n%s\n' % (letter.encode(), len(text), text)
         else:
             out += b'%s%d\n' % (letter.encode(), what)
+    assert len(out) < MOST_SCRIPT
     return bytes(out)
 
 

@@ -7,6 +7,7 @@ import generate
 import query_form
 from cases import SAMPLE, cases
 from forms_test import Tally, register_from
+from odd_queries import odd_queries, written
 from odd_trees import odd_trees
 from query import fit_call, query_call
 from reading import read_query
@@ -57,17 +58,30 @@ def spellings(tally):
 
 
 def query_by_hand(tally):
-    core = query_call(register_from(SAMPLE), b'[[Lot::>A7]] OR [[Crates::-3]] [[Brought by::Talk:D]]')[1]
+    core = query_call(register_from(SAMPLE), b'[[Lot::>A7]] OR [[Crates::-3]] [[Brought by::Talk:D||<q>[[Talk:D]]</q>]]')[1]
     rows = [[7, 2, 3, 0, 0, 0, 3, 0, 3, 0, 2, 0], [7, 0, 3, 0, 5, 0, 3, 0, 8, 0, 2, 0], [1], [7, 0, 1, 0, 10, 0, 6, 0, 0, 0, 0, 0],
-            [3, 0, 0, 0, 16, 0, 4, 0], [6, 0, 0, 0, 0, 0, 0, 0, 20, 0, 1, 0], [0], [5, 0, 0, 0, 21, 0, 10, 0], [0], [1]]
+            [8, 0, 5, 0, 16, 0, 14, 0, 30, 0, 1, 0], [3, 0, 0, 0, 31, 0, 4, 0], [6, 0, 0, 0, 0, 0, 0, 0, 35, 0, 1, 0], [0],
+            [5, 0, 0, 0, 36, 0, 10, 0], [1], [0], [1]]
     number = (10 ** 15 - 3).to_bytes(8, 'little')
     placed = [(query_form.NODES + query_form.NODE * at, bytes(row)) for at, row in enumerate(rows)]
     wanted = laid(query_form.SIZE, (0, bytes([len(rows)])), *placed, (query_form.NODES + query_form.NODE * 3 + 12, number),
-                  (query_form.HEAP, b'LotA7LotA7CratesTalkDBrought by'))
+                  (query_form.HEAP, b'LotA7LotA7CratesBrought byTalkDTalkDBrought by'))
     tally.want('a held query', query_form.held_query(core) == wanted)
     tally.want('a held query, one byte short', query_form.read_query(wanted[:-1]) is None)
     tally.want('a held query, one byte more', query_form.read_query(wanted + b'x') == core)
     tally.want('unused bytes are not read', query_form.read_query(laid(query_form.SIZE, (0, wanted), (query_form.HEAP - 1, b'\1'))) == core)
+
+
+def links_stated(tally):
+    """Links that are laid by hand: what is read of the bytes, that it reads back from its form, and that what a text gives is written so."""
+    for label, core, held in odd_queries():
+        found = query_form.read_query(held)
+        tally.want(f'{label}: not {core}', repr(found) == repr(core))
+        if found:
+            tally.want(f'{label}: no round trip', repr(query_form.read_query(query_form.held_query(found))) == repr(found))
+    for label, core, held in written():
+        if core:
+            tally.want(f'{label}: not written so', query_form.held_query(core) == held)
 
 
 def stated(tally):
@@ -162,6 +176,7 @@ def main(words):
     trees_by_hand(tally)
     spellings(tally)
     query_by_hand(tally)
+    links_stated(tally)
     stated(tally)
     round_trips(tally, seed)
     every_byte(tally)

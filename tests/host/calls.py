@@ -35,7 +35,7 @@ def damaged_query(rng, held, end):
     for _ in range(rng.choice([1, 1, 2, 3])):
         places = rng.randrange(2), rng.randrange(end), query_form.NODES + rng.randrange(120), query_form.HEAP + rng.randrange(60)
         at = rng.choice([*places, rng.randrange(len(held))])
-        held[at] = rng.choice([rng.randrange(256), held[at] ^ (1 << rng.randrange(8)), rng.randrange(9), (held[at] + 1) % 256])
+        held[at] = rng.choice([rng.randrange(256), held[at] ^ (1 << rng.randrange(8)), rng.randrange(10), (held[at] + 1) % 256])
     return bytes(held)
 
 

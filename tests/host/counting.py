@@ -1,9 +1,10 @@
-"""What drawn cases come to: how often each call answers each number, a join is over each limit, a query selects pages, and names are typed in two
-spellings."""
+"""What drawn cases come to: how often each call answers each number, a join is over each limit, a query selects pages, a link counts that leads to
+no page, and names are typed in two spellings."""
 from collections import Counter
 
 from records import query_call, register_call  # finds the evaluator
 from ask import selected
+from drawn_links import WAYS, links_of
 from join import all_of_both
 from register import limits_passed
 from typed_names import in_query, in_register, in_two_spellings, marked
@@ -15,12 +16,13 @@ LIMITS = ['properties', 'pages', 'forms', 'bytes']
 # Names are typed with combining marks in one place and composed in another, or in 64 bytes with such marks, or are not composed in a held form
 # and refused by the number there.
 DRAWN = {'register': [*range(8)], 'read': READ, 'query': [0, *range(12, 20)], 'join': [0, 7, 32], 'over': LIMITS,
-         'marks': ['all', 'none', 'some'], 'nested': ['none', 'some'],
+         'marks': ['all', 'none', 'some'], 'nested': ['none', 'some'], 'links': ['no page', 'none', 'page'], 'links to no page': WAYS,
          'two spellings': ['in a join', 'in a query and its register', 'in a register', 'in a tree'],
          '64 bytes with marks': ['in a query', 'in a register'], 'uncomposed': [11, 21, 22, 34]}
 # At least so many in a hundred: of the queries accepted for a register and run on it, those that mark some of its pages and not all; of the
-# subqueries that are inside another in the core queries of these (so a chain and a link are subqueries too), those that select a page of it.
-SHARES = {('marks', 'some'): 50, ('nested', 'some'): 25}
+# subqueries that are inside another in the core queries of these (so a chain is subqueries too), those that select a page of it; of the link
+# nodes in them, those that a link to no page satisfies.
+SHARES = {('marks', 'some'): 50, ('nested', 'some'): 45, ('links', 'no page'): 20}
 FEWEST_CASES = 2000  # with fewer, something rare may not be drawn
 
 
@@ -33,11 +35,16 @@ def joins_drawn(first, second, number):
 
 
 def runs_drawn(first, query, marks):
-    """An accepted query, which is run on its register: what it marks, and what the subqueries inside others select."""
+    """An accepted query, which is run on its register: what it marks, what the subqueries inside others select, and what its links name."""
     yield 'marks', 'none' if '1' not in marks else 'some' if '0' in marks else 'all'
     register, subqueries = register_call(first)[1], []
-    selected(query_call(register, query)[1], register, subqueries)
+    core = query_call(register, query)[1]
+    selected(core, register, subqueries)
     yield from (('nested', 'some' if pages else 'none') for inside, pages in subqueries if inside)
+    for way, named in links_of(core, register):
+        yield 'links', named
+        if named == 'no page':
+            yield 'links to no page', way
 
 
 def names_drawn(texts, words):

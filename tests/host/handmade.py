@@ -1,13 +1,16 @@
 """Records that are made and not drawn: stated answers, edges, pairs of faults, and held queries that no text gives."""
+from functools import reduce
 from itertools import permutations
 
 from records import ask_case, case, held_register, query_case, register_case  # finds the evaluator
 import cases
 import query_form
-from core import And, Article, Existence, InNamespace, Or, Subquery, Value
+from core import And, Article, Existence, InNamespace, Link, Or, Subquery, Value
 from form import SIZE
+from odd_queries import odd_queries
 from query import query_call
 from register import register_call
+from spellings import wanting
 
 SAMPLE = cases.SAMPLE.encode()
 HELD_SAMPLE = held_register(SAMPLE)
@@ -70,27 +73,30 @@ def fault_sets():
 def chains():
     """A chain's names in every order, where only one order leads on."""
     register = b'(prop "P" page)\n(prop "Q" page)\n(prop "R" page)\n(page "" "a" (val "P" "b"))\n(page "" "b" (val "Q" "c"))\n'
-    register += b'(page "" "c" (val "R" "d"))\n(page "" "d" (val "R" "a"))\n'
+    register += b'(page "" "c" (val "R" "d") (val "R" "no page"))\n(page "" "d" (val "R" "a") (val "Q" "no page"))\n'
     for names in permutations((b'P', b'Q', b'R')):
-        yield from (case(register, b'[[%s::%s]]' % (b'.'.join(names), piece), SAMPLE) for piece in (b'd', b'a', b'+', b'!x'))
+        yield from (case(register, b'[[%s::%s]]' % (b'.'.join(names), piece), SAMPLE) for piece in (b'd', b'a', b'+', b'!x', b'no page'))
 
 
 def by_hand():
     """Core queries that no text gives, and node counts round 256."""
     links = (b'Brought by', b'In region')
-    article, right, left, deep = Article('=', b'D1'), Article('=', b'D1'), Article('=', b'D1'), InNamespace(b'')
-    for count in range(1, 258):
-        if count < 9 or count > 250:
-            yield ask_case(query_form.held_query(deep), HELD_SAMPLE, 6)
-        deep = Subquery(links[count % 2], deep)
-    for count in range(128):
-        right, left = And(article, right), Or(left, article)
-        if count < 4 or count > 124:
-            yield from (ask_case(query_form.held_query(core), HELD_SAMPLE, 6) for core in (right, left))
-    yield ask_case(query_form.held_query(And(right.right, Subquery(links[0], Existence(links[0])))), HELD_SAMPLE, 6)
+    for deep in (InNamespace(b''), Link(links[1], b'', (None, b'East'))):
+        for count in range(1, 258):
+            if count < 9 or count > 250:
+                yield ask_case(query_form.held_query(deep), HELD_SAMPLE, 6)
+            deep = Subquery(links[count % 2], deep)
+    for one in (Article('=', b'D1'), Link(links[1], b'<', (b'', b'East'))):
+        right = left = one
+        for count in range(128):
+            right, left = And(one, right), Or(left, one)
+            if count < 4 or count > 124:
+                yield from (ask_case(query_form.held_query(core), HELD_SAMPLE, 6) for core in (right, left))
+        yield ask_case(query_form.held_query(And(right.right, Subquery(links[0], Existence(links[0])))), HELD_SAMPLE, 6)
 
 
-ALL_NODES = b'[[Category:Delivery]] [[!a]] OR [[Crates::12]] OR [[Chilled::no]] OR [[Lot::A7]] OR [[Brought by::<q>[[In region::+]] [[:+]]</q>]]'
+ALL_NODES = (b'[[Category:Delivery]] [[!a]] OR [[Crates::12]] OR [[Chilled::no]] OR [[Lot::A7]] OR [[Brought by::<q>[[In region::+]] [[:+]]</q>]]'
+             b' OR [[In region:::East||!Talk:North]]')
 
 
 def field_edits():
@@ -98,12 +104,12 @@ def field_edits():
     form = form_of(ALL_NODES)
     ends = query_form.NODES + query_form.NODE * int.from_bytes(form[:2], 'little'), len(form.rstrip(b'\0'))
     for at in [*range(ends[0]), *range(query_form.HEAP, ends[1] + 1)]:
-        for byte in {0, 1, 2, 3, 4, 8, 255, form[at] + 1, abs(form[at] - 1)} - {form[at]}:
+        for byte in {0, 1, 2, 3, 4, 8, 9, 255, form[at] + 1, abs(form[at] - 1)} - {form[at]}:
             yield ask_case(form[:at] + bytes([byte % 256]) + form[at + 1:], HELD_SAMPLE, 6)
 
 
 def heap_edges():
-    """Strings at the end of the heap and past it, where they are cut, and a heap that is full."""
+    """Strings at the end of the heap and past it, where they are cut, and full heaps: 128 links have the most."""
     for tag, content in ((2, b'Delivery'), (3, b'Talk'), (4, b'Crates'), (6, b'D1')):
         for start in (query_form.MOST_HEAP - len(content), query_form.MOST_HEAP - 1, query_form.MOST_HEAP, 65535):
             for length in (len(content) - 1, len(content), len(content) + 1, 65535):
@@ -111,13 +117,21 @@ def heap_edges():
                 row = bytes([tag]).ljust(at, b'\0') + query_form.two(start) + query_form.two(length)
                 yield ask_case(query_form.two(1) + row.ljust(query_form.SIZE - 2 - len(content), b'\0') + content, HELD_SAMPLE, 6)
     name = b'p' * 64
-    full = Value(name, '=', (b'string', b'v' * 64))
-    for _ in range(255):
-        full = Subquery(name, full)
-    held = query_form.held_query(full)
-    yield from (ask_case(one, HELD_SAMPLE, 6) for one in (held, held[:-1] + b'~', held[:-1] + b'"', held + b'x'))
+    links = Subquery(name, reduce(And, [Link(name, b'>', (b'q' * 64, b'r' * 64))] * 128))
+    chain = reduce(lambda inner, _: Subquery(name, inner), range(255), Value(name, '=', (b'string', b'v' * 64)))
+    for held in map(query_form.held_query, (links, chain)):
+        last = len(held.rstrip(b'\0')) - 1
+        for at, byte, refusal in ((last, b'~', 0), *((last - 64 * more, b'"', 21) for more in range(4)), (len(held), b'x', 0)):
+            yield wanting(ask_case(held[:at] + byte + held[at + 1:], HELD_SAMPLE, 6), refusal)
+
+
+def link_forms():
+    """Held queries of links, laid by hand, on a register with such links."""
+    pages = b'(page "" "a" (val "P" "D1"))\n(page "" "b" (val "P" "Talk:D1"))\n(page "" "c" (val "P" "D2") (val "P" "T:D0"))\n'
+    held = held_register(b'(prop "P" page)\n' + pages)
+    yield from (wanting(ask_case(query, held, 3), 0 if core else 21) for _, core, query in odd_queries())
 
 
 def handmade():
-    for some in (edges, fault_sets, chains, by_hand, field_edits, heap_edges):
+    for some in (edges, fault_sets, chains, by_hand, field_edits, heap_edges, link_forms):
         yield from some()

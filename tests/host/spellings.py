@@ -5,7 +5,7 @@ from records import ask_case, case, fit_case, held_register, join_case, query_ca
 import query_form
 import tree_form
 from accents import BAKERIES_TYPED, LONG, WAYS, bakeries, held_names, typed, utf8
-from core import Article, Category, Existence, InNamespace, Subquery, Value
+from core import Article, Category, Existence, InNamespace, Link, Subquery, Value
 from damage import uncomposed, uncomposed_register
 from form import SIZE, encode
 from query import query_call
@@ -115,12 +115,13 @@ def held_queries():
     held = held_register(b'(prop "S" string)\n(page "" "a" (val "S" "a\xcc\x88"))\n')
     for name, kept in held_names():
         for core in (Category(name), InNamespace(name), Existence(name), Subquery(name, InNamespace(b'')), Article('>', name),
-                     Value(name, '=', (b'number', 1))):
+                     Value(name, '=', (b'number', 1)), Link(name, b'<', (b'T', b'a')), Link(b'P', b'!', (name, b'a')), Link(b'P', b'', (None, name))):
             yield wanting(ask_case(query_form.held_query(core), held, 256), 0 if kept else 21)
         yield wanting(ask_case(query_form.held_query(Value(b'S', '<', (b'string', name))), held, 256), 0 if len(name) <= 64 else 21)
-    accented = query_form.held_query(Article('!=', text_of('NFC', 'aéſ')))
-    for at, byte in product(range(query_form.HEAP, len(accented.rstrip(b'\0'))), range(256)):
-        yield ask_case(accented[:at] + bytes([byte]) + accented[at + 1:], held, 256)
+    accented = text_of('NFC', 'aéſ')
+    for form in map(query_form.held_query, (Article('!=', accented), Link(b'\xc3\xa9', b'!', (accented, accented)))):
+        for at, byte in product(range(query_form.HEAP, len(form.rstrip(b'\0'))), range(256)):
+            yield ask_case(form[:at] + bytes([byte]) + form[at + 1:], held, 256)
 
 
 def uncomposed_forms(rng, first, query):

@@ -58,7 +58,8 @@ def nine_registers():
     texts += [SAMPLE.replace(b'"Chilled" boolean', b'"Chilled" string'), SAMPLE.replace(b'"Lot" string', b'"Lot" page')]
     joined = encode(join(*(register_call(text)[1] for text in (SAMPLE, cases.TABLE.encode()))))
     forms = [*map(held_register, texts), joined]
-    for text in (ALL_NODES, b'[[Crates::12]] OR [[Lot::A7]]', b'[[Brought by.In region::North]]', b'[[!a]]', b'[[Has population::>1]]', b'[[Lot::>a:b]]'):
+    for text in (ALL_NODES, b'[[Crates::12]] OR [[Lot::A7]]', b'[[Brought by.In region::North]]', b'[[In region::>Talk:East||!:x]]', b'[[!a]]',
+                 b'[[Has population::>1]]', b'[[Lot::>a:b]]'):
         yield from (fit_case(tree_of(text), held, QUERY) for held in forms)
 
 
@@ -75,7 +76,7 @@ def respellings():
 def long_strings():
     """Held queries of up to 256 nodes whose names and strings are long."""
     name = b'p' * 64
-    for kind, piece in ((b'string', b'>%011d'), (b'string', b'%05d'), (b'number', b'<%09d'), (b'page', b'!:x%d'), (b'page', b'>T:%d')):
+    for kind, piece in ((b'string', b'>%011d'), (b'string', b'%05d'), (b'number', b'<%09d'), (b'page', b'!:x%d'), (b'page', b'>T:%d'), (b'page', b'<<%d')):
         register = b'(prop "%s" %s)\n(page "" "a")\n' % (name, kind)
         for count in (1, 31, 32, 42, 43, 63, 64, 65, 128, 129):
             text = b'[[%s::%s]]' % (name, b'||'.join(piece % number for number in range(count)))

@@ -7,6 +7,7 @@ import sys
 from library import Library  # finds the evaluator
 import cases
 import generate
+import link_nodes
 import query_form
 import spellings
 import tree_form
@@ -17,6 +18,7 @@ from form import SIZE, decode, encode
 from forms_test import Tally, sized
 from join import join
 from odd_forms import odd_forms
+from odd_queries import odd_queries
 from odd_trees import odd_trees
 from query import fit_call, query_call
 from reading import read_query
@@ -134,6 +136,19 @@ def tree_edges(tally, library):
         tally.want(f'{label} is stated', (found[0] != 34) == is_tree)
 
 
+def link_edges(tally, library):
+    """Link nodes: held queries that are written by hand, and every comparator, asked of links to pages and to none."""
+    registers = [(register, encode(register)) for register in link_nodes.registers()]
+    stated = [(label, core is not None, query) for label, core, query in odd_queries()]
+    stated += [(f'{nodes} nodes', nodes == 256, query) for nodes, query in link_nodes.longest()]
+    for label, is_query, query in stated:
+        tally.want(f'{label} is stated', (library.ask(query, bytes(SIZE), 0)[0] != 21) == is_query)
+        compare_held_query(tally, library, query, *registers[0], label)
+    for core in link_nodes.links():
+        for register, held in registers:
+            compare_ask(tally, library, core, query_form.held_query(core), register, held, core)
+
+
 def name_edges(tally, library):
     """Names as typed and as held, by themselves and in every place."""
     kinds = [(b'P', b'page'), (b'S', b'string'), ('\u00e4'.encode(), b'number')]
@@ -158,6 +173,7 @@ def name_edges(tally, library):
 def edges(tally, library):
     """Forms that are written by hand, limits of a join and of a form, and registers that no text gives."""
     tree_edges(tally, library)
+    link_edges(tally, library)
     name_edges(tally, library)
     for label, is_form, held in odd_forms():
         tally.want(f'{label} is stated', library.is_register(held) == is_form)

@@ -13,5 +13,5 @@ def damaged_query(rng, held):
     held = bytearray(held)
     for _ in range(rng.choice([1, 1, 1, 2, 3])):
         at = some_place(rng, held)
-        held[at] = rng.choice([rng.randrange(256), held[at] ^ (1 << rng.randrange(8)), (held[at] + 1) % 256, rng.randrange(9)])
+        held[at] = rng.choice([rng.randrange(256), held[at] ^ (1 << rng.randrange(8)), (held[at] + 1) % 256, rng.randrange(10)])
     return bytes(held)

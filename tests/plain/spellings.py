@@ -1,7 +1,7 @@
 """Names as bytes, most of them breaking the name rule by one thing, and where they stand in texts and held forms."""
 import library  # finds the evaluator
 import query_form
-from core import Article, Category, Existence, InNamespace, Subquery, Value
+from core import Article, Category, Existence, InNamespace, Link, Subquery, Value
 from register import page_of, register_of
 from tree_form import BARE, CATEGORY, EXISTS, NAMESPACE, PROPERTY, QUALIFIED, VALUE, Node, lay
 from values import MARKS
@@ -37,7 +37,8 @@ def trees(name):
 def queries(name):
     """The same of held queries; of a value it is a string."""
     for core in (Category(name), InNamespace(name), Existence(name), Subquery(name, InNamespace(b'')), Article('>', name),
-                 Value(name, '=', (b'number', 1)), Value(b'S', '<', (b'string', name))):
+                 Value(name, '=', (b'number', 1)), Value(b'S', '<', (b'string', name)), Link(name, b'', (None, b'x')), Link(b'P', b'>', (name, b'x')),
+                 Link(b'P', b'!', (None, name))):
         yield query_form.held_query(core)
 
 
