@@ -19,16 +19,18 @@ static const char SCHEMA[] =
     "CREATE TABLE pages (place INTEGER PRIMARY KEY, namespace TEXT, name TEXT);"
     "CREATE TABLE categories (place INTEGER, name TEXT);"
     "CREATE TABLE vals (place INTEGER, prop TEXT, number INTEGER, string TEXT);"
-    "CREATE TABLE links (place INTEGER, prop TEXT, target INTEGER);"
+    "CREATE TABLE links (place INTEGER, prop TEXT, target INTEGER, namespace TEXT, name TEXT);"
     "CREATE INDEX pages_name ON pages (name, namespace);"
     "CREATE INDEX categories_name ON categories (name, place);"
     "CREATE INDEX vals_prop ON vals (prop, number);"
+    "CREATE INDEX vals_string ON vals (prop, string, place);"
     "CREATE INDEX vals_place ON vals (place, prop, number);"
+    "CREATE INDEX links_name ON links (prop, name, namespace, place);"
     "CREATE INDEX links_place ON links (place, prop, target);";
 
 static const char *const INSERTS[] = {
     "INSERT INTO pages VALUES (?, ?, ?)", "INSERT INTO categories VALUES (?, ?)", "INSERT INTO vals VALUES (?, ?, ?, ?)",
-    "INSERT INTO links VALUES (?, ?, ?)"};
+    "INSERT INTO links VALUES (?, ?, ?, ?, ?)"};
 enum { PAGES_TABLE, CATEGORIES, VALS, LINKS, TABLES };
 
 static void need(struct base *base, int got, int wanted) {
@@ -47,10 +49,19 @@ static void insert(struct base *base, sqlite3_stmt *s, int place) {
     sqlite3_reset(s);
 }
 
-/* The place of the page that a link names, or -1. */
-static int target_of(const struct lines *l, const struct inner_form *link) {
+/* The place of the page that a link names, or null, and what it names. */
+static void bind_link(sqlite3_stmt *s, const struct lines *l, const struct inner_form *link) {
     unsigned x = find_text(&l->names, link->name, link->value);
-    return x == 0 ? -1 : l->names.page[x - 1] - 1;
+    int target = x == 0 ? -1 : l->names.page[x - 1] - 1;
+    if (target < 0) sqlite3_bind_null(s, 3);
+    else sqlite3_bind_int(s, 3, target);
+    bind_text(s, 4, link->name);
+    bind_text(s, 5, link->value);
+}
+
+static void bind_value(sqlite3_stmt *s, enum kind kind, const struct inner_form *form) {
+    sqlite3_bind_int64(s, 3, kind == STRING ? 0 : kind == BOOLEAN ? (int64_t)form->code : (int64_t)(form->code - BIAS));
+    bind_text(s, 4, form->value);
 }
 
 static void insert_form(struct base *base, sqlite3_stmt *const into[TABLES], const struct lines *l, const struct inner_form *form, int place) {
@@ -61,11 +72,9 @@ static void insert_form(struct base *base, sqlite3_stmt *const into[TABLES], con
     }
     enum kind kind = l->prop[form->prop].kind;
     sqlite3_stmt *s = into[kind == PAGE ? LINKS : VALS];
-    int target = kind == PAGE ? target_of(l, form) : 0;
     bind_text(s, 2, l->prop[form->prop].name);
-    if (target < 0) sqlite3_bind_null(s, 3);
-    else sqlite3_bind_int64(s, 3, kind == PAGE ? target : kind == STRING ? 0 : kind == BOOLEAN ? (int64_t)form->code : (int64_t)(form->code - BIAS));
-    if (kind != PAGE) bind_text(s, 4, form->value);
+    if (kind == PAGE) bind_link(s, l, form);
+    else bind_value(s, kind, form);
     insert(base, s, place);
 }
 

@@ -4,8 +4,7 @@
 
 #include "bench.h"
 
-/* More batches than elsewhere: a tenth is asked of the ratio. */
-enum { OLD, NEW, LIBRARIES, MOST_PAIRS = 64, PAIR_BATCHES = 63 };
+enum { OLD, NEW, LIBRARIES, MOST_PAIRS = 64 };
 static const struct calls *const library[LIBRARIES] = {&calls_before, &calls_of[PROVED]};
 
 /* A row of the table, and the most that its ratio may be; 0 where nothing is asked of it. */
@@ -31,7 +30,7 @@ static void time_pair(struct row row, double most, void (*run)(const struct work
 static void check_same(const struct work w[LIBRARIES]) {
     uint8_t marks[LIBRARIES][MARK_BYTES] = {{0}};
     int32_t counts[LIBRARIES];
-    for (int i = 0; i < LIBRARIES; i++) counts[i] = w[i].calls->ask(w[i].query, QUERY_BYTES, w[i].held, w[i].calls->held, marks[i], MARK_BYTES);
+    for (int i = 0; i < LIBRARIES; i++) counts[i] = ask_marks(&w[i], marks[i]);
     if (counts[OLD] < 0 || counts[OLD] != counts[NEW] || memcmp(marks[OLD], marks[NEW], MARK_BYTES) != 0) stop("the marks differ");
 }
 

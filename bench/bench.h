@@ -6,7 +6,7 @@
 #include <stdint.h>
 
 /* HELD_BYTES is room for any implementation's held register, QUERY_BYTES for its held query. */
-enum { QUESTIONS = 4, MARK_BYTES = 256, HELD_BYTES = 65536, TREE_BYTES = 5112, QUERY_BYTES = 21570, MOST_TEXT_BYTES = 32768 };
+enum { QUESTIONS = 6, MARK_BYTES = 256, HELD_BYTES = 65536, TREE_BYTES = 5112, QUERY_BYTES = 29794, MOST_TEXT_BYTES = 32768 };
 
 struct register_text {
     uint8_t at[MOST_TEXT_BYTES + 1];
@@ -49,6 +49,8 @@ struct question {
 
 /* Of the sample register, or of the full one. */
 void write_questions(int full, struct question out[QUESTIONS]);
+/* The full register's link, and the same text where that property has strings. */
+void write_link_and_string(struct question out[2]);
 
 /* A database in memory with the pages of a register text. Each of these ends the program where SQLite refuses. */
 struct base;
@@ -70,6 +72,8 @@ struct work {
     struct statement *statement;
 };
 
+/* What an ask marks, and how many. */
+int32_t ask_marks(const struct work *w, uint8_t marks[MARK_BYTES]);
 /* One run of a call on these. */
 void make_register(const struct work *w);
 void make_query(const struct work *w);
@@ -95,6 +99,8 @@ struct row {
     double us[COLUMNS];
 };
 
+/* Where a ratio of two is wanted there are more batches than elsewhere. */
+enum { PAIR_BATCHES = 63 };
 /* Times those that run, batch by batch in turn: microseconds. */
 void time_in_turn(void (*run)(const struct work *), const struct work *w, const int *runs, int count, int batches, double *us);
 /* Times the columns that run, fills the row in and prints it. */
@@ -121,6 +127,10 @@ void print_stacks(const struct stacks *stacks);
 void print_before_head(void);
 void time_before(const char *subject, const struct register_text *text, const struct question *questions, size_t count, double most);
 void figures_before(void);
+
+/* A link asked of one register, and a string of the same bytes of another that has strings for its links. */
+void time_links(const struct register_text *links, const struct register_text *strings);
+void figure_of_links(void);
 
 /* What is asked of the times and stacks, and whether it is met. */
 void print_figures(const struct stacks *stacks);

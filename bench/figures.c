@@ -76,6 +76,7 @@ void print_figures(const struct stacks *stacks) {
     figure_of_worst(ASK, "asks of the worst inputs beside the full register's of a category", row_at("full", ASK, "category"), 6);
     figure_of_worst(REGISTER, "register calls on the worst inputs beside the full register's", row_at("full", REGISTER, NULL), 4);
     figure_of_worst(JOIN, "joins of the worst inputs beside the full register's", row_at("full", JOIN, NULL), 4);
+    figure_of_links();
     figure_of_stacks(stacks);
     figures_before();
     printf("\n%d figures missed", missed);

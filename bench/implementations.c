@@ -18,7 +18,7 @@ int32_t first_register(const uint8_t *, size_t, uint8_t *, size_t);
 int32_t first_query(const uint8_t *, size_t, const uint8_t *, size_t, uint8_t *, size_t);
 int32_t first_ask(const uint8_t *, size_t, const uint8_t *, size_t, uint8_t *, size_t);
 
-/* The library before it composed names; its held forms are as large as now. */
+/* The library before it composed names; its held register is as large as now, and its held query smaller. */
 int32_t before_register(const uint8_t *, size_t, uint8_t *, size_t);
 int32_t before_query(const uint8_t *, size_t, const uint8_t *, size_t, uint8_t *, size_t);
 int32_t before_ask(const uint8_t *, size_t, const uint8_t *, size_t, uint8_t *, size_t);

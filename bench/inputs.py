@@ -1,8 +1,9 @@
 """Writes the register texts of the benchmark: `inputs.py DIRECTORY`.
 
-`sample.txt`, `full.txt` and the inputs that must not be slow: `NAME.txt`, as much as one text holds, and `NAME-1.txt` and `NAME-2.txt`, which
-are joined. The full register has halves likewise. Registers full of accented names: `NAME-composed.txt`, and `NAME-typed.txt` with each
-of their letters typed as a letter and a mark; `NAME-composed-queries.txt` and `NAME-typed-queries.txt`, a query a line."""
+`sample.txt`, `full.txt`, `strings.txt`, which is the full register with strings for its links, and the inputs that must not be slow:
+`NAME.txt`, as much as one text holds, and `NAME-1.txt` and `NAME-2.txt`, which are joined. The full register has halves likewise.
+Registers full of accented names: `NAME-composed.txt`, and `NAME-typed.txt` with each of their letters typed as a letter and a mark;
+`NAME-composed-queries.txt` and `NAME-typed-queries.txt`, a query a line."""
 import os
 import string
 import sys
@@ -20,9 +21,9 @@ ACCENTED = [chr(code) for code in range(0xC0, 0x180) if unicodedata.normalize('N
 N, L, S, C, D = '\u00d1\u0139\u015a\u010d\u010f'  # what the full register names N, L, S, c and d
 
 
-def full_register(places=range(256)):
+def full_register(places=range(256), links='page'):
     """256 pages and 2,048 forms. The links under L lead from each page to another, so that a chain always goes on."""
-    lines = ['(prop "N" number)\n', '(prop "L" page)\n', '(prop "S" string)\n']
+    lines = ['(prop "N" number)\n', f'(prop "L" {links})\n', '(prop "S" string)\n']
     for i in places:
         forms = f' (cat "c{i % 8}") (cat "d{i % 3}") (val "N" "{i}") (val "L" "p{i * 7 % 256}")'
         forms += ''.join(f' (val "S" "{(i + k) % 10}")' for k in range(4))
@@ -127,6 +128,7 @@ def texts():
     """(name, text)"""
     yield 'sample', SAMPLE
     yield 'full', full_register()
+    yield 'strings', full_register(links='string')
     yield 'values', short_values()
     yield 'categories', short_categories()
     yield 'names', names(range(256), links=169)

@@ -21,11 +21,8 @@ static struct row row_of(const struct subject *on, enum call call) { return (str
 static int check_same(const struct work w[COLUMNS], const int runs[COLUMNS]) {
     uint8_t marks[COLUMNS][MARK_BYTES] = {{0}};
     int32_t counts[COLUMNS] = {0};
-    for (int i = 0; i < COLUMNS; i++) {
-        if (!runs[i]) continue;
-        counts[i] = i == SQLITE ? statement_run(w[i].statement, marks[i])
-                                : w[i].calls->ask(w[i].query, QUERY_BYTES, w[i].held, w[i].calls->held, marks[i], MARK_BYTES);
-    }
+    for (int i = 0; i < COLUMNS; i++)
+        if (runs[i]) counts[i] = ask_marks(&w[i], marks[i]);
     for (int i = 0; i < COLUMNS; i++)
         if (runs[i] && (counts[i] != counts[PLAIN] || memcmp(marks[i], marks[PLAIN], MARK_BYTES) != 0)) stop("the marks differ");
     return counts[PLAIN];
@@ -215,11 +212,10 @@ enum { ACCENT_COUNT = sizeof ACCENTS / sizeof *ACCENTS, TEXT_COUNT = 1 + WORST_C
 static const double MOST_ON_FULL = 1.1, MOST_ON_ACCENTS = 2;
 
 static void compare_before(const struct subject *full, const struct subject accents[ACCENT_COUNT], struct question questions[][ACCENT_QUESTIONS]) {
-    struct question of_full[QUESTIONS + 1];
+    struct question of_full[QUESTIONS];
     write_questions(1, of_full);
-    of_full[QUESTIONS] = (struct question){.label = "a link", .query = "[[L::p5]]"};
     print_before_head();
-    time_before(full->name, &full->text, of_full, QUESTIONS + 1, MOST_ON_FULL);
+    time_before(full->name, &full->text, of_full, QUESTIONS, MOST_ON_FULL);
     for (int i = 0; i < ACCENT_COUNT; i++) time_before(accents[i].name, &accents[i].text, questions[i], ACCENT_QUESTIONS, MOST_ON_ACCENTS);
     putchar('\n');
 }
@@ -227,12 +223,14 @@ static void compare_before(const struct subject *full, const struct subject acce
 int main(int argc, char **argv) {
     static struct subject sample = {.name = "sample"}, full = {.name = "full"}, worst[WORST_COUNT], accents[ACCENT_COUNT];
     static struct question accent_questions[ACCENT_COUNT][ACCENT_QUESTIONS];
+    static struct register_text strings;
     const struct register_text *texts[TEXT_COUNT] = {&full.text};
     text_pair pairs[WORST_COUNT + 1] = {{&full.half[0], &full.half[1]}};
     struct stacks stacks;
     if (argc != 2) stop("give the directory of the register texts");
     read_subject(&sample, argv[1], "sample", 0);
     read_subject(&full, argv[1], "full", 1);
+    read_text(&strings, argv[1], "strings", "");
     printf("The sample register has %zu bytes, the full one %zu. ", sample.text.len, full.text.len);
     print_head();
     time_beside_sqlite(&sample, 0);
@@ -252,6 +250,7 @@ int main(int argc, char **argv) {
         texts[1 + WORST_COUNT + i] = &accents[i].text;
     }
     putchar('\n');
+    time_links(&full.text, &strings);
     if (is_before_built()) compare_before(&full, accents, accent_questions);
     measure_stacks(texts, TEXT_COUNT, pairs, WORST_COUNT + 1, &stacks);
     print_stacks(&stacks);

@@ -8,7 +8,7 @@
 
 #define PLAIN_REGISTER_BYTES 63628
 #define PLAIN_TREE_BYTES 5112
-#define PLAIN_QUERY_BYTES 21570
+#define PLAIN_QUERY_BYTES 29794
 
 int32_t plain_register(const uint8_t *text, size_t text_len, uint8_t *held, size_t held_len);
 int32_t plain_query(const uint8_t *held_register, size_t held_register_len, const uint8_t *text, size_t text_len,

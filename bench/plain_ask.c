@@ -11,7 +11,7 @@ static void add(struct set *s, unsigned page) { s->word[page / 64] |= (uint64_t)
 static bool has_mismatch(const struct core *core, const struct view *v) {
     for (size_t i = 0; i < core->count; i++) {
         const struct node *node = &core->node[i];
-        if (node->tag != VALUE && node->tag != SUBQUERY) continue;
+        if (node->tag != VALUE && node->tag != SUBQUERY && node->tag != LINK) continue;
         int p = find_prop(v, node->name);
         enum kind wanted = node->tag == VALUE ? node->constant.kind : PAGE;
         if (p >= 0 && group_start(v, (unsigned)p + 1) < v->group_end[p + 1] && kind_at(v, (unsigned)p) != wanted) return true;
@@ -48,11 +48,19 @@ static void find_terms(const struct node *node, const struct view *v, unsigned *
 
 static int order_codes(uint64_t a, uint64_t b) { return (a > b) - (a < b); }
 
+/* Whether a link's text is what a link node names, be there a page or not. */
+static inline bool refers(const struct node *node, struct span text) {
+    const struct reference *to = &node->constant.page;
+    if (!stands_as_written(order_spans(name_in(text), to->name), node->as_written)) return false;
+    return !asks_namespace(node->as_written, to->written) || same(space_in(text), to->namespace);
+}
+
 /* Whether a term is what the node wants. */
 static inline bool is_wanted(const struct node *node, const struct view *v, unsigned term, const struct set *inner) {
     uint64_t code = code_at(v, term);
     switch (node->tag) {
     case CATEGORY: case EXISTENCE: return true;
+    case LINK: return refers(node, text_at(v, (unsigned)code));
     case SUBQUERY: return v->place_of[code] > 0 && has(inner, v->place_of[code] - 1u);
     default:
         if (node->constant.kind == STRING)

@@ -29,7 +29,7 @@ static void emit_compared(struct fitter *f, enum written c, struct node node) {
 }
 
 static void emit_reference(struct fitter *f, enum written c, bool written, struct span space, struct span name) {
-    bool in_namespace = written ? c != OTHER : c == SAME;
+    bool in_namespace = asks_namespace(c, written);
     if (in_namespace) emit(f, (struct node){.tag = NAMESPACE, .name = space});
     emit_compared(f, c, (struct node){.tag = ARTICLE, .name = name});
     if (in_namespace) emit_join(f, AND);
@@ -44,12 +44,11 @@ static void emit_subquery(struct fitter *f, unsigned prop) {
 
 static void emit_piece(struct fitter *f, const struct tree_node *n, unsigned prop) {
     struct node node = {.tag = VALUE, .name = prop_name(f, prop)};
-    const struct reference *to = &node.constant.page;
     if (!read_value(kind_at(f->v, prop), n->name, &f->room, &node.constant)) {
         f->unfit = true;
     } else if (node.constant.kind == PAGE) {
-        emit_reference(f, n->comparator, to->written, to->namespace, to->name);
-        emit_subquery(f, prop);
+        node.tag = LINK, node.as_written = n->comparator;
+        emit(f, node);
     } else {
         emit_compared(f, n->comparator, node);
     }
@@ -64,7 +63,7 @@ static void emit_node(struct fitter *f, const struct tree_node *n, unsigned prop
     case BARE: case QUALIFIED: emit_reference(f, n->comparator, n->tag == QUALIFIED, n->space, n->name); break;
     case EXISTS: emit(f, (struct node){.tag = EXISTENCE, .name = prop_name(f, prop)}); break;
     case PIECE: emit_piece(f, n, prop); break;
-    case INNER: case LINK: emit_subquery(f, prop); break;
+    case INNER: case THROUGH: emit_subquery(f, prop); break;
     case PROPERTY: break;
     }
 }
@@ -74,7 +73,7 @@ static void emit_tree(struct fitter *f, size_t i, unsigned prop) {
     const struct tree_node *n = &f->tree->node[i];
     if (n->tag <= BAR) emit_tree(f, i - 1 - n->size, prop);
     if (n->tag <= BAR || n->tag == INNER) emit_tree(f, i - 1, prop);
-    if (n->tag == PROPERTY || n->tag == LINK) emit_tree(f, i - 1, prop = f->prop[i]);
+    if (n->tag == PROPERTY || n->tag == THROUGH) emit_tree(f, i - 1, prop = f->prop[i]);
     emit_node(f, n, prop);
 }
 

@@ -68,9 +68,16 @@ static inline bool stands(int order, enum comparator c) {
 }
 
 /* Surface queries: what a text says before a register is known, in postfix order, each node behind what it is made of. */
-enum tree_tag { BOTH, EITHER, BAR, CATEGORY_IS, NAMESPACE_IS, BARE, QUALIFIED, EXISTS, PIECE, INNER, PROPERTY, LINK };
-/* As it is written: `>` is AT_LEAST, `>>` is ABOVE. */
+enum tree_tag { BOTH, EITHER, BAR, CATEGORY_IS, NAMESPACE_IS, BARE, QUALIFIED, EXISTS, PIECE, INNER, PROPERTY, THROUGH };
+/* As it is written: `>` is AT_LEAST, `>>` is ABOVE. The first four are those of a core query. */
 enum written { SAME, OTHER, ABOVE, BELOW, AT_LEAST, AT_MOST };
+
+static inline bool stands_as_written(int order, enum written c) {
+    return c < AT_LEAST ? stands(order, (enum comparator)c) : c == AT_LEAST ? order >= 0 : order <= 0;
+}
+
+/* Whether a reference asks for a namespace: its own, or main where none is written. */
+static inline bool asks_namespace(enum written c, bool written) { return written ? c != OTHER : c == SAME; }
 
 struct tree_node {
     enum tree_tag tag;
@@ -94,13 +101,14 @@ void write_tree(const struct tree *tree, uint8_t *held);
 bool open_held_tree(const uint8_t *held, size_t len, struct tree *out);
 
 /* Core queries: nodes in postfix order. */
-enum node_tag { AND, OR, CATEGORY, NAMESPACE, EXISTENCE, SUBQUERY, ARTICLE, VALUE };
+enum node_tag { AND, OR, CATEGORY, NAMESPACE, EXISTENCE, SUBQUERY, ARTICLE, VALUE, LINK };
 
 struct node {
     enum node_tag tag;
     enum comparator comparator;
-    struct span name; /* category, namespace, property or article */
-    struct value constant;
+    enum written as_written; /* the comparator of a link */
+    struct span name;        /* category, namespace, property or article */
+    struct value constant;   /* of a link its reference, as a page */
 };
 
 struct core {

@@ -118,7 +118,7 @@ static bool read_property(struct reader *r, size_t split, int depth) {
         put_join(r, BAR, start);
     }
     put(r, (struct tree_node){.tag = PROPERTY, .name = names[count - 1]});
-    while (--count > 0) put(r, (struct tree_node){.tag = LINK, .name = names[count - 1]});
+    while (--count > 0) put(r, (struct tree_node){.tag = THROUGH, .name = names[count - 1]});
     return take(r, "]]");
 }
 

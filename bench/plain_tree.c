@@ -43,7 +43,7 @@ static bool read_rows(const uint8_t *held, struct tree *out) {
     for (size_t i = 0; i < out->count; i++, row += NODE_ROW) {
         unsigned tag = row[0], number = two(row + 2), space = row[4], name = row[5];
         bool compares = tag == BARE || tag == QUALIFIED || tag == PIECE;
-        if (tag > LINK || row[1] > (compares ? AT_MOST : 0) || at + space + name > HEAP_BYTES) return false;
+        if (tag > THROUGH || row[1] > (compares ? AT_MOST : 0) || at + space + name > HEAP_BYTES) return false;
         if (tag > BAR && number != (has_string((enum tree_tag)tag) ? at : 0)) return false;
         if (space > 0 && tag != NAMESPACE_IS && tag != QUALIFIED) return false;
         if (name > 0 && (tag == NAMESPACE_IS || !has_string((enum tree_tag)tag))) return false;

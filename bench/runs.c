@@ -31,10 +31,14 @@ void make_and_fit(const struct work *w) {
     fit_tree(&made);
 }
 
+int32_t ask_marks(const struct work *w, uint8_t marks[MARK_BYTES]) {
+    if (w->calls == NULL) return statement_run(w->statement, marks);
+    return w->calls->ask(w->query, QUERY_BYTES, w->held, w->calls->held, marks, MARK_BYTES);
+}
+
 void run_query(const struct work *w) {
     static uint8_t marks[MARK_BYTES];
-    if (w->calls == NULL) statement_run(w->statement, marks);
-    else if (w->calls->ask(w->query, QUERY_BYTES, w->held, w->calls->held, marks, sizeof marks) < 0) stop("an ask is refused");
+    if (ask_marks(w, marks) < 0) stop("an ask is refused");
 }
 
 void make_join(const struct work *w) {
