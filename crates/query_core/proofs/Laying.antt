@@ -32,8 +32,8 @@ use Rattle.query_core.specs.declared.Place.{Place}
 use Rattle.query_core.specs.Postfix.{Node}
 use Rattle.query_core.specs.Held.{querySize}
 use Rattle.query_core.specs.Form.{namespaceString, stringOf, strings, spanAt, noSpan, markOf, linkSlot, slotAt, slotBytes, slotsFrom, queryBytes}
-use Rattle.query_core.specs.Reading.{joinedBy, nodeBy}
-use Rattle.query_core.specs.Writing.{joinedStrings, nodeStrings, joinedSlot, slotOf, joint, writtenIn, hasRoom, Fits, Laid, Spells, PutsNode, Puts, Finishes, countOf, endOf}
+use Rattle.query_core.specs.Reading.{joinedOver, nodeOver}
+use Rattle.query_core.specs.Writing.{joinedStrings, nodeStrings, joinedSlot, slotOf, joint, writtenIn, hasRoom, Fits, Laid, PutsNode, Puts, Finishes, countOf, endOf}
 
 -- Strings and slots of one more node.
 pub strings-append : (k l : List Node) → strings (k ++ l) ≡ strings k ++ strings l
@@ -99,14 +99,14 @@ module _ (s : Bytes) (p : Span) (t : Bytes) (r : Split) where
       go false = refl
 
 -- The strings and the slot of a declared node are those of the node that it is.
-module _ (s : Bytes) where
+module _ (s t : Bytes) where
   abbrev both : Strings → Bytes
-  both r = partOf s (r .first) ++ partOf s (r .second) ++ partOf s (r .third)
+  both r = partOf s (r .first) ++ partOf t (r .second) ++ partOf t (r .third)
 
   alone : (t : Bytes) → t ++ [] ++ [] ≡ t
   alone t = append-nil (t ++ []) ∙ append-nil t
 
-  strings-joined : (c : Connective) (y : Selector) → both (joinedStrings c y) ≡ stringOf (joinedBy s c y)
+  strings-joined : (c : Connective) (y : Selector) → both (joinedStrings c y) ≡ stringOf (joinedOver s t c y)
   unfolding stringOf
   strings-joined Connective.And y = refl
   strings-joined Connective.Or y = refl
@@ -114,22 +114,22 @@ module _ (s : Bytes) where
   strings-joined Connective.Select (Selector.Namespace p) = alone (partOf s p)
   strings-joined Connective.Select (Selector.Existence p) = alone (partOf s p)
   strings-joined Connective.Select (Selector.Subquery p) = alone (partOf s p)
-  strings-joined Connective.Select (Selector.Article c p) = append-nil (partOf s p)
+  strings-joined Connective.Select (Selector.Article c p) = append-nil (partOf t p)
   strings-joined Connective.Select (Selector.Value p c (Constant.Scalar k n)) = alone (partOf s p) ∙ sym (append-nil (partOf s p))
-  strings-joined Connective.Select (Selector.Value p c (Constant.String q)) = append-nil (partOf s p ++ partOf s q)
-  strings-joined Connective.Select (Selector.Link p c r) = link-strings s p s r
+  strings-joined Connective.Select (Selector.Value p c (Constant.String q)) = append-nil (partOf s p ++ partOf t q)
+  strings-joined Connective.Select (Selector.Link p c r) = link-strings s p t r
 
   -- the strings lie at the place, one behind the other
   abbrev firstAt : ℕ → Strings → Span
   firstAt at r = spanAt at (length (partOf s (r .first)))
 
   abbrev secondAt : ℕ → Strings → Span
-  secondAt at r = spanAt (at + length (partOf s (r .first))) (length (partOf s (r .second)))
+  secondAt at r = spanAt (at + length (partOf s (r .first))) (length (partOf t (r .second)))
 
   abbrev thirdAt : ℕ → Strings → Span
-  thirdAt at r = spanAt (at + length (partOf s (r .first)) + length (partOf s (r .second))) (length (partOf s (r .third)))
+  thirdAt at r = spanAt (at + length (partOf s (r .first)) + length (partOf t (r .second))) (length (partOf t (r .third)))
 
-  slot-joined : (at : ℕ) (c : Connective) (y : Selector) → joinedSlot c y (firstAt at (joinedStrings c y)) (secondAt at (joinedStrings c y)) (thirdAt at (joinedStrings c y)) ≡ slotAt at (joinedBy s c y)
+  slot-joined : (at : ℕ) (c : Connective) (y : Selector) → joinedSlot c y (firstAt at (joinedStrings c y)) (secondAt at (joinedStrings c y)) (thirdAt at (joinedStrings c y)) ≡ slotAt at (joinedOver s t c y)
   slot-joined at Connective.And y = refl
   slot-joined at Connective.Or y = refl
   slot-joined at Connective.Select (Selector.Category p) = refl
@@ -139,7 +139,7 @@ module _ (s : Bytes) where
   slot-joined at Connective.Select (Selector.Article c p) = rw add-zero
   slot-joined at Connective.Select (Selector.Value p c (Constant.Scalar k n)) = refl
   slot-joined at Connective.Select (Selector.Value p c (Constant.String q)) = refl
-  slot-joined at Connective.Select (Selector.Link p c r) = link-slots s p s r c at
+  slot-joined at Connective.Select (Selector.Link p c r) = link-slots s p t r c at
 
 -- Whether strings have room.
 module _ (end a b c : ℕ) where
@@ -217,11 +217,11 @@ module _ (m : Node) (h : Bytes) (p : Place) where
   node-full b l d =
       record { long = d .long; count = omega (arith, d .count, b, count-more l m); is = λ f. absurd (omega (arith, d .count, b, count-more l m, f .0)) }
 
-  module _ (few : countOf p < 256) (x : DeclaredNode) (a b c : Bytes) (z : Spells m x a b c) where
+  module _ (few : countOf p < 256) (a b c : Bytes) (string : stringOf m ≡ a ++ b ++ c) where
     string-long : length (stringOf m) ≡ length a + length b + length c
-    string-long = omega (arith, ap length (z .string), length-append (a ++ b) c, length-append a b)
+    string-long = omega (arith, ap length string, length-append (a ++ b) c, length-append a b)
 
-    pub node-nothing : 24672 < endOf p + length a + length b + length c → PutsNode m h p h (record { code = p .code + 1 })
+    node-nothing : 24672 < endOf p + length a + length b + length c → PutsNode m h p h (record { code = p .code + 1 })
     unfolding PutsNode
     node-nothing o l d =
         record {
@@ -230,10 +230,7 @@ module _ (m : Node) (h : Bytes) (p : Place) where
           is = λ k. absurd (omega (arith, o, d .is (fits-less l m k) .1, bytes-more l m, string-long, k .1));
         }
 
-    pub node-there : (y : Slot) (h1 h2 : Bytes)
-        → y ≡ slotOf x (spanAt (endOf p) (length a)) (spanAt (endOf p + length a) (length b)) (spanAt (endOf p + length a + length b) (length c))
-        → h1 ≡ written h (2 + 20 * countOf p) (slotBytes y)
-        → h2 ≡ written h1 (5122 + endOf p) (a ++ b ++ c)
+    node-there : (y : Slot) (h1 h2 : Bytes) → y ≡ slotAt (endOf p) m → h1 ≡ written h (2 + 20 * countOf p) (slotBytes y) → h2 ≡ written h1 (5122 + endOf p) (a ++ b ++ c)
         → PutsNode m h p h2 (placeAt (countOf p + 1) (endOf p + length a + length b + length c))
     unfolding PutsNode
     node-there y h1 h2 is-slot i laid l d =
@@ -252,37 +249,33 @@ module _ (m : Node) (h : Bytes) (p : Place) where
             ∙ ap (λ (z : ℕ). written (written (zeros 2 ++ (padded 5120 (slotsFrom 0 l) ++ padded 24672 (strings l))) (2 + 20 * countOf p) (slotBytes y)) (5122 + z) (a ++ b ++ c)) (u .1)
             ∙ laid-both (slotsFrom 0 l) (strings l) (slotBytes y) (a ++ b ++ c) (20 * countOf p) n (omega (arith, few, length-slot y)) (omega (arith, bytes-more l m, string-long, length-append (a ++ b) c, length-append a b, t .1))
             ∙ ap₂ (λ (w v : Bytes). zeros 2 ++ (padded 5120 w ++ padded 24672 v))
-            (ap (λ (k : Slot). slotsFrom 0 l ++ slotBytes k) (is-slot ∙ z .slot (endOf p)) ∙ ap (λ (z : ℕ). slotsFrom 0 l ++ slotBytes (slotAt z m)) (u .1) ∙ sym (slots-more l m))
-            (ap (λ (z : Bytes). strings l ++ z) (sym (z .string)) ∙ sym (strings-more l m))
+            (ap (λ (k : Slot). slotsFrom 0 l ++ slotBytes k) is-slot ∙ ap (λ (z : ℕ). slotsFrom 0 l ++ slotBytes (slotAt z m)) (u .1) ∙ sym (slots-more l m))
+            (ap (λ (z : Bytes). strings l ++ z) (sym string) ∙ sym (strings-more l m))
 
--- A declared node of one text, by its strings.
-module _ (s : Bytes) (x : DeclaredNode) where
-  pub node-spells : (r : Strings) → r ≡ nodeStrings x → (a b c : Bytes) → a ≡ partOf s (r .first) → b ≡ partOf s (r .second) → c ≡ partOf s (r .third) → Spells (nodeBy s x) x a b c
-  node-spells r e a b c f g q =
-      rw (f, g, q, e) (record { string = sym (strings-joined s (x .connective) (x .selector)); slot = λ at. slot-joined s at (x .connective) (x .selector) })
+-- A declared node.
+module _ (s t : Bytes) (x : DeclaredNode) (h : Bytes) (p : Place) (few : countOf p < 256) (r : Strings) (e : r ≡ nodeStrings x) (a b c : Bytes) (f : a ≡ partOf s (r .first)) (g : b ≡ partOf t (r .second)) (q : c ≡ partOf t (r .third)) where
+  string-is : stringOf (nodeOver s t x) ≡ a ++ b ++ c
+  string-is = sym (rw (f, g, q, e) (strings-joined s t (x .connective) (x .selector)))
 
--- A link whose reference lies in a text of its own.
-pub link-spells : (s : Bytes) (name : Span) (t : Bytes) (r : Split) (k : SurfaceComparator) (a b c : Bytes) (w : Span) → a ≡ partOf s name → w ≡ writtenIn r → b ≡ partOf t w → c ≡ partOf t (r .article)
-    → Spells (Node.link (partOf s name) k (splitOf t r)) (record { connective = Connective.Select; selector = Selector.Link name k r }) a b c
-unfolding stringOf
-link-spells s name t r k a b c w f e g q = rw (f, g, q, e) (record { string = sym (link-strings s name t r); slot = link-slots s name t r k })
+  pub put-nothing : 24672 < endOf p + length a + length b + length c → PutsNode (nodeOver s t x) h p h (record { code = p .code + 1 })
+  put-nothing = node-nothing (nodeOver s t x) h p few a b c string-is
+
+  pub put-there : (y : Slot) (h1 h2 : Bytes)
+      → y ≡ slotOf x (spanAt (endOf p) (length a)) (spanAt (endOf p + length a) (length b)) (spanAt (endOf p + length a + length b) (length c))
+      → h1 ≡ written h (2 + 20 * countOf p) (slotBytes y)
+      → h2 ≡ written h1 (5122 + endOf p) (a ++ b ++ c)
+      → PutsNode (nodeOver s t x) h p h2 (placeAt (countOf p + 1) (endOf p + length a + length b + length c))
+  put-there y h1 h2 w = node-there (nodeOver s t x) h p few a b c string-is y h1 h2 (w ∙ rw (f, g, q, e) (slot-joined s t (endOf p) (x .connective) (x .selector)))
 
 -- AND or OR, laid: it has no strings.
 module _ (h : Bytes) (p : Place) (few : countOf p < 256) (y : Slot) (h1 : Bytes) (i : h1 ≡ written h (2 + 20 * countOf p) (slotBytes y)) where
   same-place : placeAt (countOf p + 1) (endOf p + 0 + 0 + 0) ≡ record { code = p .code + 1 }
   same-place = let e : countOf p + 1 + 512 * (endOf p + 0 + 0 + 0) ≡ p .code + 1 = omega arith in rw e
 
-  pub put-joint : (or : Bool) → y ≡ slotOf (joint or) noSpan noSpan noSpan → Puts [] (joint or) h p h1 (record { code = p .code + 1 })
+  pub put-joint : (or : Bool) → y ≡ slotOf (joint or) noSpan noSpan noSpan → Puts [] [] (joint or) h p h1 (record { code = p .code + 1 })
   unfolding Puts
-  put-joint or w = rw same-place at (node-there (nodeBy [] (joint or)) h p few (joint or) [] [] [] (spells or) y h1 h1 (w ∙ slot or) i (sym (written-none h1 _)))
-    where
-      spells : (or : Bool) → Spells (nodeBy [] (joint or)) (joint or) [] [] []
-      spells true = node-spells [] (joint true) (nodeStrings (joint true)) refl [] [] [] refl refl refl
-      spells false = node-spells [] (joint false) (nodeStrings (joint false)) refl [] [] [] refl refl refl
-
-      slot : (or : Bool) → slotOf (joint or) noSpan noSpan noSpan ≡ slotOf (joint or) (spanAt (endOf p) 0) (spanAt (endOf p + 0) 0) (spanAt (endOf p + 0 + 0) 0)
-      slot true = refl
-      slot false = refl
+  put-joint true w = rw same-place at (put-there [] [] (joint true) h p few (nodeStrings (joint true)) refl [] [] [] refl refl refl y h1 h1 w i (sym (written-none h1 _)))
+  put-joint false w = rw same-place at (put-there [] [] (joint false) h p few (nodeStrings (joint false)) refl [] [] [] refl refl refl y h1 h1 w i (sym (written-none h1 _)))
 
 -- The count before the nodes.
 pub put-count : (h h′ : Bytes) (p : Place) → h′ ≡ written h 0 (twoBytes (countOf p)) → Finishes h p h′
@@ -314,9 +307,9 @@ laid-clear h h′ e f =
     rw w laid-none
 
 -- One node more, and the count, where a call has laid or written them.
-pub laid-more : (s : Bytes) (x : DeclaredNode) (h : Bytes) (p : Place) (h′ : Bytes) (p′ : Place) (l : List Node) → Puts s x h p h′ p′ → Laid h p l → Laid h′ p′ (l ++ (nodeBy s x ∷ []))
+pub laid-more : (s t : Bytes) (x : DeclaredNode) (h : Bytes) (p : Place) (h′ : Bytes) (p′ : Place) (l : List Node) → Puts s t x h p h′ p′ → Laid h p l → Laid h′ p′ (l ++ (nodeOver s t x ∷ []))
 unfolding Puts PutsNode
-laid-more s x h p h′ p′ l f d = f l d
+laid-more s t x h p h′ p′ l f d = f l d
 
 pub laid-done : (h : Bytes) (p : Place) (h′ : Bytes) (l : List Node) → Finishes h p h′ → Laid h p l → Fits l → h′ ≡ queryBytes l
 unfolding Finishes

@@ -25,22 +25,33 @@ abbrev pub constantBy : Bytes → Constant → CoreConstant
 constantBy s (Constant.Scalar k n) = scalar k n
 constantBy s (Constant.String p) = string (partOf s p)
 
+-- The same of a selector and of a node: names lie in s, what a name is compared with in t.
+abbrev pub selectorOver : Bytes → Bytes → Selector → Postfix.Node
+selectorOver s t (Selector.Category p) = Postfix.category (partOf s p)
+selectorOver s t (Selector.Namespace p) = Postfix.namespace (partOf s p)
+selectorOver s t (Selector.Existence p) = Postfix.existence (partOf s p)
+selectorOver s t (Selector.Subquery p) = Postfix.subquery (partOf s p)
+selectorOver s t (Selector.Article c p) = Postfix.article c (partOf t p)
+selectorOver s t (Selector.Value p c k) = Postfix.value (partOf s p) c (constantBy t k)
+selectorOver s t (Selector.Link p c r) = Postfix.link (partOf s p) c (splitOf t r)
+
+abbrev pub joinedOver : Bytes → Bytes → Connective → Selector → Postfix.Node
+joinedOver s t Connective.And x = Postfix.conjunction
+joinedOver s t Connective.Or x = Postfix.disjunction
+joinedOver s t Connective.Select x = selectorOver s t x
+
+abbrev pub nodeOver : Bytes → Bytes → Node → Postfix.Node
+nodeOver s t n = joinedOver s t (n .connective) (n .selector)
+
+-- The same where all lies in one text.
 abbrev pub selectorBy : Bytes → Selector → Postfix.Node
-selectorBy s (Selector.Category p) = Postfix.category (partOf s p)
-selectorBy s (Selector.Namespace p) = Postfix.namespace (partOf s p)
-selectorBy s (Selector.Existence p) = Postfix.existence (partOf s p)
-selectorBy s (Selector.Subquery p) = Postfix.subquery (partOf s p)
-selectorBy s (Selector.Article c p) = Postfix.article c (partOf s p)
-selectorBy s (Selector.Value p c k) = Postfix.value (partOf s p) c (constantBy s k)
-selectorBy s (Selector.Link p c r) = Postfix.link (partOf s p) c (splitOf s r)
+selectorBy s x = selectorOver s s x
 
 abbrev pub joinedBy : Bytes → Connective → Selector → Postfix.Node
-joinedBy s Connective.And x = Postfix.conjunction
-joinedBy s Connective.Or x = Postfix.disjunction
-joinedBy s Connective.Select x = selectorBy s x
+joinedBy s k x = joinedOver s s k x
 
 abbrev pub nodeBy : Bytes → Node → Postfix.Node
-nodeBy s n = joinedBy s (n .connective) (n .selector)
+nodeBy s n = nodeOver s s n
 
 -- Names and constants keep their rules.
 abbrev pub keepsConstant : Bytes → Constant → Bool

@@ -19,8 +19,8 @@ use Rattle.query_core.specs.declared.Strings.{Strings}
 use Rattle.query_core.specs.declared.Place.{Place}
 use Rattle.query_core.specs.Postfix as Postfix
 use Rattle.query_core.specs.Held.{querySize}
-use Rattle.query_core.specs.Form.{stringOf, strings, comparatorCode, spanAt, noSpan, tagged, scalarSlot, stringSlot, markOf, linkSlot, slotAt, slotsFrom, queryBytes}
-use Rattle.query_core.specs.Reading.{nodeBy}
+use Rattle.query_core.specs.Form.{strings, comparatorCode, spanAt, noSpan, tagged, scalarSlot, stringSlot, markOf, linkSlot, slotsFrom, queryBytes}
+use Rattle.query_core.specs.Reading.{nodeOver}
 
 -- Where the strings of a declared node lie. Only a link has a third.
 abbrev pub stringsOf : Span → Span → Span → Strings
@@ -99,17 +99,12 @@ pub record Laid (h : Bytes) (p : Place) (l : List Postfix.Node) : Type 0 where
   pub count : countOf p ≡ min 257 (length l)
   pub is : Fits l → (h ≡ zeros 2 ++ (padded 5120 (slotsFrom 0 l) ++ padded 24672 (strings l))) × (endOf p ≡ length (strings l))
 
--- A node has the strings a, b and c and, where they stand one behind the other, the slot of a declared one.
-pub record Spells (m : Postfix.Node) (x : Node) (a b c : Bytes) : Type 0 where
-  pub string : stringOf m ≡ a ++ b ++ c
-  pub slot : (at : ℕ) → slotOf x (spanAt at (length a)) (spanAt (at + length a) (length b)) (spanAt (at + length a + length b) (length c)) ≡ slotAt at m
-
--- A node laid behind others, and a declared one of the text s.
+-- A node laid behind others, and a declared one of the texts s and t.
 unfoldable pub PutsNode : Postfix.Node → Bytes → Place → Bytes → Place → Type 0
 PutsNode m h p h′ p′ = (l : List Postfix.Node) → Laid h p l → Laid h′ p′ (l ++ (m ∷ []))
 
-unfoldable pub Puts : Bytes → Node → Bytes → Place → Bytes → Place → Type 0
-Puts s x h p h′ p′ = PutsNode (nodeBy s x) h p h′ p′
+unfoldable pub Puts : Bytes → Bytes → Node → Bytes → Place → Bytes → Place → Type 0
+Puts s t x h p h′ p′ = PutsNode (nodeOver s t x) h p h′ p′
 
 -- The count before them.
 unfoldable pub Finishes : Bytes → Place → Bytes → Type 0

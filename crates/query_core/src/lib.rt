@@ -19,7 +19,6 @@ use values::Split;
 pub use writing::count_of;
 pub use writing::finish;
 pub use writing::put_connective;
-pub use writing::put_link;
 pub use writing::put_node;
 
 // A constant: the kind and the code of a scalar, or where a string lies in a text.

@@ -66,7 +66,7 @@ fn constant_strings(first: Span, k: Constant) -> Strings
 }
 
 // The namespace that a reference writes.
-pub fn written(r: Split) -> Span
+fn written(r: Split) -> Span
     ensures { λ x. ⌜ x ≡ writtenIn r ⌝ }
 {
     let namespace = r.namespace;

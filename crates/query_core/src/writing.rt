@@ -1,31 +1,23 @@
 // Nodes into a held query: each in its 20 bytes, its strings in the heap behind those before it.
-use crate::Connective;
 use crate::Node;
 use crate::Place;
-use crate::Selector;
 use crate::Slot;
 use crate::layout;
 use crate::placing::connective_slot;
 use crate::placing::slot_of;
 use crate::placing::strings_of;
-use crate::placing::written;
 use buffer::put_bytes;
 use buffer::put_two;
-use language::SurfaceComparator;
 use text::Span;
 use text::part;
-use values::Split;
 ghost use mathlib.Core.Path.{_≡_};
 ghost use mathlib.Core.List.{[], _++_};
-ghost use Rattle.text.specs.Parts.{partOf};
-ghost use Rattle.values.specs.Answers.{splitOf};
 ghost use Prim.Native.Nat.{_+_, _≤_};
 ghost use lib.ListN.{length};
 ghost use Rattle.buffer.specs.Numbers.{twoBytes, eightBytes};
 ghost use Rattle.buffer.specs.Writing.{written};
 ghost use Rattle.query_core.specs.Form.{headBytes, spanBytes, slotBytes};
-ghost use Rattle.query_core.specs.Writing.{joint, hasRoom, countOf, Spells, PutsNode, Puts, Finishes};
-ghost use Rattle.query_core.specs.Postfix.{Node as PostfixNode, link};
+ghost use Rattle.query_core.specs.Writing.{joint, hasRoom, countOf, Puts, Finishes};
 
 // Writes a slot's first three numbers, a byte each, and a byte 0.
 fn put_head(h: &mut [u8], at: usize, x: Slot)
@@ -120,7 +112,7 @@ pub fn count_of(at: Place) -> usize
 
 // Lays AND or OR behind others, where there is room for it.
 pub fn put_connective(held: &mut [u8], at: Place, or: bool) -> Place
-    ensures { λ r. ⌜ Puts [] (joint or) (now (held .entry)) at (now (held .exit)) r ⌝ }
+    ensures { λ r. ⌜ Puts [] [] (joint or) (now (held .entry)) at (now (held .exit)) r ⌝ }
 {
     if held.len() < layout::QUERY_BYTES {
         return at;
@@ -136,9 +128,9 @@ pub fn put_connective(held: &mut [u8], at: Place, or: bool) -> Place
     Place { code: at.code + 1 }
 }
 
-// Lays a node behind others, where there is room for it: its strings, one behind the other, and a slot that tells of them.
-fn lay(held: &mut [u8], at: Place, node: Node, first: &[u8], second: &[u8], third: &[u8]) -> Place
-    ensures { λ r. ⌜ ((m : PostfixNode) → Spells m node (now (first .entry)) (now (second .entry)) (now (third .entry)) → PutsNode m (now (held .entry)) at (now (held .exit)) r) ⌝ }
+// Lays a node behind others, where there is room for it; its name lies in s, what is compared with it in t.
+pub fn put_node(s: &[u8], t: &[u8], held: &mut [u8], at: Place, node: Node) -> Place
+    ensures { λ r. ⌜ Puts (now (s .entry)) (now (t .entry)) node (now (held .entry)) at (now (held .exit)) r ⌝ }
 {
     if held.len() < layout::QUERY_BYTES {
         return at;
@@ -150,6 +142,13 @@ fn lay(held: &mut [u8], at: Place, node: Node, first: &[u8], second: &[u8], thir
             code: at.code - count + 257,
         };
     }
+    let strings = strings_of(node);
+    let p = strings.first;
+    let q = strings.second;
+    let r = strings.third;
+    let first = part(s, p.start, p.len);
+    let second = part(t, q.start, q.len);
+    let third = part(t, r.start, r.len);
     let a = first.len();
     let b = second.len();
     let c = third.len();
@@ -173,46 +172,6 @@ fn lay(held: &mut [u8], at: Place, node: Node, first: &[u8], second: &[u8], thir
     Place {
         code: count + 1 + 512 * (end + a + b + c),
     }
-}
-
-// Lays a node whose strings lie in s.
-pub fn put_node(s: &[u8], held: &mut [u8], at: Place, node: Node) -> Place
-    ensures { λ r. ⌜ Puts (now (s .entry)) node (now (held .entry)) at (now (held .exit)) r ⌝ }
-{
-    let strings = strings_of(node);
-    let p = strings.first;
-    let q = strings.second;
-    let r = strings.third;
-    let first = part(s, p.start, p.len);
-    let second = part(s, q.start, q.len);
-    let third = part(s, r.start, r.len);
-    lay(held, at, node, first, second, third)
-}
-
-// Lays a link whose property's name lies in s and whose reference lies in t.
-pub fn put_link(
-    s: &[u8],
-    name: Span,
-    t: &[u8],
-    split: Split,
-    comparator: SurfaceComparator,
-    held: &mut [u8],
-    at: Place,
-) -> Place
-    ensures { λ r. ⌜ PutsNode (link (partOf (now (s .entry)) name) comparator (splitOf (now (t .entry)) split)) (now (held .entry)) at (now (held .exit)) r ⌝ }
-{
-    let q = written(split);
-    let r = split.article;
-    let first = part(s, name.start, name.len);
-    let second = part(t, q.start, q.len);
-    let third = part(t, r.start, r.len);
-    let connective = Connective::Select;
-    let selector = Selector::Link(name, comparator, split);
-    let node = Node {
-        connective,
-        selector,
-    };
-    lay(held, at, node, first, second, third)
 }
 
 // Writes how many nodes there are.

@@ -10,7 +10,7 @@ use Rattle.query_core.specs.declared.Connective.{Connective}
 use Rattle.query_core.specs.declared.Selector.{Selector}
 use Rattle.query_core.specs.declared.Place.{Place}
 use Rattle.query_core.specs.Postfix.{Node, post}
-use Rattle.query_core.specs.Reading.{selectorBy}
+use Rattle.query_core.specs.Reading.{selectorBy, selectorOver}
 use Rattle.query_core.specs.Writing.{joint, Laid, PutsNode, Puts}
 use Rattle.query_core_emit.specs.Emission.{Adds, connectiveNode, selectorOf, comparing}
 use Rattle.query_core_emit.specs.declared.Comparison.{Comparison}
@@ -21,9 +21,9 @@ adds-then k m {h″ = h″} {p″ = p″} a b =
 
 module _ (s h h′ : Bytes) (p p′ : Place) where
   -- a selector
-  pub select-adds : (x : Selector) → Puts s (record { connective = Connective.Select; selector = x }) h p h′ p′ → Adds (selectorBy s x ∷ []) h p h′ p′
+  pub select-adds : (t : Bytes) (x : Selector) → Puts s t (record { connective = Connective.Select; selector = x }) h p h′ p′ → Adds (selectorOver s t x ∷ []) h p h′ p′
   unfolding Puts PutsNode
-  select-adds x d = record { laid = d }
+  select-adds t x d = record { laid = d }
 
   -- one comparison
   pub one-adds : (w : Comparison) (c : Comparator) (x : Selector) → x ≡ selectorOf w c → Adds (selectorBy s x ∷ []) h p h′ p′ → Adds (post (comparing s w c)) h p h′ p′
@@ -32,7 +32,7 @@ module _ (s h h′ : Bytes) (p p′ : Place) where
   one-adds (Comparison.Value q k) c x e d = rw e at d
 
 -- a connective
-pub joint-adds : (h h′ : Bytes) (p p′ : Place) (or : Bool) → Puts [] (joint or) h p h′ p′ → Adds (connectiveNode or ∷ []) h p h′ p′
+pub joint-adds : (h h′ : Bytes) (p p′ : Place) (or : Bool) → Puts [] [] (joint or) h p h′ p′ → Adds (connectiveNode or ∷ []) h p h′ p′
 unfolding Puts PutsNode
 joint-adds h h′ p p′ true d = record { laid = d }
 joint-adds h h′ p p′ false d = record { laid = d }

@@ -19,7 +19,6 @@ use Rattle.language.proofs.Members.{and-true}
 use Rattle.language.specs.declared.SurfaceComparator.{SurfaceComparator}
 use Rattle.query_core.specs.declared.Place.{Place}
 use Rattle.query_core.specs.Postfix.{Node}
-use Rattle.query_core.specs.Writing.{PutsNode}
 use Rattle.query_core_emit.specs.Emission.{Adds}
 
 module _ (s : Bytes) (r : Split) (x y t u : Bytes) (i j : ℕ) (ex : x ≡ partOf s (r .namespace)) (ey : y ≡ partOf s (r .article))
@@ -48,7 +47,6 @@ module _ (s : Bytes) (r : Split) (x y t u : Bytes) (i j : ℕ) (ex : x ≡ partO
       let k : isName y ≡ true = rw ey (rw e at h) in
       rw (e, article-there (name-keeps y k .short), ey)
 
-  pub typed-adds : (v : Bytes) (c : SurfaceComparator) (h h′ : Bytes) (p p′ : Place) → PutsNode (Node.link v c (splitOf u typed)) h p h′ p′
+  pub typed-adds : (v : Bytes) (c : SurfaceComparator) (h h′ : Bytes) (p p′ : Place) → Adds (Node.link v c (splitOf u typed) ∷ []) h p h′ p′
       → isReference (splitOf s r) ≡ true → Adds (Node.link v c (composedReference (splitOf s r)) ∷ []) h p h′ p′
-  unfolding PutsNode
-  typed-adds v c h h′ p p′ d k = rw (← there (r .qualified) refl k) (record { laid = d })
+  typed-adds v c h h′ p p′ d k = rw (← there (r .qualified) refl k) d

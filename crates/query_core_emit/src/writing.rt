@@ -9,7 +9,7 @@ ghost use Rattle.values.specs.Answers.{splitOf};
 ghost use Rattle.values.specs.Values.{mapOption, readConstant};
 ghost use Rattle.language.specs.Elaboration.{strictOrEqual, compared, elaborateReference, elaborateConstant, elaborateValue};
 ghost use Rattle.query_core.specs.Postfix.{post, link};
-ghost use Rattle.query_core.specs.Reading.{selectorBy};
+ghost use Rattle.query_core.specs.Reading.{selectorOver};
 ghost use Rattle.query_core_emit.specs.declared.Comparison.the-variants.{Article};
 ghost use Rattle.query_core_emit.specs.Emission.{comparing, selectorOf, scopeOf, Adds, Emits, connectiveNode};
 use crate::Comparison;
@@ -37,16 +37,16 @@ use values::Kind;
 use values::Split;
 use values::is_reference;
 
-// A selector.
-pub fn put_select(s: &[u8], held: &mut [u8], at: Place, selector: Selector) -> Place
-    ensures { λ r. ⌜ Adds (selectorBy (now (s .entry)) selector ∷ []) (now (held .entry)) at (now (held .exit)) r ⌝ }
+// A selector; its name lies in s, what is compared with it in t.
+pub fn put_select(s: &[u8], t: &[u8], held: &mut [u8], at: Place, selector: Selector) -> Place
+    ensures { λ r. ⌜ Adds (selectorOver (now (s .entry)) (now (t .entry)) selector ∷ []) (now (held .entry)) at (now (held .exit)) r ⌝ }
 {
     let connective = Connective::Select;
     let node = Node {
         connective,
         selector,
     };
-    put_node(s, held, at, node)
+    put_node(s, t, held, at, node)
 }
 
 // AND or OR behind its two sides.
@@ -70,7 +70,7 @@ fn selector_of(what: Comparison, c: Comparator) -> Selector
 fn put_one(s: &[u8], held: &mut [u8], at: Place, what: Comparison, c: Comparator) -> Place
     ensures { λ r. ⌜ Adds (post (comparing (now (s .entry)) what c)) (now (held .entry)) at (now (held .exit)) r ⌝ }
 {
-    put_select(s, held, at, selector_of(what, c))
+    put_select(s, s, held, at, selector_of(what, c))
 }
 
 // Strict OR equal.
@@ -105,9 +105,9 @@ fn put_article(s: &[u8], held: &mut [u8], at: Place, p: Span, c: SurfaceComparat
     ensures { λ r. ⌜ Adds (post (compared (comparing (now (s .entry)) (Article p)) c)) (now (held .entry)) at (now (held .exit)) r ⌝ }
 {
     let d = strict(c);
-    let one = put_select(s, held, at, Selector::Article(d, p));
+    let one = put_select(s, s, held, at, Selector::Article(d, p));
     if or_equal(c) {
-        let two = put_select(s, held, one, Selector::Article(Comparator::Equal, p));
+        let two = put_select(s, s, held, one, Selector::Article(Comparator::Equal, p));
         return put_join(held, two, true);
     }
     one
@@ -146,7 +146,7 @@ pub fn put_reference(
     match scope_of(c, split) {
         Scope::Any => put_article(s, held, at, article, c),
         Scope::Within(namespace) => {
-            let one = put_select(s, held, at, Selector::Namespace(namespace));
+            let one = put_select(s, s, held, at, Selector::Namespace(namespace));
             let two = put_article(s, held, one, article, c);
             put_join(held, two, false)
         }
@@ -184,7 +184,7 @@ fn put_typed(
         namespace,
         article,
     };
-    query_core::put_link(s, name, &names, typed, c, held, at)
+    put_select(s, &names, held, at, Selector::Link(name, c, typed))
 }
 
 // The piece at p of a page property: one link.

@@ -58,7 +58,7 @@ pub fn put_subquery(s: &[u8], held: &mut [u8], at: Place, x: Span, kind: KindRea
         return Emitted::Unfit;
     };
     match k {
-        Kind::Page => Emitted::At(put_select(s, held, at, Selector::Subquery(x))),
+        Kind::Page => Emitted::At(put_select(s, s, held, at, Selector::Subquery(x))),
         Kind::Scalar(_) => Emitted::Unfit,
         Kind::String => Emitted::Unfit,
     }
@@ -88,8 +88,8 @@ pub fn put_leaf(s: &[u8], held: &mut [u8], at: Place, node: TreeNode) -> Emitted
 {
     let none = Span { start: 0, len: 0 };
     match node {
-        TreeNode::Category(x) => Emitted::At(put_select(s, held, at, Selector::Category(x))),
-        TreeNode::Namespace(n) => Emitted::At(put_select(s, held, at, Selector::Namespace(n))),
+        TreeNode::Category(x) => Emitted::At(put_select(s, s, held, at, Selector::Category(x))),
+        TreeNode::Namespace(n) => Emitted::At(put_select(s, s, held, at, Selector::Namespace(n))),
         TreeNode::Bare(c, article) => {
             let split = Split {
                 qualified: false,
@@ -129,7 +129,7 @@ pub fn put_leaf_in(
     ensures { λ r. ⌜ LeafIn (partOf (now (s .entry)) x) (kindOf kind) (nodeBy (now (s .entry)) node) (now (held .entry)) at r (now (held .exit)) ⌝ }
 {
     match node {
-        TreeNode::Existence => Emitted::At(put_select(s, held, at, Selector::Existence(x))),
+        TreeNode::Existence => Emitted::At(put_select(s, s, held, at, Selector::Existence(x))),
         TreeNode::Value(c, p) => put_piece(s, held, at, x, c, p, kind),
         TreeNode::And(_) => Emitted::Unfit,
         TreeNode::Or(_) => Emitted::Unfit,

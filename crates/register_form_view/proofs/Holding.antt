@@ -1,5 +1,5 @@
 -- What a page of an opened register holds, by its terms.
-use Prim.Native.Nat.{ℕ, suc, _+_, _≤_, _<_}
+use Prim.Native.Nat.{ℕ, suc, _+_, _*_, _≤_, _<_}
 use mathlib.Core.Path.{_≡_, refl, sym, ap, ap₂, _∙_}
 use mathlib.Core.Bool.{Bool, true, false, _&&_, _||_, or-false, and-true}
 use mathlib.Core.List.{List, [], _∷_, _++_, map, List·Memᴰ}
@@ -7,7 +7,7 @@ use native.Mathlib.Omega.{arith}
 use borrow.Author.Tests.{ltb-true, ltb-false}
 use lib.Dec.{ltb}
 use lib.ListN.{length, getD, List·getD-eq-default}
-use Rattle.text.specs.Bytes.{Bytes, same, any}
+use Rattle.text.specs.Bytes.{Bytes, same, any, numbers, orderOf}
 use Rattle.text.specs.Table.{tabulate}
 use Rattle.text.specs.declared.Order.{Order}
 use Rattle.text.proofs.Laws.{any-append}
@@ -18,9 +18,9 @@ use Rattle.language.specs.RegisterText.{emptyPage}
 use Rattle.language.specs.Semantics.{stands, Ca, follows, noMixed}
 use Rattle.language.specs.declared.Comparator.{Comparator}
 use Rattle.language.proofs.Members.{any-same, any-none, by-test}
-use Rattle.register_form.specs.Dictionary.{PageRow}
+use Rattle.register_form.specs.Dictionary.{PageRow, nameOf}
 use Rattle.register_form.specs.Encoding.{identifierText, categoryTerm, valueTerm, pageTerms, encodePage}
-use Rattle.register_form.specs.Form.{pageCount, formStart, registerIn, pageAt}
+use Rattle.register_form.specs.Form.{pageCount, formStart, registerIn, pageAt, textAt}
 use Rattle.register_form.specs.Opened.{pageIn, Opened}
 use Rattle.register_form.proofs.Lists.{mem-at}
 use Rattle.register_form.proofs.Rules.{terms-few}
@@ -34,7 +34,7 @@ use Rattle.register_form_view.specs.declared.TermRange.{TermRange}
 use Rattle.register_form_view.proofs.Opening.{known, count-pages, page-row, forms-there}
 use Rattle.register_form_view.proofs.Looking.{range-above}
 use Rattle.register_form_view.proofs.Leading.{form, passes-there, leads-there}
-use Rattle.register_form_view.proofs.Ordering.{name-order}
+use Rattle.register_form_view.proofs.Ordering.{order-ranked, order-compared, name-order}
 
 any-map : {A B : Type 0} (p : B → Bool) (f : A → B) (l : List A) → any p (map f l) ≡ any (λ a. p (f a)) l
 unfolding any
@@ -139,7 +139,11 @@ module _ (h x : Bytes) (rank : Rank) (test : NameTest) (i : ℕ) (r : Bool) wher
   pub passes-namespace : (y : Bytes) → test ≡ NameTest.Namespace → y ≡ pageIn (registerIn h) i .identifier .namespace → r ≡ same y x → r ≡ namePassesAt h x rank test i
   passes-namespace y e f g = rw (e, ← f) g
 
-  pub passes-article : (c : Comparator) (n : ℕ) (d : Order) → test ≡ NameTest.Article c → n ≡ pageAt h i .identifier → d ≡ nameOrder h x rank n → r ≡ stands c d → r ≡ namePassesAt h x rank test i
-  passes-article c n d e f g u = rw (e, ← f, ← g) u
+  module _ (c : Comparator) (n : ℕ) (d : Order) (e : test ≡ NameTest.Article c) (f : n ≡ pageAt h i .identifier) (u : r ≡ stands c d) where
+    pub article-ranked : n < rank .plain → d ≡ numbers (1 + 2 * n) (rank .key) → r ≡ namePassesAt h x rank test i
+    article-ranked l g = rw (e, ← f, ← order-ranked h x rank n d l g) u
 
-pub ruleset naming-pages = (passes-namespace, passes-article)
+    pub article-compared : (y : Bytes) → rank .plain ≤ n → y ≡ nameOf (textAt h n) → d ≡ orderOf y x → r ≡ namePassesAt h x rank test i
+    article-compared y l w g = rw (e, ← f, ← order-compared h x rank n d y l w g) u
+
+pub ruleset naming-pages = (passes-namespace, article-ranked, article-compared)

@@ -1,11 +1,11 @@
 -- The terms of a page: what is asked of one, and of one after the other.
 use Prim.Native.Nat.{ℕ, zero, suc, _+_, _*_, _-_, _/_, _≤_, _<_}
 use mathlib.Core.Path.{_≡_, refl, sym, ap, ap₂, _∙_}
-use mathlib.Core.Bool.{Bool, true, false, cond, not, _&&_, _||_, or-false}
+use mathlib.Core.Bool.{Bool, true, false, cond, not, _&&_, _||_, or-false, and-true}
 use mathlib.Core.List.{List, [], _∷_}
 use mathlib.Core.Option.{some, none}
 use native.Mathlib.Omega.{arith}
-use borrow.Author.Tests.{lt-ltb, le-ltb, le-leb, lt-leb, ne-eqb}
+use borrow.Author.Tests.{lt-ltb, le-ltb, le-leb, lt-leb, ne-eqb, not-true, not-false}
 use lib.Dec.{leb, ltb, eqb}
 use lib.ListN.{length, getD}
 use Rattle.text.specs.Bytes.{Bytes, part, same, numbers, any}
@@ -20,12 +20,12 @@ use Rattle.values.specs.declared.Split.{Split}
 use Rattle.values.specs.Answers.{splitOf}
 use Rattle.values.specs.Values.{sameScalar}
 use Rattle.language.specs.Answer.{found, onlyIf}
-use Rattle.language.specs.Comparators.{isEqual, strictly, orEqual, inAnyNamespace}
+use Rattle.language.specs.Comparators.{isEqual, inAnyNamespace}
 use Rattle.language.specs.References.{standsAs, namespaceMeant}
 use Rattle.language.specs.Semantics.{stands, Cv}
 use Rattle.language.specs.declared.Comparator.{Comparator}
 use Rattle.language.specs.declared.SurfaceComparator.{SurfaceComparator}
-use Rattle.language.proofs.EachComparator.{mark-word, stands-each}
+use Rattle.language.proofs.EachComparator.{mark-word}
 use Rattle.query_core.specs.declared.Constant.{Constant}
 use Rattle.buffer.specs.Numbers.{twoAt}
 use Rattle.register_form.specs.Dictionary.{spaceOf, termCode}
@@ -76,17 +76,6 @@ module _ (h : Bytes) (f : ℕ) (k : Kind) (c : Comparator) (w : Constant) (q : B
 
 pub ruleset standing = (number-of-text, stands-page, stands-scalar, scalar-string, string-scalar, stands-string)
 
--- stands_as_typed
-module _ (c : SurfaceComparator) (d : Comparator) (o : Order) (b r : Bool) (e : d ≡ strictly c) (f : b ≡ orEqual c) (g : r ≡ stands d o) where
-  by-columns : (t : Bool) → b ≡ t → cond t (stands (strictly c) o || stands Comparator.Equal o) (stands (strictly c) o) ≡ standsAs c o
-  by-columns t u = ap (λ (t : Bool). cond t (stands (strictly c) o || stands Comparator.Equal o) (stands (strictly c) o)) (sym u ∙ f) ∙ stands-each c o
-
-  pub typed-or-equal : (s : Bool) → b ≡ true → s ≡ stands Comparator.Equal o → (r || s) ≡ standsAs c o
-  typed-or-equal s t u = rw (g, u, e) (by-columns true t)
-
-  pub typed-strict : b ≡ false → r ≡ standsAs c o
-  typed-strict t = rw (g, e) (by-columns false t)
-
 -- has_namespace
 module _ (q : Bytes) (c : SurfaceComparator) (s : Split) (n t : Bytes) (at : t ≡ n) where
   pub written-fits : (b r : Bool) (x : Bytes) → s .qualified ≡ true → b ≡ inAnyNamespace c → x ≡ part q (s .namespace .start) (s .namespace .len) → r ≡ same t x → (b || r) ≡ namespaceFits c (splitOf q s) n
@@ -108,9 +97,19 @@ module _ (q : Bytes) (c : SurfaceComparator) (s : Split) (n t : Bytes) (at : t �
 
 -- link_meant
 module _ (h q : Bytes) (rank : Rank) (c : SurfaceComparator) (s : Split) (k : Kind) (f : ℕ) where
-  pub link-meant : (n : ℕ) (x : Bytes) (o : Order) (b r : Bool) → k ≡ Kind.Page → n ≡ textNumber h f → x ≡ part q (s .article .start) (s .article .len)
-      → b ≡ namespaceFits c (splitOf q s) (spaceOf (textAt h n)) → o ≡ nameOrder h x rank n → r ≡ standsAs c o → (b && r) ≡ meantAt h q rank c s k f
-  link-meant n x o b r e is lies g u v = rw (e, g, v, u, lies, is)
+  module _ (n : ℕ) (x : Bytes) (o : Order) (r : Bool) (e : k ≡ Kind.Page) (is : n ≡ textNumber h f) (lies : x ≡ part q (s .article .start) (s .article .len)) (u : o ≡ nameOrder h x rank n) (v : r ≡ standsAs c o) where
+    met : meantAt h q rank c s k f ≡ (namespaceFits c (splitOf q s) (spaceOf (textAt h n)) && r)
+    met = rw (e, v, u, lies, is)
+
+    pub link-unmet : not r ≡ true → false ≡ meantAt h q rank c s k f
+    link-unmet t = sym (met ∙ rw (not-true r t) (go (namespaceFits c (splitOf q s) (spaceOf (textAt h n)))))
+      where
+        go : (b : Bool) → (b && false) ≡ false
+        go true = refl
+        go false = refl
+
+    pub link-meant : (b : Bool) → not r ≡ false → b ≡ namespaceFits c (splitOf q s) (spaceOf (textAt h n)) → b ≡ meantAt h q rank c s k f
+    link-meant b t g = g ∙ sym (and-true (namespaceFits c (splitOf q s) (spaceOf (textAt h n)))) ∙ sym (met ∙ rw (not-false r t))
 
   pub scalar-unmeant : (j : Scalar) → k ≡ Kind.Scalar j → false ≡ meantAt h q rank c s k f
   scalar-unmeant j e = rw e
@@ -126,7 +125,7 @@ module _ (h q : Bytes) (rank : Rank) (test : ValueTest) (k : Kind) (f : ℕ) (r 
   pub passes-reference : (c : SurfaceComparator) (s : Split) → test ≡ ValueTest.Reference c s → r ≡ meantAt h q rank c s k f → r ≡ passesAt h q rank test k f
   passes-reference c s e g = rw e g
 
-pub ruleset meaning = (number-of-text, typed-or-equal, typed-strict, written-fits, bare-fits, link-meant, scalar-unmeant, string-unmeant, passes-constant, passes-reference)
+pub ruleset meaning = (number-of-text, written-fits, bare-fits, link-unmet, link-meant, scalar-unmeant, string-unmeant, passes-constant, passes-reference)
 
 -- marked_at
 pub marked-none : (marks : List Bool) (place : ℕ) → place ≡ 0 → false ≡ marked marks place

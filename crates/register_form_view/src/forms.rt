@@ -94,7 +94,10 @@ fn link_meant(
             let n = text_number(h, f);
             let p = split.article;
             let x = part(q, p.start, p.len);
-            has_namespace(h, n, c, split, q) & stands_as_typed(c, name_order(h, n, x, rank))
+            if !stands_as_typed(c, name_order(h, n, x, rank)) {
+                return false;
+            }
+            has_namespace(h, n, c, split, q)
         }
         Kind::Scalar(_) => false,
         Kind::String => false,

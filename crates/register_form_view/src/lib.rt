@@ -16,8 +16,6 @@ pub mod ranks; // ranks.rt: names compared by the numbers of their texts
 
 use language::Comparator;
 use language::SurfaceComparator;
-use language::or_equal;
-use language::strict;
 pub use pages::pages_in_category;
 pub use pages::pages_named;
 pub use pages::pages_with_link;
@@ -121,11 +119,32 @@ pub fn stands_as(c: Comparator, o: Order) -> bool
 pub fn stands_as_typed(c: SurfaceComparator, o: Order) -> bool
     ensures { λ r. ⌜ r ≡ standsAs c o ⌝ }
 {
-    let d = strict(c);
-    if or_equal(c) {
-        return stands_as(d, o) | stands_as(Comparator::Equal, o);
+    match o {
+        Order::Less => match c {
+            SurfaceComparator::Equal => false,
+            SurfaceComparator::Unequal => true,
+            SurfaceComparator::Greater => false,
+            SurfaceComparator::Less => true,
+            SurfaceComparator::AtLeast => false,
+            SurfaceComparator::AtMost => true,
+        },
+        Order::Equal => match c {
+            SurfaceComparator::Equal => true,
+            SurfaceComparator::Unequal => false,
+            SurfaceComparator::Greater => false,
+            SurfaceComparator::Less => false,
+            SurfaceComparator::AtLeast => true,
+            SurfaceComparator::AtMost => true,
+        },
+        Order::Greater => match c {
+            SurfaceComparator::Equal => false,
+            SurfaceComparator::Unequal => true,
+            SurfaceComparator::Greater => true,
+            SurfaceComparator::Less => false,
+            SurfaceComparator::AtLeast => true,
+            SurfaceComparator::AtMost => false,
+        },
     }
-    stands_as(d, o)
 }
 
 // The namespace and the name of text x; past the last text there are none.

@@ -23,7 +23,7 @@ use crate::forms::terms_passing;
 use crate::namespace_at;
 use crate::ranges::category_range;
 use crate::ranges::property_range;
-use crate::ranks::name_order;
+use crate::ranks::order_by;
 use crate::ranks::rank_for;
 use crate::ranks::rank_of;
 use crate::stands_as;
@@ -32,8 +32,10 @@ use register_form::form_end;
 use register_form::form_start;
 use register_form::identifier_number;
 use register_form::minus;
+use register_form::name_at;
 use register_form::page_count;
 use tables::widen;
+use text::compare;
 use text::same_bytes;
 
 // The pages that have a term of a range.
@@ -109,7 +111,8 @@ pub fn pages_with_link(h: &[u8], places: &[u16], x: &[u8], words: &[u64]) -> Pag
     pages_marked(h, &wanted)
 }
 
-// Whether the page in place i has a namespace or an article name that stands to x, which has a rank, as a test asks.
+// Whether the page in place i has a namespace or an article name that stands to x, which has a rank, as a test asks. The order of
+// names is not left to `name_order`, which is not compiled into its callers: this is asked of each page by each node.
 fn name_passes(h: &[u8], i: u16, test: NameTest, x: &[u8], rank: Rank) -> bool
     ensures { λ r. ⌜ r ≡ namePassesAt (now (h .entry)) (now (x .entry)) rank test i ⌝ }
 {
@@ -117,7 +120,11 @@ fn name_passes(h: &[u8], i: u16, test: NameTest, x: &[u8], rank: Rank) -> bool
         NameTest::Namespace => same_bytes(namespace_at(h, i), x),
         NameTest::Article(c) => {
             let n = identifier_number(h, i);
-            stands_as(c, name_order(h, n, x, rank))
+            if n < rank.plain {
+                stands_as(c, order_by(rank, n))
+            } else {
+                stands_as(c, compare(name_at(h, n), x))
+            }
         }
     }
 }

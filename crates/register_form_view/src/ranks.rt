@@ -88,7 +88,7 @@ pub fn rank_for(h: &[u8], test: ValueTest, q: &[u8], uses: u16) -> Rank
 }
 
 // How the name of text n stands to that of the rank, where the rank tells.
-fn order_by(rank: Rank, n: u16) -> Order
+pub fn order_by(rank: Rank, n: u16) -> Order
     ensures { λ r. ⌜ r ≡ numbers (1 + 2 * n) (rank .key) ⌝ }
 {
     compare_numbers(1 + 2 * long(n), rank.key)

@@ -21,17 +21,17 @@ slice-aggregate-put-composed-2 c = search needs
 put-composed-requires-2 : tie.Need-put-composed-requires-2
 put-composed-requires-2 c κs = search needs
 
-slice-aggregate-put-link : tie.Need-slice-aggregate-put-link
-slice-aggregate-put-link c = search needs
+slice-aggregate-put-select : tie.Need-slice-aggregate-put-select
+slice-aggregate-put-select c = search needs
 
-put-link-requires : tie.Need-put-link-requires
-put-link-requires c κs = search needs
+put-select-requires : tie.Need-put-select-requires
+put-select-requires c κs = search needs
 
 same-length : tie.Need-same-length
 same-length c = search needs
 
 returns : tie.Need-returns
-returns c = typed-adds (c .before .before .before .before .before .before .before .before .before .before .before .before .before .before .before .before .before .args .s .now) (c .before .before .before .before .before .before .before .before .before .before .before .before .before .before .before .before .before .args .split) _ _ _ _ _ _ (c .before .before .before .before .before .before .before .before .before .before .before .before .part .ensures) (c .before .before .before .before .before .before .before .before .before .before .before .part2 .ensures) (c .before .before .before .before .before .before .before .before .before .put-composed .ensures) (c .before .before .before .before .before .before .put-composed2 .ensures) _ _ _ _ _ _ (c .before .before .put-link .ensures)
+returns c = typed-adds (c .before .before .before .before .before .before .before .before .before .before .before .before .before .before .before .before .before .args .s .now) (c .before .before .before .before .before .before .before .before .before .before .before .before .before .before .before .before .before .args .split) _ _ _ _ _ _ (c .before .before .before .before .before .before .before .before .before .before .before .before .part .ensures) (c .before .before .before .before .before .before .before .before .before .before .before .part2 .ensures) (c .before .before .before .before .before .before .before .before .before .put-composed .ensures) (c .before .before .before .before .before .before .put-composed2 .ensures) _ _ _ _ _ _ (c .before .before .put-select .ensures)
 
 pub put-typed-spec : {M : Type 1} → statement M
 put-typed-spec =
@@ -43,7 +43,7 @@ put-typed-spec =
     put-composed-requires
     slice-aggregate-put-composed-2
     put-composed-requires-2
-    slice-aggregate-put-link
-    put-link-requires
+    slice-aggregate-put-select
+    put-select-requires
     same-length
     returns)

@@ -12,14 +12,17 @@ text-number-requires c κs = search needs
 part-requires : tie.Need-part-requires
 part-requires c κs = search needs
 
-has-namespace-requires : tie.Need-has-namespace-requires
-has-namespace-requires c κs = search needs
-
 name-order-requires : tie.Need-name-order-requires
 name-order-requires c κs = search needs
 
 stands-as-typed-requires : tie.Need-stands-as-typed-requires
 stands-as-typed-requires c κs = search needs
+
+returns : tie.Need-returns
+returns c = search (meaning, needs)
+
+has-namespace-requires : tie.Need-has-namespace-requires
+has-namespace-requires c κs = search needs
 
 enum-told-2 : tie.Need-enum-told-2
 enum-told-2 c = search needs
@@ -27,14 +30,14 @@ enum-told-2 c = search needs
 enum-told-3 : tie.Need-enum-told-3
 enum-told-3 c = search needs
 
-returns : tie.Need-returns
-returns c = search (meaning, needs)
-
 returns-2 : tie.Need-returns-2
 returns-2 c = search (meaning, needs)
 
 returns-3 : tie.Need-returns-3
 returns-3 c = search (meaning, needs)
+
+returns-4 : tie.Need-returns-4
+returns-4 c = search (meaning, needs)
 
 pub link-meant-spec : {M : Type 1} → statement M
 link-meant-spec =
@@ -43,11 +46,12 @@ link-meant-spec =
     enum-told
     text-number-requires
     part-requires
-    has-namespace-requires
     name-order-requires
     stands-as-typed-requires
+    returns
+    has-namespace-requires
     enum-told-2
     enum-told-3
-    returns
     returns-2
-    returns-3)
+    returns-3
+    returns-4)

@@ -18,17 +18,29 @@ enum-known-test c = search needs
 identifier-number-requires : tie.Need-identifier-number-requires
 identifier-number-requires c κs = search needs
 
-name-order-requires : tie.Need-name-order-requires
-name-order-requires c κs = search needs
+order-by-requires : tie.Need-order-by-requires
+order-by-requires c κs = search needs
 
 stands-as-requires : tie.Need-stands-as-requires
 stands-as-requires c κs = search needs
+
+name-at-requires : tie.Need-name-at-requires
+name-at-requires c κs = search needs
+
+compare-requires : tie.Need-compare-requires
+compare-requires c κs = search needs
+
+stands-as-requires-2 : tie.Need-stands-as-requires-2
+stands-as-requires-2 c κs = search needs
 
 returns : tie.Need-returns
 returns c = search (naming-pages, needs)
 
 returns-2 : tie.Need-returns-2
 returns-2 c = search (naming-pages, needs)
+
+returns-3 : tie.Need-returns-3
+returns-3 c = search (naming-pages, needs)
 
 pub name-passes-spec : {M : Type 1} → statement M
 name-passes-spec =
@@ -39,7 +51,11 @@ name-passes-spec =
     same-bytes-requires
     enum-known-test
     identifier-number-requires
-    name-order-requires
+    order-by-requires
     stands-as-requires
+    name-at-requires
+    compare-requires
+    stands-as-requires-2
     returns
-    returns-2)
+    returns-2
+    returns-3)
