@@ -5,7 +5,7 @@ use mathlib.Core.Bool.{Bool, true, false, cond, not, _&&_, _||_, or-false, and-t
 use mathlib.Core.List.{List, [], _∷_}
 use mathlib.Core.Option.{some, none}
 use native.Mathlib.Omega.{arith}
-use borrow.Author.Tests.{lt-ltb, le-ltb, le-leb, lt-leb, ne-eqb, not-true, not-false}
+use borrow.Author.Tests.{lt-ltb, le-ltb, le-leb, lt-leb, ne-eqb}
 use lib.Dec.{leb, ltb, eqb}
 use lib.ListN.{length, getD}
 use Rattle.text.specs.Bytes.{Bytes, part, same, numbers, any}
@@ -101,15 +101,15 @@ module _ (h q : Bytes) (rank : Rank) (c : SurfaceComparator) (s : Split) (k : Ki
     met : meantAt h q rank c s k f ≡ (namespaceFits c (splitOf q s) (spaceOf (textAt h n)) && r)
     met = rw (e, v, u, lies, is)
 
-    pub link-unmet : not r ≡ true → false ≡ meantAt h q rank c s k f
-    link-unmet t = sym (met ∙ rw (not-true r t) (go (namespaceFits c (splitOf q s) (spaceOf (textAt h n)))))
+    pub link-unmet : r ≡ false → false ≡ meantAt h q rank c s k f
+    link-unmet t = sym (met ∙ rw t (go (namespaceFits c (splitOf q s) (spaceOf (textAt h n)))))
       where
         go : (b : Bool) → (b && false) ≡ false
         go true = refl
         go false = refl
 
-    pub link-meant : (b : Bool) → not r ≡ false → b ≡ namespaceFits c (splitOf q s) (spaceOf (textAt h n)) → b ≡ meantAt h q rank c s k f
-    link-meant b t g = g ∙ sym (and-true (namespaceFits c (splitOf q s) (spaceOf (textAt h n)))) ∙ sym (met ∙ rw (not-false r t))
+    pub link-meant : (b : Bool) → r ≡ true → b ≡ namespaceFits c (splitOf q s) (spaceOf (textAt h n)) → b ≡ meantAt h q rank c s k f
+    link-meant b t g = g ∙ sym (and-true (namespaceFits c (splitOf q s) (spaceOf (textAt h n)))) ∙ sym (met ∙ rw t)
 
   pub scalar-unmeant : (j : Scalar) → k ≡ Kind.Scalar j → false ≡ meantAt h q rank c s k f
   scalar-unmeant j e = rw e

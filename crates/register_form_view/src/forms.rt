@@ -94,10 +94,11 @@ fn link_meant(
             let n = text_number(h, f);
             let p = split.article;
             let x = part(q, p.start, p.len);
-            if !stands_as_typed(c, name_order(h, n, x, rank)) {
-                return false;
+            if stands_as_typed(c, name_order(h, n, x, rank)) {
+                has_namespace(h, n, c, split, q)
+            } else {
+                false
             }
-            has_namespace(h, n, c, split, q)
         }
         Kind::Scalar(_) => false,
         Kind::String => false,

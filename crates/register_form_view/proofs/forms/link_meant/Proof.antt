@@ -18,9 +18,6 @@ name-order-requires c κs = search needs
 stands-as-typed-requires : tie.Need-stands-as-typed-requires
 stands-as-typed-requires c κs = search needs
 
-returns : tie.Need-returns
-returns c = search (meaning, needs)
-
 has-namespace-requires : tie.Need-has-namespace-requires
 has-namespace-requires c κs = search needs
 
@@ -29,6 +26,9 @@ enum-told-2 c = search needs
 
 enum-told-3 : tie.Need-enum-told-3
 enum-told-3 c = search needs
+
+returns : tie.Need-returns
+returns c = search (meaning, needs)
 
 returns-2 : tie.Need-returns-2
 returns-2 c = search (meaning, needs)
@@ -48,10 +48,10 @@ link-meant-spec =
     part-requires
     name-order-requires
     stands-as-typed-requires
-    returns
     has-namespace-requires
     enum-told-2
     enum-told-3
+    returns
     returns-2
     returns-3
     returns-4)
