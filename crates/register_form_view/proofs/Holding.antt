@@ -144,6 +144,6 @@ module _ (h x : Bytes) (rank : Rank) (test : NameTest) (i : ℕ) (r : Bool) wher
     article-ranked l g = rw (e, ← f, ← order-ranked h x rank n d l g) u
 
     pub article-compared : (y : Bytes) → rank .plain ≤ n → y ≡ nameOf (textAt h n) → d ≡ orderOf y x → r ≡ namePassesAt h x rank test i
-    article-compared y l w g = rw (e, ← f, ← order-compared h x rank n d y l w g) u
+    article-compared y l w g = rw (e, ← f, ← order-compared h x rank n d l (g ∙ rw w)) u
 
 pub ruleset naming-pages = (passes-namespace, article-ranked, article-compared)

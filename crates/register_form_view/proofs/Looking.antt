@@ -8,7 +8,7 @@ use native.Mathlib.Omega.{arith}
 use borrow.Author.Tests.{lt-ltb, le-ltb, le-leb, lt-leb, ne-eqb}
 use lib.Dec.{leb, ltb, eqb}
 use lib.ListN.{length, getD}
-use Rattle.text.specs.Bytes.{Bytes, part, same, numbers, any}
+use Rattle.text.specs.Bytes.{Bytes, part, same, numbers, orderOf, any}
 use Rattle.text.specs.Parts.{partOf}
 use Rattle.text.specs.Table.{tabulate}
 use Rattle.text.specs.declared.Order.{Order}
@@ -28,12 +28,13 @@ use Rattle.language.specs.declared.SurfaceComparator.{SurfaceComparator}
 use Rattle.language.proofs.EachComparator.{mark-word}
 use Rattle.query_core.specs.declared.Constant.{Constant}
 use Rattle.buffer.specs.Numbers.{twoAt}
-use Rattle.register_form.specs.Dictionary.{spaceOf, termCode}
+use Rattle.register_form.specs.Dictionary.{spaceOf, nameOf, termCode}
 use Rattle.register_form.specs.Form.{termAt, textAt}
 use Rattle.register_form_view.specs.Ranges.{nameOrder}
 use Rattle.register_form_view.specs.View.{textNumber, standsAt, namespaceFits, meantAt, passesAt, marked, leadsInto, formBytes, numbersIn}
 use Rattle.register_form_view.specs.declared.Rank.{Rank}
 use Rattle.register_form_view.specs.declared.ValueTest.{ValueTest}
+use Rattle.register_form_view.proofs.Ordering.{order-ranked, order-compared}
 
 -- text_number
 pub number-of-text : (h : Bytes) (f : ℕ) (t : Bytes) (r : ℕ) → t ≡ termAt h f → r ≡ twoAt t 1 → r ≡ textNumber h f
@@ -71,10 +72,17 @@ module _ (h : Bytes) (f : ℕ) (k : Kind) (c : Comparator) (w : Constant) (q : B
     unfolding Cv
     string-scalar l b v = rw (e, v)
 
-    pub stands-string : (p : Span) (n : ℕ) (x : Bytes) (o : Order) (r : Bool) → w ≡ Constant.String p → n ≡ textNumber h f → x ≡ part q (p .start) (p .len) → o ≡ nameOrder h x rank n → r ≡ stands c o → Stands r
-    stands-string p n x o r v is lies g u = rw (e, v) (u ∙ ap (stands c) (g ∙ rw (is, lies)))
+    module _ (p : Span) (n : ℕ) (o : Order) (r : Bool) (v : w ≡ Constant.String p) (is : n ≡ textNumber h f) (u : r ≡ stands c o) where
+      stands-string : o ≡ nameOrder h (partOf q p) rank n → Stands r
+      stands-string g = rw (e, v) (u ∙ ap (stands c) (g ∙ rw is))
 
-pub ruleset standing = (number-of-text, stands-page, stands-scalar, scalar-string, string-scalar, stands-string)
+      pub stands-ranked : n < rank .plain → o ≡ numbers (1 + 2 * n) (rank .key) → Stands r
+      stands-ranked l g = stands-string (order-ranked h (partOf q p) rank n o l g)
+
+      pub stands-compared : (x : Bytes) → rank .plain ≤ n → x ≡ part q (p .start) (p .len) → o ≡ orderOf (nameOf (textAt h n)) x → Stands r
+      stands-compared x l lies g = stands-string (order-compared h (partOf q p) rank n o l (rw lies at g))
+
+pub ruleset standing = (number-of-text, stands-page, stands-scalar, scalar-string, string-scalar, stands-ranked, stands-compared)
 
 -- has_namespace
 module _ (q : Bytes) (c : SurfaceComparator) (s : Split) (n t : Bytes) (at : t ≡ n) where
@@ -95,11 +103,19 @@ module _ (q : Bytes) (c : SurfaceComparator) (s : Split) (n t : Bytes) (at : t �
       go true (a ∷ n) = ne-eqb (length (a ∷ n)) 0 (λ e. omega (arith, e))
       go false n = refl
 
+-- article_stands
+module _ (h q : Bytes) (rank : Rank) (c : SurfaceComparator) (p : Span) (n : ℕ) (o : Order) (r : Bool) (v : r ≡ standsAs c o) where
+  pub article-by-rank : n < rank .plain → o ≡ numbers (1 + 2 * n) (rank .key) → r ≡ standsAs c (nameOrder h (partOf q p) rank n)
+  article-by-rank l g = v ∙ ap (standsAs c) (order-ranked h (partOf q p) rank n o l g)
+
+  pub article-by-bytes : (x : Bytes) → rank .plain ≤ n → x ≡ part q (p .start) (p .len) → o ≡ orderOf (nameOf (textAt h n)) x → r ≡ standsAs c (nameOrder h (partOf q p) rank n)
+  article-by-bytes x l lies g = v ∙ ap (standsAs c) (order-compared h (partOf q p) rank n o l (rw lies at g))
+
 -- link_meant
 module _ (h q : Bytes) (rank : Rank) (c : SurfaceComparator) (s : Split) (k : Kind) (f : ℕ) where
-  module _ (n : ℕ) (x : Bytes) (o : Order) (r : Bool) (e : k ≡ Kind.Page) (is : n ≡ textNumber h f) (lies : x ≡ part q (s .article .start) (s .article .len)) (u : o ≡ nameOrder h x rank n) (v : r ≡ standsAs c o) where
+  module _ (n : ℕ) (r : Bool) (e : k ≡ Kind.Page) (is : n ≡ textNumber h f) (v : r ≡ standsAs c (nameOrder h (partOf q (s .article)) rank n)) where
     met : meantAt h q rank c s k f ≡ (namespaceFits c (splitOf q s) (spaceOf (textAt h n)) && r)
-    met = rw (e, v, u, lies, is)
+    met = rw (e, v, is)
 
     pub link-unmet : r ≡ false → false ≡ meantAt h q rank c s k f
     link-unmet t = sym (met ∙ rw t (go (namespaceFits c (splitOf q s) (spaceOf (textAt h n)))))
@@ -125,7 +141,7 @@ module _ (h q : Bytes) (rank : Rank) (test : ValueTest) (k : Kind) (f : ℕ) (r 
   pub passes-reference : (c : SurfaceComparator) (s : Split) → test ≡ ValueTest.Reference c s → r ≡ meantAt h q rank c s k f → r ≡ passesAt h q rank test k f
   passes-reference c s e g = rw e g
 
-pub ruleset meaning = (number-of-text, written-fits, bare-fits, link-unmet, link-meant, scalar-unmeant, string-unmeant, passes-constant, passes-reference)
+pub ruleset meaning = (number-of-text, written-fits, bare-fits, article-by-rank, article-by-bytes, link-unmet, link-meant, scalar-unmeant, string-unmeant, passes-constant, passes-reference)
 
 -- marked_at
 pub marked-none : (marks : List Bool) (place : ℕ) → place ≡ 0 → false ≡ marked marks place

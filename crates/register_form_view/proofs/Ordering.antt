@@ -152,17 +152,17 @@ module _ (h q : Bytes) (test : ValueTest) (r : Rank) where
   unfolding TestRank
   rank-reference c s x e lies f = rw (e, ← lies) f
 
--- name_order: by the rank, where it tells, and by the bytes
+-- By the rank, where it tells, and by the bytes
 module _ (h x : Bytes) (r : Rank) (n : ℕ) (o : Order) where
   pub order-ranked : n < r .plain → o ≡ numbers (1 + 2 * n) (r .key) → o ≡ nameOrder h x r n
   unfolding nameOrder
   order-ranked l g = rw (lt-ltb n (r .plain) l) g
 
-  pub order-compared : (y : Bytes) → r .plain ≤ n → y ≡ nameOf (textAt h n) → o ≡ orderOf y x → o ≡ nameOrder h x r n
+  pub order-compared : r .plain ≤ n → o ≡ orderOf (nameOf (textAt h n)) x → o ≡ nameOrder h x r n
   unfolding nameOrder
-  order-compared y l w g = rw (le-ltb n (r .plain) l) (g ∙ rw w)
+  order-compared l g = rw (le-ltb n (r .plain) l) g
 
-pub ruleset ordering = (key-past, key-at, key-none, rank-few, rank-many, rank-scalar, rank-string, rank-constant, rank-reference, order-ranked, order-compared)
+pub ruleset ordering = (key-past, key-at, key-none, rank-few, rank-many, rank-scalar, rank-string, rank-constant, rank-reference)
 
 -- Of an opened register, by rank or not, the name of a text stands to x as it does.
 pub name-order : {h : Bytes} {R : Register} (d : Known h R) (x : Bytes) (r : Rank) → RankOf h x r → (t : Bytes) → List·Memᴰ t (textsOf R) → (s y : Bytes) → t ≡ labelled s y → nameOrder h x r (rank orderOf t (textsOf R)) ≡ orderOf y x

@@ -5,7 +5,9 @@ ghost use lib.ListN.{getD};
 ghost use Rattle.text.specs.Bytes.{any};
 ghost use Rattle.text.specs.Table.{tabulate};
 ghost use Rattle.pageset.specs.Marks.{marksFrom};
-ghost use Rattle.register_form_view.specs.Ranges.{within};
+ghost use Rattle.text.specs.Parts.{partOf};
+ghost use Rattle.language.specs.References.{standsAs};
+ghost use Rattle.register_form_view.specs.Ranges.{nameOrder, within};
 ghost use Rattle.values.specs.Answers.{splitOf};
 ghost use Rattle.register_form.specs.Dictionary.{spaceOf};
 ghost use Rattle.register_form.specs.Form.{textAt};
@@ -14,7 +16,8 @@ use crate::Rank;
 use crate::TermRange;
 use crate::TermSet;
 use crate::ValueTest;
-use crate::ranks::name_order;
+use crate::ranks::compare_name;
+use crate::ranks::order_by;
 use crate::stands_as;
 use crate::stands_as_typed;
 use buffer::two_at;
@@ -30,6 +33,7 @@ use register_form::space_at;
 use register_form::term_at;
 use tables::num_at;
 use tables::widen;
+use text::Span;
 use text::compare_numbers;
 use text::part;
 use text::same_bytes;
@@ -58,8 +62,12 @@ fn value_stands(h: &[u8], f: u16, k: Kind, c: Comparator, w: Constant, q: &[u8],
         Kind::String => match w {
             Constant::Scalar(_, _) => false,
             Constant::String(p) => {
-                let x = part(q, p.start, p.len);
-                stands_as(c, name_order(h, text_number(h, f), x, rank))
+                let n = text_number(h, f);
+                if n < rank.plain {
+                    stands_as(c, order_by(rank, n))
+                } else {
+                    stands_as(c, compare_name(h, n, part(q, p.start, p.len)))
+                }
             }
         },
     }
@@ -77,6 +85,17 @@ fn has_namespace(h: &[u8], n: u16, c: SurfaceComparator, split: Split, q: &[u8])
     !is_equal(c) | (space.len() == 0)
 }
 
+// Whether the name of text n stands to that of a reference, which has a rank.
+fn article_stands(h: &[u8], n: u16, c: SurfaceComparator, p: Span, q: &[u8], rank: Rank) -> bool
+    ensures { λ r. ⌜ r ≡ standsAs c (nameOrder (now (h .entry)) (partOf (now (q .entry)) p) rank n) ⌝ }
+{
+    if n < rank.plain {
+        stands_as_typed(c, order_by(rank, n))
+    } else {
+        stands_as_typed(c, compare_name(h, n, part(q, p.start, p.len)))
+    }
+}
+
 // Whether the value of term f, of a kind, is a link that a reference means; its names lie in q, the article's has a rank.
 fn link_meant(
     h: &[u8],
@@ -92,9 +111,7 @@ fn link_meant(
     match k {
         Kind::Page => {
             let n = text_number(h, f);
-            let p = split.article;
-            let x = part(q, p.start, p.len);
-            if stands_as_typed(c, name_order(h, n, x, rank)) {
+            if article_stands(h, n, c, split.article, q, rank) {
                 has_namespace(h, n, c, split, q)
             } else {
                 false

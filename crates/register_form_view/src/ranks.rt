@@ -2,9 +2,11 @@
 ghost use mathlib.Core.Path.{_≡_};
 ghost use mathlib.Core.List.{[], _∷_};
 ghost use Prim.Native.Nat.{_+_, _*_};
-ghost use Rattle.text.specs.Bytes.{numbers};
+ghost use Rattle.text.specs.Bytes.{numbers, orderOf};
+ghost use Rattle.register_form.specs.Dictionary.{nameOf};
+ghost use Rattle.register_form.specs.Form.{textAt};
 ghost use Rattle.register_form_view.specs.declared.Index.the-variants.{Texts as TextIndex};
-ghost use Rattle.register_form_view.specs.Ranges.{Ranked, Keyed, RankOf, ConstantRank, TestRank, nameOrder};
+ghost use Rattle.register_form_view.specs.Ranges.{Ranked, Keyed, RankOf, ConstantRank, TestRank};
 use crate::Index;
 use crate::Rank;
 use crate::ValueTest;
@@ -94,12 +96,9 @@ pub fn order_by(rank: Rank, n: u16) -> Order
     compare_numbers(1 + 2 * long(n), rank.key)
 }
 
-// How the name of text n stands to x, which has a rank.
-pub fn name_order(h: &[u8], n: u16, x: &[u8], rank: Rank) -> Order
-    ensures { λ r. ⌜ r ≡ nameOrder (now (h .entry)) (now (x .entry)) rank n ⌝ }
+// How the name of text n stands to x.
+pub fn compare_name(h: &[u8], n: u16, x: &[u8]) -> Order
+    ensures { λ r. ⌜ r ≡ orderOf (nameOf (textAt (now (h .entry)) n)) (now (x .entry)) ⌝ }
 {
-    if n < rank.plain {
-        return order_by(rank, n);
-    }
     compare(name_at(h, n), x)
 }

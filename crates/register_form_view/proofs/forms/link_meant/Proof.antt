@@ -9,14 +9,8 @@ enum-told c = search needs
 text-number-requires : tie.Need-text-number-requires
 text-number-requires c κs = search needs
 
-part-requires : tie.Need-part-requires
-part-requires c κs = search needs
-
-name-order-requires : tie.Need-name-order-requires
-name-order-requires c κs = search needs
-
-stands-as-typed-requires : tie.Need-stands-as-typed-requires
-stands-as-typed-requires c κs = search needs
+article-stands-requires : tie.Need-article-stands-requires
+article-stands-requires c κs = search needs
 
 has-namespace-requires : tie.Need-has-namespace-requires
 has-namespace-requires c κs = search needs
@@ -45,9 +39,7 @@ link-meant-spec =
     (tie.spec
     enum-told
     text-number-requires
-    part-requires
-    name-order-requires
-    stands-as-typed-requires
+    article-stands-requires
     has-namespace-requires
     enum-told-2
     enum-told-3

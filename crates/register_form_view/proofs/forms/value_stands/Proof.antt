@@ -1,5 +1,5 @@
-use Rattle.register_form_view.proofs.Looking.{standing}
 use borrow.Author.Needs.{needs}
+use Rattle.register_form_view.proofs.Looking.{standing}
 use Rattle.register_form_view.proofs.forms.value_stands.Statement.{statement}
 use Rattle.register_form_view.proofs.forms.value_stands.Tie as tie
 
@@ -36,17 +36,23 @@ enum-told-4 c = search needs
 enum-known-w-2 : tie.Need-enum-known-w-2
 enum-known-w-2 c = search needs
 
-part-requires : tie.Need-part-requires
-part-requires c κs = search needs
-
 text-number-requires : tie.Need-text-number-requires
 text-number-requires c κs = search needs
 
-name-order-requires : tie.Need-name-order-requires
-name-order-requires c κs = search needs
+order-by-requires : tie.Need-order-by-requires
+order-by-requires c κs = search needs
 
 stands-as-requires-2 : tie.Need-stands-as-requires-2
 stands-as-requires-2 c κs = search needs
+
+part-requires : tie.Need-part-requires
+part-requires c κs = search needs
+
+compare-name-requires : tie.Need-compare-name-requires
+compare-name-requires c κs = search needs
+
+stands-as-requires-3 : tie.Need-stands-as-requires-3
+stands-as-requires-3 c κs = search needs
 
 returns : tie.Need-returns
 returns c = search (standing, needs)
@@ -63,6 +69,9 @@ returns-4 c = search (standing, needs)
 returns-5 : tie.Need-returns-5
 returns-5 c = search (standing, needs)
 
+returns-6 : tie.Need-returns-6
+returns-6 c = search (standing, needs)
+
 pub value-stands-spec : {M : Type 1} → statement M
 value-stands-spec =
     tie.close
@@ -78,12 +87,15 @@ value-stands-spec =
     enum-told-3
     enum-told-4
     enum-known-w-2
-    part-requires
     text-number-requires
-    name-order-requires
+    order-by-requires
     stands-as-requires-2
+    part-requires
+    compare-name-requires
+    stands-as-requires-3
     returns
     returns-2
     returns-3
     returns-4
-    returns-5)
+    returns-5
+    returns-6)
