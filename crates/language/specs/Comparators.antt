@@ -32,7 +32,7 @@ firstTyped (c ∷ l) s = cond (starts (word c) s) c (firstTyped l s)
 abbrev pub isEqual : SurfaceComparator → Bool
 isEqual c = eqb (length (word c)) 0
 
--- The byte of a comparator in held trees.
+-- The byte of a comparator in held trees, and in the links of held queries.
 abbrev pub comparatorCode : SurfaceComparator → ℕ
 comparatorCode SurfaceComparator.Equal = 0
 comparatorCode SurfaceComparator.Unequal = 1

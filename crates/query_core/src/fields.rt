@@ -1,4 +1,4 @@
-// The fields of a slot, from its bytes.
+// The fields of a slot, from its bytes, and the node of a selector that keeps its rules.
 ghost use mathlib.Core.Path.{_≡_};
 ghost use Rattle.query_core.specs.Held.{slotFrom};
 ghost use Rattle.query_core.specs.Reading.{selected};

@@ -3,7 +3,7 @@ pub mod layout; // layout.rt: the regions and tags of a held query
 pub mod query; // query.rt: number 21's test
 mod links; // links.rt: a link from the bytes of its slot
 pub mod reading; // reading.rt: a node from its bytes
-mod fields; // fields.rt: the fields of a slot, from its bytes
+mod fields; // fields.rt: the fields of a slot, and a selector's node
 mod placing; // placing.rt: where the strings of nodes lie, and their slots
 pub mod writing; // writing.rt: nodes into a held query
 
