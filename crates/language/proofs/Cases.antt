@@ -9,7 +9,7 @@ use Rattle.names.specs.Codes.{isMark, isPlain, isWide, pairCode, isPair, read, 
 use Rattle.names.specs.Names.{compose, composed, composedName, hasNameShape, isName, isPropertyName, isNamespace}
 use Rattle.values.specs.Names.{isValue, reference}
 use Rattle.values.specs.Answers.{firstKind}
-use Rattle.values.specs.Values.{decimal, readDigits, readNumber, readBoolean, readLink}
+use Rattle.values.specs.Values.{decimal, readDigits, readFraction, readThousandths, readNumber, readBoolean, readLink}
 use Rattle.language.specs.Answer.{Answer, refused, accepted, judge}
 use Rattle.language.specs.Register.{kindAmong, holds, leads}
 use Rattle.language.specs.RegisterText.{quoted, kindWordAt, propForm, pageForm, catForm, valForm, closing, nextEntry, entriesWithin, entriesFrom, someTwice, properties, valueOf, countOf, overLimits, addCategory, addHeld, filled, pagesOf, registerOf, composedEntries, readRegister}
@@ -60,7 +60,7 @@ holdsTest c = answers (coreAnswer (c .query)) (marksAt 6 (c .places)) && answers
 
 -- The claim: every case holds, for the core semantics and for the direct meaning.
 pub claim : all holdsTest cases ≡ true
-unfolding holdsTest answers sameMarks coreAnswer directAnswer marksAt cases sampleText coreOf runText any all same orderOf numbers span trimEnd trim starts after isFree isQuotable isNameByte isValueByte isDigit table find composition isMark isPlain isWide pairCode isPair read encode write compose composed composedName hasNameShape isName isPropertyName isNamespace isValue reference decimal readDigits readNumber readBoolean readLink judge kindAmong holds leads quoted firstKind kindWordAt propForm pageForm catForm valForm closing nextEntry entriesWithin entriesFrom someTwice properties valueOf countOf overLimits addCategory addHeld filled pagesOf registerOf composedEntries readRegister composedChain composedCategories composedIdentifiers composedQuery namesOf propertiesOf token firstTyped comparator pieceAt headLength splitDots trimNames piecesWithin readPieces plainBody closedInner closedGroup closedBody nextTerm queryWithin readQuery readWhole namesIn depth longest breaksNames breaks breaksValue categoriesFrom identifiersFrom surface readText nodes compared elaborateReference elaborateIdentifiers elaborateCategories elaborateConstant elaborateValue inside joined along elaborate fit Ca Cv Cl follows Q someOther mismatch run namespaceMeant isMeant meansIdentifiers meansCategories standsTo meansLink meansValue meansChain means meaning
+unfolding holdsTest answers sameMarks coreAnswer directAnswer marksAt cases sampleText coreOf runText any all same orderOf numbers span trimEnd trim starts after isFree isQuotable isNameByte isValueByte isDigit table find composition isMark isPlain isWide pairCode isPair read encode write compose composed composedName hasNameShape isName isPropertyName isNamespace isValue reference decimal readDigits readFraction readThousandths readNumber readBoolean readLink judge kindAmong holds leads quoted firstKind kindWordAt propForm pageForm catForm valForm closing nextEntry entriesWithin entriesFrom someTwice properties valueOf countOf overLimits addCategory addHeld filled pagesOf registerOf composedEntries readRegister composedChain composedCategories composedIdentifiers composedQuery namesOf propertiesOf token firstTyped comparator pieceAt headLength splitDots trimNames piecesWithin readPieces plainBody closedInner closedGroup closedBody nextTerm queryWithin readQuery readWhole namesIn depth longest breaksNames breaks breaksValue categoriesFrom identifiersFrom surface readText nodes compared elaborateReference elaborateIdentifiers elaborateCategories elaborateConstant elaborateValue inside joined along elaborate fit Ca Cv Cl follows Q someOther mismatch run namespaceMeant isMeant meansIdentifiers meansCategories standsTo meansLink meansValue meansChain means meaning
 claim = refl
 
 -- The law that turns the claim into each entry.

@@ -7,3 +7,4 @@ pub mod Digits
 pub mod Coded
 pub mod EachKind
 pub mod AllKinds
+pub mod Halves

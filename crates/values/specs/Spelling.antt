@@ -20,9 +20,19 @@ digitsWithin (suc k) n = elim (ltb n 10) [ true ↦ (48 + n) ∷ [] | false ↦ 
 unfoldable pub digits : ℕ → Bytes
 digits n = digitsWithin (suc n) n
 
+-- The digits behind the point of so many thousandths, zeros at the end left out.
+unfoldable pub spellFraction : ℕ → Bytes
+spellFraction n =
+    cond (eqb n 0) []
+    (46 ∷ (48 + n / 100) ∷ cond (eqb (n % 100) 0) []
+    ((48 + n / 10 % 10) ∷ cond (eqb (n % 10) 0) [] ((48 + n % 10) ∷ [])))
+
+unfoldable pub spellThousandths : ℕ → Bytes
+spellThousandths n = digits (n / 1000) ++ spellFraction (n % 1000)
+
 unfoldable pub spellNumber : ℤ → Bytes
-spellNumber (pos n) = digits n
-spellNumber (negsuc n) = 45 ∷ digits (suc n)
+spellNumber (pos n) = spellThousandths n
+spellNumber (negsuc n) = 45 ∷ spellThousandths (suc n)
 
 abbrev pub spellBoolean : Bool → Bytes
 spellBoolean true = bytes "true"

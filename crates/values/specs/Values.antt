@@ -1,12 +1,12 @@
 -- Kinds, and the values of each. Document 01, "Names, values and kinds"; thesis 4.2.1 and 4.3.1.
-use Prim.Native.Nat.{ℕ, suc, _+_, _*_, _-_}
+use Prim.Native.Nat.{ℕ, suc, _+_, _*_, _-_, _^_}
 use mathlib.Core.Bool.{Bool, true, false, cond, not, _&&_, _||_}
 use mathlib.Core.List.{List, [], _∷_, map}
 use mathlib.Core.Option.{Option, some, none}
 use lib.Dec.{leb, ltb, eqb}
-use lib.ListN.{length}
+use lib.ListN.{length, take, drop}
 use lib.IntN.{ℤ, pos, negsuc, negℤ}
-use Rattle.text.specs.Bytes.{Bytes, bytes, numbers, orderOf, same, all, any}
+use Rattle.text.specs.Bytes.{Bytes, bytes, numbers, orderOf, same, all, any, span}
 use Rattle.text.specs.Class.{isDigit}
 use Rattle.text.specs.Table.{bit}
 use Rattle.text.specs.declared.Order.{Order}
@@ -91,10 +91,25 @@ decimal n (b ∷ s) = decimal (10 * n + (b - 48)) s
 unfoldable pub readDigits : Bytes → Option ℕ
 readDigits s = cond (leb 1 (length s) && leb (length s) 15 && all isDigit s) (some (decimal 0 s)) none
 
--- "an optional minus and 1 to 15 decimal digits"
+-- Document 02, "Half crates": "a point and one to three digits after its digits", or nothing. What they add is a count of thousandths.
+unfoldable pub readFraction : Bytes → Option ℕ
+readFraction [] = some 0
+readFraction (b ∷ s) = cond (eqb b 46 && leb (length s) 3) (mapOption (λ n. n * 10 ^ (3 - length s)) (readDigits s)) none
+
+-- Both, where both are read.
+abbrev pub inThousandths : Option ℕ → Option ℕ → Option ℕ
+inThousandths none m = none
+inThousandths (some n) none = none
+inThousandths (some n) (some m) = some (1000 * n + m)
+
+-- "its value is a count of thousandths": its digits, and what stands behind them.
+unfoldable pub readThousandths : Bytes → Option ℕ
+readThousandths s = inThousandths (readDigits (take (span isDigit s) s)) (readFraction (drop (span isDigit s) s))
+
+-- "an optional minus", then its digits
 unfoldable pub readNumber : Bytes → Option ℤ
 readNumber [] = none
-readNumber (b ∷ s) = cond (eqb b 45) (mapOption (λ n. negℤ (pos n)) (readDigits s)) (mapOption pos (readDigits (b ∷ s)))
+readNumber (b ∷ s) = cond (eqb b 45) (mapOption (λ n. negℤ (pos n)) (readThousandths s)) (mapOption pos (readThousandths (b ∷ s)))
 
 -- An ASCII letter in its small form; any other byte as it is.
 abbrev pub lower : ℕ → ℕ
@@ -111,9 +126,9 @@ readBoolean s =
 unfoldable pub readLink : Bytes → Option Identifier
 readLink s = cond (isReference (reference s)) (some (identifier (composedReference (reference s)))) none
 
--- 10^15, above every number that is read, and the code of a number: 10^15 more.
+-- 10^18, above every number that is read in thousandths, and the code of a number: 10^18 more.
 abbrev pub base : ℕ
-base = 1_000_000_000_000_000
+base = 1_000_000_000_000_000_000
 
 abbrev pub biased : ℤ → ℕ
 biased (pos n) = base + n

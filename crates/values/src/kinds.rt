@@ -126,7 +126,7 @@ fn code_above(k: Scalar) -> u64
     ensures { λ r. ⌜ r ≡ above k ⌝ }
 {
     match k {
-        Scalar::Number => 2_000_000_000_000_000,
+        Scalar::Number => 2_000_000_000_000_000_000,
         Scalar::Boolean => 2,
     }
 }

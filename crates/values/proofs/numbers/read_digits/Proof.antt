@@ -3,14 +3,13 @@ use mathlib.Core.Path.{_≡_, refl, _∙_}
 use native.Mathlib.Omega.{arith}
 use lib.ListN.{length, drop}
 use borrow.Author.Needs.{needs}
-use Rattle.values.specs.Values.{base}
 use Rattle.values.specs.Values.{decimal}
-use Rattle.values.proofs.Decimal.{digits-unfit, digits-small, digits-fit, decimal-end, decimal-step, step-fits}
+use Rattle.values.proofs.Decimal.{wholes, digits-unfit, digits-small, digits-fit, decimal-end, decimal-step, step-fits}
 use Rattle.values.proofs.numbers.read_digits.Statement.{statement}
 use Rattle.values.proofs.numbers.read_digits.Tie as tie
 
 abbrev Inv-loop : tie.InvT-loop
-Inv-loop s fit n₀ i₀ n i = (decimal 0 s < base) × (decimal 0 s ≡ decimal n (drop i s))
+Inv-loop s fit n₀ i₀ n i = (decimal 0 s < wholes) × (decimal 0 s ≡ decimal n (drop i s))
 
 abbrev μ-loop : tie.MeasureT-loop
 μ-loop s fit n₀ i₀ n i = length s - i
