@@ -1,4 +1,5 @@
-/* The same registers in SQLite, in memory. The text is read by the plain implementation, then inserted in one transaction. */
+/* The same registers in SQLite, in memory. The text is read by the plain implementation, then inserted in one transaction, numbers as
+ * thousandths. */
 #include <sqlite3.h>
 #include <stdio.h>
 #include <stdlib.h>

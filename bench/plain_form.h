@@ -18,10 +18,26 @@ enum {
 };
 _Static_assert(HEAP + MOST_HEAP == PLAIN_REGISTER_BYTES, "the regions fill the form");
 
-/* Terms ascend by their nine bytes as they lie. The highest byte of a code is 0, so that a term is one number with that order. */
-static inline uint64_t term_key(unsigned group, uint64_t code) { return (uint64_t)group << 56 | __builtin_bswap64(code) >> 8; }
-static inline unsigned key_group(uint64_t key) { return (unsigned)(key >> 56); }
-static inline uint64_t key_code(uint64_t key) { return __builtin_bswap64(key << 8); }
+/* What is sorted: by nine bytes, the first eight as one number with the high byte first. */
+struct item {
+    uint64_t key;
+    uint8_t ninth;
+    unsigned index;
+};
+static inline int order_items(const struct item *a, const struct item *b) {
+    return a->key != b->key ? (a->key < b->key ? -1 : 1) : a->ninth - b->ninth;
+}
+
+/* Where the bytes are equal it is by a function of the indexes, if there is one. */
+typedef int (*tie_order)(const void *context, unsigned a, unsigned b);
+void sort_items(struct item *items, size_t count, tie_order order, const void *context);
+
+/* Terms ascend by their nine bytes as they lie. */
+static inline struct item term_item(unsigned group, uint64_t code, unsigned index) {
+    return (struct item){(uint64_t)group << 56 | __builtin_bswap64(code) >> 8, (uint8_t)(code >> 56), index};
+}
+static inline unsigned item_group(const struct item *term) { return (unsigned)(term->key >> 56); }
+static inline uint64_t item_code(const struct item *term) { return (uint64_t)term->ninth << 56 | __builtin_bswap64(term->key << 8); }
 
 /* A held register that was found to be one. */
 struct view {
@@ -59,23 +75,15 @@ struct text {
     struct span space, name;
 };
 
-/* A register by numbers: all that is written. Texts and terms (as keys) stand in their order. */
+/* A register by numbers: all that is written. Texts and terms stand in their order. */
 struct draft {
     unsigned props, pages, forms, terms, texts;
     uint8_t kind[MOST_PROPS];
     uint16_t prop_text[MOST_PROPS], page_text[MOST_PAGES], start[MOST_PAGES + 1], form[MOST_FORMS];
-    uint64_t term[MOST_TERMS];
+    struct item term[MOST_TERMS];
     struct text text[MOST_TEXTS];
 };
 
 void write_register(const struct draft *d, uint8_t *held);
-
-/* What is sorted: by the key, and where keys are equal by a function of the indexes, if there is one. */
-struct item {
-    uint64_t key;
-    unsigned index;
-};
-typedef int (*tie_order)(const void *context, unsigned a, unsigned b);
-void sort_items(struct item *items, size_t count, tie_order order, const void *context);
 
 #endif

@@ -79,25 +79,25 @@ static bool join_pages(struct joining *j) {
     return true;
 }
 
-static uint64_t new_key(const struct side *s, unsigned term) {
+static struct item new_term(const struct side *s, unsigned term, unsigned index) {
     unsigned group = term_at(&s->v, term)[0];
     uint64_t code = code_at(&s->v, term);
     bool by_text = group == 0 || kind_at(&s->v, group - 1) == PAGE || kind_at(&s->v, group - 1) == STRING;
-    return term_key(s->group[group], by_text ? s->text[code] : code);
+    return term_item(s->group[group], by_text ? s->text[code] : code, index);
 }
 
 /* False where the terms are too many, and so the forms. */
 static bool join_terms(struct joining *j) {
     struct item items[2 * MOST_TERMS];
     unsigned first = j->side[0].v.terms, all = first + j->side[1].v.terms, n = 0;
-    for (unsigned t = 0; t < all; t++) items[t] = (struct item){t < first ? new_key(&j->side[0], t) : new_key(&j->side[1], t - first), t};
+    for (unsigned t = 0; t < all; t++) items[t] = t < first ? new_term(&j->side[0], t, t) : new_term(&j->side[1], t - first, t);
     sort_items(items, all, NULL, NULL);
     for (unsigned i = 0; i < all; i++) {
         struct side *s = &j->side[items[i].index >= first];
         unsigned t = items[i].index - (items[i].index >= first ? first : 0);
-        if (i == 0 || items[i].key != items[i - 1].key) {
+        if (i == 0 || order_items(&items[i], &items[i - 1]) != 0) {
             if (n == MOST_TERMS) return false;
-            j->d.term[n] = items[i].key;
+            j->d.term[n] = items[i];
             j->last[n] = 0;
             j->shown[n++] = s->v.shown[t];
         }

@@ -49,13 +49,14 @@ static bool check_props(struct check *c) {
     return true;
 }
 
+/* Minus, whole digits, and where there are thousandths left a point and their digits up to the last that is not 0. */
 static unsigned length_of_number(uint64_t code) {
     static const uint64_t powers[] = {10u, 100u, 1000u, 10000u, 100000u, 1000000u, 10000000u, 100000000u, 1000000000u, 10000000000u,
-                                      100000000000u, 1000000000000u, 10000000000000u, 100000000000000u, BIAS};
-    uint64_t n = code < BIAS ? BIAS - code : code - BIAS;
-    unsigned digits = 1;
-    while (n >= powers[digits - 1]) digits++;
-    return digits + (code < BIAS);
+                                      100000000000u, 1000000000000u, 10000000000000u, 100000000000000u, 1000000000000000u};
+    uint64_t n = code < BIAS ? BIAS - code : code - BIAS, whole = n / 1000;
+    unsigned left = (unsigned)(n % 1000), digits = 1;
+    while (whole >= powers[digits - 1]) digits++;
+    return digits + (code < BIAS) + (left == 0 ? 0 : left % 100 == 0 ? 2 : left % 10 == 0 ? 3 : 4);
 }
 
 /* The length of a term's text, which is marked as used, or 0 where it breaks its rule. */
@@ -81,12 +82,12 @@ static unsigned length_of_term(struct check *c, unsigned group, uint64_t code) {
 
 static bool check_terms(struct check *c) {
     struct view *v = c->v;
-    uint64_t last = 0, key;
+    struct item last = {0}, item;
     unsigned groups = 0;
-    for (unsigned t = 0; t < v->terms; t++, last = key) {
+    for (unsigned t = 0; t < v->terms; t++, last = item) {
         unsigned group = term_at(v, t)[0], len = length_of_term(c, group, code_at(v, t));
-        key = term_key(group, code_at(v, t));
-        if (len == 0 || (t > 0 && key <= last)) return false;
+        item = term_item(group, code_at(v, t), t);
+        if (len == 0 || (t > 0 && order_items(&item, &last) <= 0)) return false;
         while (groups < group) v->group_end[groups++] = (uint16_t)t;
         v->shown[t] = (uint8_t)len;
         c->last[t] = 0;

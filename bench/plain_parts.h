@@ -22,7 +22,7 @@ struct reference {
     bool written; /* has a colon */
 };
 
-/* A value by its kind: a number with BIAS added, a boolean as 0 or 1, a string, a page. */
+/* A value by its kind: a number as thousandths with BIAS added, a boolean as 0 or 1, a string, a page. */
 struct value {
     enum kind kind;
     uint64_t code;
@@ -30,7 +30,7 @@ struct value {
     struct reference page;
 };
 
-#define BIAS 1000000000000000u
+#define BIAS 1000000000000000000u
 
 /* Which rules a text keeps: that for names, for values, for property names. These are names as forms hold them, composed. */
 enum { IS_NAME = 1, IS_VALUE = 2, IS_PROPERTY = 4 };

@@ -19,7 +19,7 @@ static int order_texts(const void *context, unsigned a, unsigned b) {
 /* Puts the texts in order; a text's rank is its number then. */
 static void sort_texts(const struct names *n, struct draft *d, uint16_t *rank) {
     struct item items[MOST_TEXTS];
-    for (unsigned x = 0; x < n->count; x++) items[x] = (struct item){text_key(&n->text[x]), x};
+    for (unsigned x = 0; x < n->count; x++) items[x] = (struct item){text_key(&n->text[x]), 0, x};
     sort_items(items, n->count, order_texts, n->text);
     d->texts = n->count;
     for (unsigned i = 0; i < n->count; i++) {
@@ -44,12 +44,12 @@ static void sort_terms(const struct lines *l, const int *text_of, const uint16_t
     struct item items[MOST_FORMS];
     for (unsigned f = 0; f < l->forms; f++) {
         uint64_t code = text_of[f] < 0 ? l->form[f].code : rank[text_of[f]];
-        items[f] = (struct item){term_key((unsigned)(l->form[f].prop + 1), code), f};
+        items[f] = term_item((unsigned)(l->form[f].prop + 1), code, f);
     }
     sort_items(items, l->forms, NULL, NULL);
     d->terms = 0;
     for (unsigned f = 0; f < l->forms; f++) {
-        if (f == 0 || items[f].key != items[f - 1].key) d->term[d->terms++] = items[f].key;
+        if (f == 0 || order_items(&items[f], &items[f - 1]) != 0) d->term[d->terms++] = items[f];
         term_of[items[f].index] = (uint16_t)(d->terms - 1);
     }
 }

@@ -30,14 +30,27 @@ bool read_reference(struct span s, struct room *room, struct reference *out) {
     return compose_namespace(&out->namespace, room) && compose_name(&out->name, room);
 }
 
+/* Puts the digits from there on behind those of n, at most so many; returns where they end. */
+static size_t read_digits(struct span s, size_t at, size_t most, uint64_t *n) {
+    size_t end = s.len - at < most ? s.len : at + most;
+    for (; at < end && s.at[at] >= '0' && s.at[at] <= '9'; at++) *n = 10 * *n + (s.at[at] - '0');
+    return at;
+}
+
+/* An optional minus, 1 to 15 digits, and perhaps a point and 1 to 3 digits. */
 static bool read_number(struct span s, uint64_t *out) {
-    bool minus = s.len > 0 && s.at[0] == '-';
+    size_t minus = s.len > 0 && s.at[0] == '-', places = 0;
     uint64_t n = 0;
-    if (s.len < 1u + minus || s.len > 15u + minus) return false;
-    for (size_t i = minus; i < s.len; i++) {
-        if (s.at[i] < '0' || s.at[i] > '9') return false;
-        n = 10 * n + (s.at[i] - '0');
+    size_t end = read_digits(s, minus, 15, &n);
+    if (end == minus) return false;
+    if (end < s.len && s.at[end] == '.') {
+        size_t start = end + 1;
+        end = read_digits(s, start, 3, &n);
+        places = end - start;
+        if (places == 0) return false;
     }
+    if (end < s.len) return false;
+    for (; places < 3; places++) n *= 10;
     *out = minus ? BIAS - n : BIAS + n;
     return true;
 }

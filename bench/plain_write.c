@@ -24,8 +24,8 @@ static size_t put_props(const struct draft *d, uint8_t *held) {
 static size_t put_terms(const struct draft *d, uint8_t *held) {
     size_t at = TERMS;
     for (unsigned t = 0; t < d->terms; t++, at += TERM_ROW) {
-        held[at] = (uint8_t)key_group(d->term[t]);
-        put_eight(held + at + 1, key_code(d->term[t]));
+        held[at] = (uint8_t)item_group(&d->term[t]);
+        put_eight(held + at + 1, item_code(&d->term[t]));
     }
     return at;
 }

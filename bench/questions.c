@@ -1,4 +1,5 @@
-/* The questions: a category, a number comparison, a chain of eight names, 256 nodes, a link, and a string. */
+/* The questions: a category, a number comparison, a chain of eight names, 256 nodes, a link, and a string. SQL has
+ * numbers as thousandths. */
 #include <stdio.h>
 #include <string.h>
 
@@ -63,7 +64,7 @@ static void put_piece(struct question *q, const char *label, const char *prop, c
 static void write_sample(struct question out[QUESTIONS]) {
     put(&out[0], "category", "[[Category:Delivery]]", "SELECT DISTINCT place FROM categories WHERE name = 'Delivery'");
     put(&out[1], "number comparison", "[[Crates::>12]]",
-        "SELECT DISTINCT place FROM vals WHERE prop = 'Crates' AND number >= 12");
+        "SELECT DISTINCT place FROM vals WHERE prop = 'Crates' AND number >= 12000");
     put(&out[2], "chain of 8 names", "", "");
     add_links(&out[2], 8, "Brought by", "In region");
     add(out[2].query, sizeof out[2].query, "::North]]");
@@ -76,12 +77,12 @@ static void write_sample(struct question out[QUESTIONS]) {
 
 static void write_full(struct question out[QUESTIONS]) {
     put(&out[0], "category", "[[Category:c5]]", "SELECT DISTINCT place FROM categories WHERE name = 'c5'");
-    put(&out[1], "number comparison", "[[N::>128]]", "SELECT DISTINCT place FROM vals WHERE prop = 'N' AND number >= 128");
+    put(&out[1], "number comparison", "[[N::>128]]", "SELECT DISTINCT place FROM vals WHERE prop = 'N' AND number >= 128000");
     put(&out[2], "chain of 8 names", "", "");
     add_links(&out[2], 7, "L", "L");
     add(out[2].query, sizeof out[2].query, ".N::>128]]");
     add(out[2].sql, sizeof out[2].sql,
-        " JOIN vals v ON v.place = l7.target AND v.prop = 'N' AND v.number >= 128 WHERE l1.prop = 'L'");
+        " JOIN vals v ON v.place = l7.target AND v.prop = 'N' AND v.number >= 128000 WHERE l1.prop = 'L'");
     put(&out[3], "256 nodes", "", "");
     add_comparisons(&out[3], "p", "L", "p5");
     put_piece(&out[4], "a link", "L", "p5", LINK_IS);

@@ -2,6 +2,7 @@
 import sys
 
 import accents
+import decimals
 import links
 from vectors import run
 
@@ -206,14 +207,17 @@ def second_run(register, query, second, number, marks):
 
 def by_request():
     """The cases of requests that have a file of their own."""
-    for label, register, pages, query, places, nodes in links.accepted():
+    for label, register, pages, query, places, nodes in (*links.accepted(), *decimals.accepted()):
         yield accepted(label, register, pages, query, places, nodes=nodes)
     for shape, some in ((second_run, links.second_runs()), (accepted, accents.accepted()), (register_refused, accents.registers_refused()),
-                        (query_refused, accents.queries_refused()), (second_run, accents.second_runs())):
+                        (query_refused, accents.queries_refused()), (second_run, accents.second_runs()),
+                        (register_refused, decimals.registers_refused()), (query_refused, decimals.queries_refused()),
+                        (second_run, decimals.second_runs())):
         yield from (shape(*one) for one in some)
 
 
-def cases():
+def scripted():
+    """The cases that the program vectors has room for."""
     for letter, query, places in LETTERED:
         yield accepted(letter, SAMPLE, 6, query, places)
     yield from (register_refused(*one) for one in REGISTERS_REFUSED)
@@ -224,6 +228,13 @@ def cases():
         yield accepted(query, TABLE, 11, query, places)
     yield from (second_run(*one) for one in SECOND_RUNS)
     yield from by_request()
+
+
+def cases():
+    yield from scripted()
+    for shape, some in ((accepted, decimals.compared()), (register_refused, decimals.more_registers_refused()),
+                        (query_refused, decimals.more_queries_refused())):
+        yield from (shape(*one) for one in some)
 
 
 if __name__ == '__main__':

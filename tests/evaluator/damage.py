@@ -1,5 +1,6 @@
 """Forms that are changed, and forms of what is no register."""
 import tree_form
+from decimals import MOST
 from form import BYTES, FORMS, PAGES, PROPS, SIZE, STARTS, TERMS, TEXTS, encode
 from register import listed, page_of, register_of
 from respell import with_marks
@@ -92,7 +93,7 @@ def broken(rng, register):
     else:
         prop, value = [
             (b'new S', (b'string', rng.choice([*BAD_STRINGS, b'a:b', b'a.b', b'+', b'!']))),
-            (b'new N', (b'number', rng.choice([10 ** 15, -10 ** 15, 10 ** 15 - 1, 1 - 10 ** 15, 0]))),
+            (b'new N', (b'number', rng.choice([MOST + 1, -MOST - 1, MOST, -MOST, 0]))),
             (b'new L', (b'page', (rng.choice([*BAD_NAMES, b'n' * 31, b'n' * 32, b'a.b']), b'm' * 32))),
             (b'new L', (b'page', (rng.choice([b'', b'T']), rng.choice([*BAD_NAMES, b'n' * 64, b'n' * 62, b'n' * 63])))),
             (b'new B', (b'boolean', True)),

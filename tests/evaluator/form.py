@@ -2,7 +2,7 @@
 import struct
 
 from register import is_register, page_of, register_of
-from values import BIAS, KINDS, SCALARS, code_of, scalar_of
+from values import KINDS, SCALARS, code_of, scalar_of
 
 MOST_PROPS, MOST_PAGES, MOST_FORMS, MOST_TERMS, MOST_TEXTS, MOST_BYTES = 64, 256, 2048, 2048, 2368, 35136
 PROPS = 8

@@ -5,11 +5,13 @@ import sys
 import accents
 import generate
 from cases import SAMPLE, TABLE
-from form import BIAS, BYTES, FORMS, PAGES, PROPS, SIZE, STARTS, TERMS, TEXTS, decode, encode
+from decimals import ASCENDING, MOST, SHORTEST, repeats
+from form import BYTES, FORMS, PAGES, PROPS, SIZE, STARTS, TERMS, TEXTS, decode, encode
 from join import join
 from odd_forms import odd_forms
 from register import bytes_in, is_register, listed, page_of, register_call, register_of
-from respell import respelled
+from respell import respelled, spelled
+from values import read_value, spelling
 
 EMPTY = register_of([], [])
 ROUNDS, JOINS = 500, 500
@@ -48,9 +50,9 @@ def laid(held, *rows):
 def by_hand(tally):
     """Forms that are written here by hand."""
     tally.want('the empty register', encode(EMPTY) == bytes(SIZE))
-    one = register_from('(page "T" "a" (val "N" "-3") (cat "b") (val "S" "a") (val "L" "T : a") (val "N" "12"))\n'
+    one = register_from('(page "T" "a" (val "N" "-3.1") (cat "b") (val "S" "a") (val "L" "T : a") (val "N" "12.5"))\n'
                         '(prop "S" string)\n(prop "N" number)\n(page "" "a" (cat "a") (cat "b"))\n(prop "L" page)\n')
-    minus3, twelve = ((BIAS + n).to_bytes(8, 'little') for n in (-3, 12))  # 12 is first: its low byte is 12, that of -3 is 253
+    minus, plus = ((10 ** 18 + n).to_bytes(8, 'little') for n in (-3100, 12500))  # 12.5 is first: its low byte is 212, that of -3.1 is 228
     tally.want('two pages', laid(
         encode(one),
         (0, bytes([3, 0, 2, 0, 6, 0, 6, 0])),
@@ -59,7 +61,7 @@ def by_hand(tally):
         (STARTS, bytes([0, 0, 5, 0, 7, 0])),
         (FORMS, bytes([1, 0, 4, 0, 2, 0, 5, 0, 3, 0, 0, 0, 1, 0])),
         (TERMS, bytes([0, 3, 0, 0, 0, 0, 0, 0, 0, 0, 4, 0, 0, 0, 0, 0, 0, 0, 1, 3, 0, 0, 0, 0, 0, 0, 0])
-         + b'\2' + twelve + b'\2' + minus3 + bytes([3, 5, 0, 0, 0, 0, 0, 0, 0])),
+         + b'\2' + plus + b'\2' + minus + bytes([3, 5, 0, 0, 0, 0, 0, 0, 0])),
         (TEXTS, bytes([0, 0, 2, 0, 4, 0, 6, 0, 8, 0, 10, 0, 13, 0])),
         (BYTES, b'\0L\0N\0S\0a\0b\1Ta')))
 
@@ -99,6 +101,26 @@ def spellings(tally):
         tally.want(f'a {kind} in two spellings', len(page.held) == count and page.categories == [one.encode('latin-1')])
 
 
+def number_in(text):
+    kind, number = read_value(b'number', text.encode())
+    return number
+
+
+def numbers(tally, seed):
+    """Spellings of a number are one, of two numbers two, in the order of thousandths, and the shortest is the one that counts (request 7)."""
+    for number, text in SHORTEST:
+        tally.want(f'shortest {text}', spelling((b'number', number)) == text.encode() and number_in(text) == number)
+    rows = [{*map(number_in, row)} for row in ASCENDING]
+    found = [min(row) for row in rows]
+    tally.want('not ascending', all(len(row) == 1 for row in rows) and all(one < other for one, other in zip(found, found[1:])))
+    tally.want('from end to end', found[0] == -MOST and found[-1] == MOST)
+    rng = random.Random(f'numbers {seed}')
+    for number in (rng.randint(-most, most) for most in (5, 1005, 10 ** 6, MOST) for _ in range(100)):
+        text = spelled(rng, (b'number', number)).decode()
+        tally.want(f'{number} as {text}', number_in(text) == number and len(spelling((b'number', number))) <= len(text))
+    tally.want('repeats by value', encode(register_from(repeats(2048))) == encode(register_from(repeats(1))))
+
+
 def lengths(tally):
     held = encode(register_from(SAMPLE))
     tally.want('one byte short', decode(held[:-1]) is None and decode(b'') is None)
@@ -136,7 +158,7 @@ def made(rng, count, forms):
         for _ in range(forms):
             prop, kind = rng.choice(props)
             n = rng.randrange(600)
-            held.append((prop, (kind, {b'page': (b'', b'x%d' % n), b'number': n - 300, b'boolean': n % 2 == 0, b'string': b'y%d' % n}[kind])))
+            held.append((prop, (kind, {b'page': (b'', b'x%d' % n), b'number': 125 * n - 37500, b'boolean': n % 2 == 0, b'string': b'y%d' % n}[kind])))
         pages.append(page_of(rng.choice([b'', b'T']), b'x%d' % place, [b'c%d' % rng.randrange(50) for _ in range(2)], held))
     return register_of(props, pages)
 
@@ -193,6 +215,10 @@ def limits(tally):
         exact, more, repeated = (join(first, sized(**{name: range(*ends)})) for ends in ((one, most), (one, most + 1), (0, one)))
         tally.want(f'{name}: a limit is not where it is', exact != 7 and is_register(exact) and more == 7)
         tally.want(f'{name}: repeats count', same(repeated, first))
+    full = register_of([(b'N', b'number')], [page_of(b'', b'a', [b'c%d' % number for number in range(2047)], [(b'N', (b'number', 1500))])])
+    for text, fits in (('1.50', True), ('1.05', False)):
+        found = join(full, register_from(f'(prop "N" number)\n(page "" "a" (val "N" "{text}"))\n'))
+        tally.want(f'{text} beside 1.5', same(found, full) if fits else found == 7)
 
 
 def byte_limit(tally):
@@ -201,7 +227,7 @@ def byte_limit(tally):
     for label, extra, more in (
             ('category', ([b'12345'], []), 5), ('string', ([], [(b'S', (b'string', b'12345'))]), 5),
             ('false', ([], [(b'B', (b'boolean', False))]), 5), ('true', ([], [(b'B', (b'boolean', True))]), 4),
-            ('number', ([], [(b'N', (b'number', -120))]), 4), ('0', ([], [(b'N', (b'number', 0))]), 1),
+            *((text, ([], [(b'N', (b'number', number))]), len(text)) for number, text in SHORTEST),
             ('main link', ([], [(b'L', (b'page', (b'', b'abc')))]), 3), ('link', ([], [(b'L', (b'page', (b'T', b'abc')))]), 5)):
         second = register_of(prop, [page_of(b'', b'g0', *extra)])
         for size in (32768 - 4 - more, 32769 - 4 - more):
@@ -229,6 +255,7 @@ def main(words):
     by_hand(tally)
     stated(tally)
     spellings(tally)
+    numbers(tally, seed)
     lengths(tally)
     round_trips(tally, seed)
     every_byte(tally, rng, register_from(SAMPLE), 1)

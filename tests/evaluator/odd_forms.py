@@ -1,16 +1,18 @@
 """Forms written row by row that are the form of a register or miss it by one thing. `odd_forms()` yields (label, whether one, bytes)."""
-from form import BIAS, BYTES, FORMS, PAGES, PROPS, SIZE, STARTS, TERMS, TEXTS, lay, term_bytes
+from decimals import CODES, SHORTEST
+from form import BYTES, FORMS, PAGES, PROPS, SIZE, STARTS, TERMS, TEXTS, lay, term_bytes
 
+ZERO = 10 ** 18  # the code of the number 0
 NAMES = [b'\0B', b'\0L', b'\0N', b'\0S', b'\0a', b'\0b', b'\1Ta']
 STRING, NUMBER, LINK, BOOLEAN = 1, 2, 3, 4  # groups
 
-# Two pages, T:a with category a, string a, number 7, a link to itself and true, and a with categories a and b.
+# Two pages, T:a with category a, string a, number 0.007, a link to itself and true, and a with categories a and b.
 BASE = {
     'props': [(3, 3), (1, 2), (0, 1), (2, 0)],
     'pages': [6, 4],
     'starts': [0, 5, 7],
     'forms': [0, 2, 3, 4, 5, 0, 1],
-    'terms': [(0, 4), (0, 5), (STRING, 4), (NUMBER, BIAS + 7), (LINK, 6), (BOOLEAN, 1)],
+    'terms': [(0, 4), (0, 5), (STRING, 4), (NUMBER, ZERO + 7), (LINK, 6), (BOOLEAN, 1)],
     'texts': NAMES,
 }
 
@@ -79,11 +81,7 @@ def of_texts():
 
 
 def of_terms():
-    yield 'another number', True, term(3, NUMBER, BIAS - 7)
-    for code in (0, 2 * BIAS, 2 * BIAS + 1, 1 << 56, (1 << 56) + BIAS, (1 << 64) - 1):
-        yield f'number {code}', False, term(3, NUMBER, code)
-    for code in (1, 2 * BIAS - 1, BIAS):
-        yield f'number {code}', True, term(3, NUMBER, code)
+    yield from ((f'number {code}', is_number, term(3, NUMBER, code)) for code, is_number in CODES)
     yield 'false', True, term(5, BOOLEAN, 0)
     for code in (2, 256, 1 << 56, (1 << 56) + 1, (1 << 64) - 1):
         yield f'boolean {code}', False, term(5, BOOLEAN, code)
@@ -93,15 +91,15 @@ def of_terms():
         yield 'a text behind the last', False, term(place, group, len(NAMES))
     yield 'a group behind the last', False, term(5, 5, 1)
     yield 'a group behind the last, of what lies there', False, laid(props=BASE['props'][:3], texts=NAMES[1:], pages=[5, 3],
-                                                                    terms=[(0, 3), (0, 4), (STRING, 3), (NUMBER, BIAS + 7), (LINK, 5), (4, 5)])
+                                                                    terms=[(0, 3), (0, 4), (STRING, 3), (NUMBER, ZERO + 7), (LINK, 5), (4, 5)])
     yield 'group 255', False, term(5, 255, 1)
     yield 'terms that descend', False, laid(terms=[(0, 5), (0, 4), *BASE['terms'][2:]], forms=[1, 2, 3, 4, 5, 1, 0])
     yield 'groups that descend', False, laid(terms=[*BASE['terms'][:4], (BOOLEAN, 1), (LINK, 6)], forms=[0, 2, 3, 5, 4, 0, 1])
     yield 'a term twice, both used', False, term(1, 0, 4)
     yield 'a term that nothing uses', False, laid(forms=[0, 2, 3, 4, 0, 1], starts=[0, 4, 6])
-    yield 'numbers by their bytes', True, laid(terms=[*BASE['terms'][:3], (NUMBER, BIAS + 12), (NUMBER, BIAS - 3), *BASE['terms'][4:]],
+    yield 'numbers by their bytes', True, laid(terms=[*BASE['terms'][:3], (NUMBER, ZERO + 12), (NUMBER, ZERO - 3), *BASE['terms'][4:]],
                                               forms=[0, 2, 3, 5, 6, 4, 0, 1], starts=[0, 6, 8])
-    yield 'numbers by their size', False, laid(terms=[*BASE['terms'][:3], (NUMBER, BIAS - 3), (NUMBER, BIAS + 12), *BASE['terms'][4:]],
+    yield 'numbers by their size', False, laid(terms=[*BASE['terms'][:3], (NUMBER, ZERO - 3), (NUMBER, ZERO + 12), *BASE['terms'][4:]],
                                               forms=[0, 2, 3, 5, 6, 4, 0, 1], starts=[0, 6, 8])
 
 
@@ -152,11 +150,7 @@ def of_bytes():
     """At 32,768 bytes and at 32,769, each with one thing more of some length on its page beside names of 64 bytes."""
     things = (
         ('nothing', 2, {}), ('a property', 2 + 1, {'props': [(3, 0)], 'texts': [b'\0S']}),
-        ('a number', 2 + 1 + 3, {'props': [(1, 0)], 'texts': [b'\0N'], 'term': BIAS - 12}),
-        ('0', 2 + 1 + 1, {'props': [(1, 0)], 'texts': [b'\0N'], 'term': BIAS}),
-        ('99', 2 + 1 + 2, {'props': [(1, 0)], 'texts': [b'\0N'], 'term': BIAS + 99}),
-        ('100', 2 + 1 + 3, {'props': [(1, 0)], 'texts': [b'\0N'], 'term': BIAS + 100}),
-        ('a large number', 2 + 1 + 16, {'props': [(1, 0)], 'texts': [b'\0N'], 'term': 1}),
+        *((text, 2 + 1 + len(text), {'props': [(1, 0)], 'texts': [b'\0N'], 'term': ZERO + number}) for number, text in SHORTEST),
         ('false', 2 + 1 + 5, {'props': [(2, 0)], 'texts': [b'\0B'], 'term': 0}),
         ('true', 2 + 1 + 4, {'props': [(2, 0)], 'texts': [b'\0B'], 'term': 1}),
         ('a main link', 2 + 1 + 1, {'props': [(0, 0)], 'texts': [b'\0L'], 'term': 0}),

@@ -1,9 +1,11 @@
-"""Held queries with links that are laid by hand: (label, the core query that the bytes hold or None, the bytes)."""
+"""Held queries with links or numbers that are laid by hand: (label, the core query that the bytes hold or None, the bytes)."""
 from accents import held_names
-from core import And, Existence, Link, Subquery
+from core import And, Existence, Link, Subquery, Value
+from decimals import CODES
 from query_form import HEAP, MOST_HEAP, NODES, two
 
-AND, EXISTENCE, SUBQUERY, LINK = 0, 4, 5, 8
+AND, EXISTENCE, SUBQUERY, VALUE, LINK = 0, 4, 5, 7, 8
+NUMBER = 1  # the kind of a constant
 COMPARATORS = b'', b'!', b'>>', b'<<', b'>', b'<'  # by their codes
 HEAP_END = b'PTD1'
 
@@ -26,12 +28,31 @@ def link(prop, namespace, name, code=0):
     return laid([row(LINK, code, mark, (0, len(before)), (len(before), len(name)))], before + name)
 
 
-def written():
-    """Each comparator, with no namespace, with the empty one and with another: what a text gives."""
+def number_query(comparator, code):
+    """One value comparison, of the property N with the number of a code."""
+    return laid([row(VALUE, comparator, NUMBER, first=(0, 1), number=code)], b'N')
+
+
+def numbers():
+    """Each comparator with each code of a number, and with others."""
+    for code, is_number in CODES:
+        for at, comparator in enumerate(('=', '!=', '>', '<')):
+            core = Value(b'N', comparator, (b'number', code - 10 ** 18)) if is_number else None
+            yield f'{comparator} {code}', core, number_query(at, code)
+
+
+def links():
+    """Each comparator, with no namespace, with the empty one and with another."""
     for namespace in (None, b'', b'Talk'):
         for code, comparator in enumerate(COMPARATORS):
             yield f'{comparator} with {namespace}', Link(b'P', comparator, (namespace, b'D1')), link(b'P', namespace, b'D1', code)
         yield from ((f'comparator {code} with {namespace}', None, link(b'P', namespace, b'D1', code)) for code in (6, 7, 255))
+
+
+def written():
+    """What a text gives, or would if it kept the rules."""
+    yield from links()
+    yield from numbers()
 
 
 def marks():

@@ -1,5 +1,5 @@
 """Random query texts, most of them accepted for the register that they are drawn from, and selecting some of its pages."""
-from random_registers import CATEGORIES, KNOWN, NAMES, NAMESPACES, PLAIN_VALUES, damaged
+from random_registers import CATEGORIES, KNOWN, NAMES, NAMESPACES, damaged, plain_text
 from respell import retyped, spelled
 from values import read_value
 
@@ -14,7 +14,8 @@ FAULTY = {
          b'[[!P::a]]', b'[[]]', b'[[a||b::c]]', b'[[Category:C||Category:K]]'],
     16: [b'[[S::~A]]', b'[[S::]]', b'[[S::! ]]', b'[[S::"]]', b'[[N::' + b'7' * 65 + b']]', b'[[P::a||]]'],
     17: [b'[[Z::1]]', b'[[P.Z::+]]', b'[[Z.P::a]]', b'[[P::<q>[[Z::+]]</q>]]'],
-    18: [b'[[N::yes]]', b'[[S.P::a]]', b'[[S::<q>[[a]]</q>]]', b'[[P::_]]', b'[[B::2]]', b'[[P::a||T:+]]'],
+    18: [b'[[N::yes]]', b'[[N::1.]]', b'[[N::>.5]]', b'[[N::1.5||!1.2345]]', b'[[S.P::a]]', b'[[S::<q>[[a]]</q>]]', b'[[P::_]]',
+         b'[[B::1.0]]', b'[[P::a||T:+]]'],
 }
 
 
@@ -116,7 +117,7 @@ class Writer:
 
     def value(self, kind):
         if kind != b'page':
-            return read_value(kind, self.rng.choice(PLAIN_VALUES[kind]))
+            return read_value(kind, plain_text(self.rng, kind))
         return kind, self.rng.choice([self.page()[:2], self.page()[:2], self.rng.choice(KNOWN)])
 
     def alternative(self, value, depth, width):

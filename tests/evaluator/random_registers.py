@@ -1,7 +1,10 @@
 """Random register texts, most of them accepted, and pairs of them."""
 import re
 
-from respell import spelled, typed
+from decimals import MORE_UNFIT, MOST, UNFIT as UNFIT_NUMBERS
+from register import register_call
+from respell import respelled, spelled, typed
+from values import spelling
 
 NAMES = [b'a', b'b', b'ab', b'B', b'a b', b'D1', b'a.b', b'Category', b'\xc3\xa9', b'\xc5\xbfa\xc3\xab', b'=a', b'\xc3\xa4' * 21 + b'n', b'n' * 64]
 NAMESPACES = [b'', b'', b'', b'T', b'Talk', b'\xc3\x96', b'Category']
@@ -10,15 +13,17 @@ KNOWN = [(namespace, name) for namespace in (b'', b'T', b'Talk', b'\xc3\x96') fo
 CATEGORIES = [b'C', b'K', b'\xc3\xa9', b'C d', b'a.b']
 KINDS = {b'P': b'page', b'Q': b'page', b'R s': b'page', b'N': b'number', b'\xc4\xb2\xc3\xbc': b'number', b'B': b'boolean',
          b'S': b'string', b'U': b'string'}
+# Thousandths: few, so that many are equal, and many that differ behind the point only.
+NUMBERS = [0, 1, 5, 50, 500, -500, -1, -1000, -1500, 1000, 1005, 1050, 1500, 1500, 1500, 7000, -7000, 12000, 12500, 12500, 12499, MOST, -MOST, MOST - 999,
+           999 - MOST]
 PLAIN_VALUES = {
-    b'number': [b'0', b'-0', b'7', b'007', b'-7', b'12', b'1', b'999999999999999', b'-999999999999999'],
     b'boolean': [b'true', b'Yes', b'1', b'FALSE', b'no', b'0', b'nO'],
     b'string': [b'A7', b'A9', b'a', b'7', b'true', b'+', b'=x', b'!x', b'a:b', b'\xff', b'\xc3\xa9', b'e\xcc\x81', b'_', b'x' * 64],
 }
 UNFIT = {
     b'page': [b'_', b'T:', b'a:b:c', b'T:+', b'a#', b'+'],
-    b'number': [b'12,5', b'+1', b'1.5', b'--1', b'-', b'1234567890123456', b'yes'],
-    b'boolean': [b'y', b'2', b't', b'truth', b'-0'],
+    b'number': [b'yes', *(text.encode('latin-1') for text in (*UNFIT_NUMBERS, *MORE_UNFIT))],
+    b'boolean': [b'y', b'2', b't', b'truth', b'-0', b'1.0', b'0.0'],
 }
 BAD_NAMES = [b'', b' a', b'a ', b'!a', b'~a', b'+', b'a:b', b'a_b', b'a#', b'{', b'a|b', b'a<b', b'a]', b'\x7f',
              b'\t', b'n' * 65, b'\xff', b'\xc2\x80', b'\xc1\xa1', b'\xc6\x80', b'\xe2\x82\xac', b'a\xc3', b'b\xcc\x81',
@@ -34,10 +39,17 @@ def reference(rng):
     return rng.choice([name, name, b':' + name, rng.choice(NAMESPACES) + b':' + name, b'T : ' + name])
 
 
+def plain_text(rng, kind):
+    """A text of a kind that is not page."""
+    if kind != b'number':
+        return rng.choice(PLAIN_VALUES[kind])
+    return spelled(rng, (kind, rng.choice(NUMBERS) if rng.random() < 0.9 else rng.randint(-2000, 2000)))
+
+
 def value(rng, kind, names):
     """A text of that kind; most links go to pages of these names, and others mostly to no page."""
     if kind != b'page':
-        return rng.choice(PLAIN_VALUES[kind])
+        return plain_text(rng, kind)
     return spelled(rng, (kind, rng.choice(names))) if rng.random() < 0.75 else reference(rng)
 
 
@@ -154,10 +166,10 @@ def register_text(rng, kinds):
 
 
 def second_text(rng, kinds, first):
-    """The same, other pages, another kind for one property, or a property less."""
+    """The same, another text of the same, other pages, another kind for one property, or a property less."""
     way, other = rng.random(), dict(kinds)
     if way < 0.25:
-        return first
+        return respelled(rng, first) if way < 0.12 and register_call(first)[0] == 0 else first
     if way < 0.6 and other:
         other[rng.choice(sorted(other))] = rng.choice([b'page', b'number', b'boolean', b'string'])
     elif way < 0.75 and other:
@@ -175,9 +187,16 @@ def dealt(rng, things):
     return lists
 
 
-def with_forms(names, forms):
-    """Pages of these names, each with those of the (name, form) that are its own."""
-    return [[b'', name, [one for owner, one in forms if owner == name]] for name in names]
+def with_forms(rng, names, forms):
+    """Pages of these names, each with those of the (name, form) that are its own; a form is written, or a property and a number."""
+    written_forms = [(owner, one if isinstance(one, bytes) else VAL % (one[0], spelled(rng, (b'number', one[1])))) for owner, one in forms]
+    return [[b'', name, [one for owner, one in written_forms if owner == name]] for name in names]
+
+
+def some_numbers(rng, kinds, names):
+    """(name, (property, number)), no two alike."""
+    props = [prop for prop in kinds if kinds[prop] == b'number' for _ in range(rng.choice([0, 50, 100]))]
+    return sorted({(rng.choice(names), (prop, rng.choice(NUMBERS))) for prop in props})
 
 
 def filling(rng, size):
@@ -194,7 +213,7 @@ def two_near_a_limit(rng, kinds):
     """Two texts which together are near one of the limits of a join, or over it; some of what they have is in both."""
     which, over = rng.randrange(4), rng.choice([-1, 0, 0, 1, 1, 2, 9])
     if which == 0:
-        props = dealt(rng, [(b'p%d' % number, rng.choice(sorted(PLAIN_VALUES))) for number in range(64 + over - len(kinds))])
+        props = dealt(rng, [(b'p%d' % number, rng.choice([b'boolean', b'number', b'string'])) for number in range(64 + over - len(kinds))])
         return [written(rng, {**kinds, **dict(some)}, pages(rng, kinds, rng.randint(0, 6), 4)) for some in props]
     if which == 1:
         return [written(rng, kinds, some) for some in dealt(rng, pages(rng, kinds, 256 + over, 2))]
@@ -203,8 +222,9 @@ def two_near_a_limit(rng, kinds):
         some = [b'c%d' % number for number in range(2048 // len(names) + 1)]
         forms = [(name, CAT % category) for category in some for name in names][:2048 + over]
     else:
-        used = sum(map(len, names)) + sum(map(len, kinds))
-        forms = [(rng.choice(names), CAT % name) for name in filling(rng, 32768 + over - used)]
+        forms = some_numbers(rng, kinds, names)
+        used = sum(map(len, names)) + sum(map(len, kinds)) + sum(len(spelling((b'number', number))) for _, (_, number) in forms)
+        forms += [(rng.choice(names), CAT % name) for name in filling(rng, 32768 + over - used)]
     first, second = dealt(rng, forms)
     known = {name for name, _ in second}
-    return [written(rng, kinds, with_forms(*one)) for one in ((names, first), ([name for name in names if name in known], second))]
+    return [written(rng, kinds, with_forms(rng, *one)) for one in ((names, first), ([name for name in names if name in known], second))]

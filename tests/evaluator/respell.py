@@ -37,9 +37,12 @@ def mixed(rng, one, other):
 
 
 def spelled_number(rng, number):
-    digits = b'%d' % abs(number)
+    """With more zeros before it, and behind its point where there is one."""
+    whole, part = divmod(abs(number), 1000)
     minus = b'-' if number < 0 or (number == 0 and rng.random() < 0.3) else b''
-    return minus + digits.rjust(rng.choice([1, 1, 3, 15]), b'0')
+    before, behind = (b'%d' % whole).rjust(rng.choice([1, 1, 1, 3, 15]), b'0'), b'%03d' % part
+    places = rng.randint(len(behind.rstrip(b'0')), 3)
+    return minus + before + (b'.' + behind[:places] if places else b'')
 
 
 def spelled_boolean(rng, truth):

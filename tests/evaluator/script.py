@@ -7,7 +7,7 @@ import os
 import sys
 
 from ask import ask
-from cases import SAMPLE, cases
+from cases import SAMPLE, scripted
 from query import query_call
 from register import register_call
 
@@ -19,7 +19,7 @@ MOST_SCRIPT = 131072  # what the program has room for
 def steps():
     """(letter, number or text)."""
     register = None
-    for case in cases():
+    for case in scripted():
         if case['register'] != register:
             register = case['register']
             yield 'R', register

@@ -6,6 +6,7 @@ import accents
 import generate
 import query_form
 from cases import SAMPLE, cases
+from decimals import ASCENDING
 from forms_test import Tally, register_from
 from odd_queries import odd_queries, written
 from odd_trees import odd_trees
@@ -57,12 +58,22 @@ def spellings(tally):
         tally.want(f'spellings of {text}', (one == other) == same)
 
 
+def number_spellings(tally):
+    """A number spelled in two ways is two trees and one held query; another number is another one (request 7)."""
+    register, forms = register_from(SAMPLE), []
+    for row in ASCENDING:
+        texts = [f'[[Crates::>{text}]]'.encode() for text in row]
+        forms.append({query_form.held_query(query_call(register, text)[1]) for text in texts})
+        tally.want(f'spellings of {row[0]}', len({*map(tree_of, texts)}) == len(row) and len(forms[-1]) == 1)
+    tally.want('two numbers, one held query', len(set().union(*forms)) == len(ASCENDING))
+
+
 def query_by_hand(tally):
-    core = query_call(register_from(SAMPLE), b'[[Lot::>A7]] OR [[Crates::-3]] [[Brought by::Talk:D||<q>[[Talk:D]]</q>]]')[1]
+    core = query_call(register_from(SAMPLE), b'[[Lot::>A7]] OR [[Crates::-0.5]] [[Brought by::Talk:D||<q>[[Talk:D]]</q>]]')[1]
     rows = [[7, 2, 3, 0, 0, 0, 3, 0, 3, 0, 2, 0], [7, 0, 3, 0, 5, 0, 3, 0, 8, 0, 2, 0], [1], [7, 0, 1, 0, 10, 0, 6, 0, 0, 0, 0, 0],
             [8, 0, 5, 0, 16, 0, 14, 0, 30, 0, 1, 0], [3, 0, 0, 0, 31, 0, 4, 0], [6, 0, 0, 0, 0, 0, 0, 0, 35, 0, 1, 0], [0],
             [5, 0, 0, 0, 36, 0, 10, 0], [1], [0], [1]]
-    number = (10 ** 15 - 3).to_bytes(8, 'little')
+    number = (10 ** 18 - 500).to_bytes(8, 'little')
     placed = [(query_form.NODES + query_form.NODE * at, bytes(row)) for at, row in enumerate(rows)]
     wanted = laid(query_form.SIZE, (0, bytes([len(rows)])), *placed, (query_form.NODES + query_form.NODE * 3 + 12, number),
                   (query_form.HEAP, b'LotA7LotA7CratesBrought byTalkDTalkDBrought by'))
@@ -72,8 +83,8 @@ def query_by_hand(tally):
     tally.want('unused bytes are not read', query_form.read_query(laid(query_form.SIZE, (0, wanted), (query_form.HEAP - 1, b'\1'))) == core)
 
 
-def links_stated(tally):
-    """Links that are laid by hand: what is read of the bytes, that it reads back from its form, and that what a text gives is written so."""
+def queries_stated(tally):
+    """Links and numbers that are laid by hand: what is read of the bytes, that it reads back from its form, and that what a text gives is written so."""
     for label, core, held in odd_queries():
         found = query_form.read_query(held)
         tally.want(f'{label}: not {core}', repr(found) == repr(core))
@@ -175,8 +186,9 @@ def main(words):
     tally, seed = Tally(), words[0] if words else '7'
     trees_by_hand(tally)
     spellings(tally)
+    number_spellings(tally)
     query_by_hand(tally)
-    links_stated(tally)
+    queries_stated(tally)
     stated(tally)
     round_trips(tally, seed)
     every_byte(tally)

@@ -1,13 +1,14 @@
 """Names, references, values and kinds. Bytes are `bytes`; names are given composed."""
 import re
 import unicodedata
+from decimal import Decimal
 from functools import lru_cache
 
 BLANKS = b' \n'
 KINDS = [b'page', b'number', b'boolean', b'string']  # by their bytes in held forms
-BIAS = 10 ** 15
+BIAS = 10 ** 18
 SCALARS = {b'number': range(1, 2 * BIAS), b'boolean': range(2)}  # the codes of each
-NUMBER = re.compile(rb'-?[0-9]{1,15}')
+NUMBER = re.compile(rb'-?[0-9]{1,15}(?:\.[0-9]{1,3})?')
 BOOLEANS = {b'true': True, b'yes': True, b'1': True, b'false': False, b'no': False, b'0': False}
 
 
@@ -70,11 +71,11 @@ def read_reference(text):
 
 @lru_cache(10000)
 def read_value(kind, text):
-    """(kind, value), or None where the text is unfit for the kind. A page is (namespace, name)."""
+    """(kind, value), or None where the text is unfit for the kind. A number is its thousandths, a page (namespace, name)."""
     if kind == b'string':
         return kind, text
     if kind == b'number' and NUMBER.fullmatch(text):
-        return kind, int(text)
+        return kind, int(Decimal(text.decode()) * 1000)
     if kind == b'boolean' and text.lower() in BOOLEANS:
         return kind, BOOLEANS[text.lower()]
     if kind == b'page' and read_reference(text):
@@ -84,7 +85,7 @@ def read_value(kind, text):
 
 
 def code_of(value):
-    """The code of a scalar: a number with 10^15 added, a boolean as 0 or 1."""
+    """The code of a scalar: a number's thousandths with 10^18 added, a boolean as 0 or 1."""
     kind, what = value
     return BIAS + what if kind == b'number' else int(what)
 
@@ -100,7 +101,7 @@ def spelling(value):
     """The shortest text of a value."""
     kind, what = value
     if kind == b'number':
-        return b'%d' % what
+        return format((Decimal(what) / 1000).normalize(), 'f').encode()
     if kind == b'boolean':
         return b'true' if what else b'false'
     if kind == b'page':

@@ -1,6 +1,6 @@
 """Runs the calls from C on many cases and compares every number, mark and form with the separate evaluator.
 
-`calls.py HOST VECTORS SEED COUNT`: the papers' examples, the vectors, edges, names in two spellings, forged forms, and COUNT random cases."""
+`calls.py HOST VECTORS SEED COUNT`: the papers' examples, the vectors, edges, names in two spellings, decimals, forged forms, and COUNT random cases."""
 import os
 import random
 import subprocess
@@ -24,6 +24,7 @@ from reading import read_query
 from register import register_call
 from spellings import made_spellings, uncomposed_forms, wanting
 from stored import load
+from thousandths import made_decimals
 from trees import made_trees
 
 CHUNK = 500
@@ -102,6 +103,10 @@ def run_spellings(job):
     return run_host(job, list(made_spellings()))
 
 
+def run_decimals(job):
+    return run_host(job, list(made_decimals()))
+
+
 def run_drawn(job):
     """The same, and what the drawn cases come to."""
     host, seed, count = job
@@ -127,7 +132,7 @@ def main(host, vectors, seed, count):
     count = int(count)
     jobs = [(host, f'{seed} {start}', min(CHUNK, count - start)) for start in range(0, count, CHUNK)]
     with Pool(min(2, os.cpu_count() or 1)) as pool:
-        first = [pool.apply_async(run, (host,)) for run in (run_joins, run_trees, run_spellings)]
+        first = [pool.apply_async(run, (host,)) for run in (run_joins, run_trees, run_spellings, run_decimals)]
         first.append(pool.apply_async(run_stated, ((host, vectors),)))
         results = [*pool.imap_unordered(run_drawn, jobs)]
         drawn, calls = (sum((result[at] for result in results), Counter()) for at in (3, 2))

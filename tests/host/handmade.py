@@ -125,13 +125,14 @@ def heap_edges():
             yield wanting(ask_case(held[:at] + byte + held[at + 1:], HELD_SAMPLE, 6), refusal)
 
 
-def link_forms():
-    """Held queries of links, laid by hand, on a register with such links."""
-    pages = b'(page "" "a" (val "P" "D1"))\n(page "" "b" (val "P" "Talk:D1"))\n(page "" "c" (val "P" "D2") (val "P" "T:D0"))\n'
-    held = held_register(b'(prop "P" page)\n' + pages)
+def query_forms():
+    """Held queries of links and numbers, laid by hand, on a register with such links and numbers."""
+    pages = b'(page "" "a" (val "P" "D1") (val "N" "-0.001"))\n(page "" "b" (val "P" "Talk:D1") (val "N" "999999999999999.999"))\n'
+    pages += b'(page "" "c" (val "P" "D2") (val "P" "T:D0") (val "N" "-999999999999999.999"))\n'
+    held = held_register(b'(prop "P" page)\n(prop "N" number)\n' + pages)
     yield from (wanting(ask_case(query, held, 3), 0 if core else 21) for _, core, query in odd_queries())
 
 
 def handmade():
-    for some in (edges, fault_sets, chains, by_hand, field_edits, heap_edges, link_forms):
+    for some in (edges, fault_sets, chains, by_hand, field_edits, heap_edges, query_forms):
         yield from some()

@@ -6,6 +6,7 @@ import sys
 
 from library import Library  # finds the evaluator
 import cases
+import decimal_forms
 import generate
 import link_nodes
 import query_form
@@ -170,11 +171,75 @@ def name_edges(tally, library):
             compare_query(tally, library, register, held, body % name)
 
 
+def typed_numbers(tally, library):
+    """Numbers as texts, in a register and in a query."""
+    register = register_of([(b'N', b'number')], [])
+    held = encode(register)
+    for number, texts in decimal_forms.READ.items():
+        for text in texts.split():
+            found = library.register(decimal_forms.text_with(text)), library.query(held, b'[[N::%s]]' % text)
+            wanted = decimal_forms.form_of_codes(decimal_forms.BIAS + number), decimal_forms.query_of_code(decimal_forms.BIAS + number)
+            tally.want(f'{text} is stated', found == tuple((0, form) for form in wanted))
+    for text in decimal_forms.UNFIT:
+        tally.want(f'{text} is stated', library.register(decimal_forms.text_with(text))[0] == 6 and library.query(held, b'[[N::%s]]' % text)[0] == 18)
+    for text in decimal_forms.typed():
+        compare_register(tally, library, decimal_forms.text_with(text))
+        compare_query(tally, library, register, held, b'[[N::%s]]' % text)
+
+
+def asked_numbers(tally, library, rng):
+    """Each comparator with some numbers, asked of a page for each number, and chains to these."""
+    register, held = compare_register(tally, library, decimal_forms.text_of_pages())
+    for number in {*decimal_forms.READ, *rng.sample(decimal_forms.NUMBERS, 15)}:
+        for comparator, stands in decimal_forms.COMPARATORS.items():
+            query = b'[[N::%s%s]]' % (comparator, rng.choice(decimal_forms.spellings(number)))
+            core, made, _ = compare_query(tally, library, register, held, query)
+            compare_ask(tally, library, core, made, register, held, query)
+            wanted = [stands(one, number) for one in decimal_forms.NUMBERS] + [False]
+            tally.want(f'{query} is stated', library.ask(made, held, len(wanted))[1:] == (sum(wanted), wanted))
+    for query in decimal_forms.chains():
+        core, made, _ = compare_query(tally, library, register, held, query)
+        if core:
+            compare_ask(tally, library, core, made, register, held, query)
+
+
+def held_numbers(tally, library, rng):
+    """Forms by the codes of their numbers, and by the bytes that these have at their shortest; repeats, and joins."""
+    for label, is_form, held in decimal_forms.forms():
+        tally.want(f'{label} is stated', library.is_register(held) == is_form)
+        compare_form(tally, library, held, bytes(SIZE), label)
+    register = register_call(decimal_forms.text_of_pages())[1]
+    for label, is_query, query in decimal_forms.queries():
+        tally.want(f'{label} is stated', (library.ask(query, bytes(SIZE), 0)[0] != 21) == is_query)
+        compare_held_query(tally, library, query, register, encode(register), label)
+    filled = decimal_forms.Filled()
+    for number in decimal_forms.NUMBERS:
+        for total in (32768, 32769):
+            held = filled.form(number, total)
+            tally.want(f'{total} bytes with {number} thousandths', library.is_register(held) == (total == 32768))
+            if number in decimal_forms.READ:
+                compare_form(tally, library, held, bytes(SIZE), f'{total} bytes with {number} thousandths')
+    for _ in range(4):
+        some = [rng.sample(decimal_forms.NUMBERS, count) for count in (len(decimal_forms.NUMBERS), 40)]
+        registers = [compare_register(tally, library, decimal_forms.shuffled(rng, numbers))[0] for numbers in some]
+        for numbers, one in zip(some, registers):
+            tally.want('repeats are stated', len(one.pages[0].held) == len(numbers))
+        compare_join(tally, library, *registers, 'numbers')
+
+
+def number_edges(tally, library):
+    rng = random.Random('numbers')
+    typed_numbers(tally, library)
+    asked_numbers(tally, library, rng)
+    held_numbers(tally, library, rng)
+
+
 def edges(tally, library):
     """Forms that are written by hand, limits of a join and of a form, and registers that no text gives."""
     tree_edges(tally, library)
     link_edges(tally, library)
     name_edges(tally, library)
+    number_edges(tally, library)
     for label, is_form, held in odd_forms():
         tally.want(f'{label} is stated', library.is_register(held) == is_form)
         compare_form(tally, library, held, bytes(SIZE), label)
