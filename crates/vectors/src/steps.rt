@@ -4,7 +4,7 @@ ghost use Rattle.std.specs.Prelude.{ℕ, ◌<◌, ◌≤◌, length};
 use text::byte_at;
 
 // A step: its text is `len` bytes from `start` on, and the next step begins at `next`.
-#[derive(Drop)]
+#[derive(Clone, Copy)]
 pub struct Step {
     pub letter: u8,
     pub number: usize,
@@ -14,7 +14,7 @@ pub struct Step {
 }
 
 // A number of at most six digits, and where it ends.
-#[derive(Drop)]
+#[derive(Clone, Copy)]
 pub struct Number {
     pub value: usize,
     pub end: usize,

@@ -1,4 +1,6 @@
-// The calls for C. A slice is a pointer and a length there; include/vetxarno.h has the prototypes.
+// The six calls as C has them: a refusal is its number made negative. The crate vetxarno_c exports them.
+#![tactic(auto)]
+
 ghost use Rattle.std.specs.Prelude.{◌≡◌, ℕ, ◌≤◌, pos, neg_ℤ};
 ghost use Rattle.call_answers.specs.Calls.{RegisterCall, JoinCall, QueryCall, ReadCall, FitCall, AskCall};
 
@@ -20,8 +22,7 @@ fn negative(n: usize) -> i32
 }
 
 // The register call.
-#[unsafe(no_mangle)]
-pub extern "C" fn vetxarno_register(text: &[u8], held: &mut [u8]) -> i32
+pub fn vetxarno_register(text: &[u8], held: &mut [u8]) -> i32
     ensures { RegisterCall text.now held.old held.new result }
 {
     let number = call_register::register(text, held);
@@ -29,8 +30,7 @@ pub extern "C" fn vetxarno_register(text: &[u8], held: &mut [u8]) -> i32
 }
 
 // The join call.
-#[unsafe(no_mangle)]
-pub extern "C" fn vetxarno_join<'a>(first: &'a [u8], second: &'a [u8], held: &mut [u8]) -> i32
+pub fn vetxarno_join<'a>(first: &'a [u8], second: &'a [u8], held: &mut [u8]) -> i32
     ensures { JoinCall first.now second.now held.old held.new result }
 {
     let refused = call_join::join(first, second, held);
@@ -38,8 +38,7 @@ pub extern "C" fn vetxarno_join<'a>(first: &'a [u8], second: &'a [u8], held: &mu
 }
 
 // The query call.
-#[unsafe(no_mangle)]
-pub extern "C" fn vetxarno_query(register: &[u8], text: &[u8], held: &mut [u8]) -> i32
+pub fn vetxarno_query(register: &[u8], text: &[u8], held: &mut [u8]) -> i32
     ensures { QueryCall register.now text.now held.old held.new result }
 {
     let refusal = call_query::query(register, text, held);
@@ -47,8 +46,7 @@ pub extern "C" fn vetxarno_query(register: &[u8], text: &[u8], held: &mut [u8]) 
 }
 
 // The read call.
-#[unsafe(no_mangle)]
-pub extern "C" fn vetxarno_read(text: &[u8], tree: &mut [u8]) -> i32
+pub fn vetxarno_read(text: &[u8], tree: &mut [u8]) -> i32
     ensures { ReadCall text.now tree.old tree.new result }
 {
     let unread = call_query::read(text, tree);
@@ -56,8 +54,7 @@ pub extern "C" fn vetxarno_read(text: &[u8], tree: &mut [u8]) -> i32
 }
 
 // The fit call.
-#[unsafe(no_mangle)]
-pub extern "C" fn vetxarno_fit(tree: &[u8], register: &[u8], held: &mut [u8]) -> i32
+pub fn vetxarno_fit(tree: &[u8], register: &[u8], held: &mut [u8]) -> i32
     ensures { FitCall tree.now register.now held.old held.new result }
 {
     let unfit = call_query::fit(tree, register, held);
@@ -65,8 +62,7 @@ pub extern "C" fn vetxarno_fit(tree: &[u8], register: &[u8], held: &mut [u8]) ->
 }
 
 // The ask call.
-#[unsafe(no_mangle)]
-pub extern "C" fn vetxarno_ask(query: &[u8], register: &[u8], marks: &mut [u8]) -> i32
+pub fn vetxarno_ask(query: &[u8], register: &[u8], marks: &mut [u8]) -> i32
     ensures { AskCall query.now register.now marks.old marks.new result }
 {
     let asked = ask(query, register, marks);
