@@ -72,6 +72,9 @@ def respell(text, names):
     def one(m):
         name = m.group(0)
         new = names.get(name, name)
+        # a module has its function's name
+        if name == snake(name) and text[m.end() : m.end() + 1] == ".":
+            return name
         # in a path of facts stands a step, which has its function's name
         if new.endswith("_lem") and STEPS.search(text[: m.start()]):
             return snake(name)
@@ -86,12 +89,29 @@ def respell_source(line, names):
     return "".join(p if i % 2 else respell(p, names) for i, p in enumerate(parts))
 
 
+def taken_from_outside(text, own):
+    """The names that a file takes from the library, which keep their spelling in it."""
+    names = set()
+    for line in re.findall(r"^(?:ghost )?use (?:.*)$", text, re.M):
+        found = re.match(r"^(?:ghost )?use ([\w.'+«»-]+)\.\{(.*)\};?$", line)
+        if found and found.group(1).split(".")[:2] not in own:
+            names.update(item.split(" as ")[0] for item in found.group(2).split(", ") if " as " not in item)
+            names.update(w for item in found.group(2).split(", ") if " as " in item for w in item.split(" as ")[:1])
+    return names
+
+
 def main():
     names = table("crates")
+    own = [["Rattle", name] for name in os.listdir("crates")]
     changed = 0
     for path in files("crates", (".antt", ".rt", ".edit")):
         old = open(path, encoding="utf8").read()
-        new = "\n".join(respell_source(line, names) for line in old.split("\n"))
+        outside = taken_from_outside(old, own)
+        here = {a: b for a, b in names.items() if a not in outside}
+        if not path.endswith(".antt"):
+            # a function of src/ keeps its name
+            here = {a: b for a, b in here.items() if a != snake(a)}
+        new = "\n".join(respell_source(line, here) for line in old.split("\n"))
         if new != old:
             open(path, "w", encoding="utf8").write(new)
             changed += 1

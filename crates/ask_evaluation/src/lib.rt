@@ -1,4 +1,6 @@
 // The evaluation of core queries: page sets from the nodes of a held query.
+#![tactic(auto)]
+
 ghost use Rattle.std.specs.Prelude.{◌≡◌, suc};
 ghost use Rattle.pageset.specs.Marks.{marks_from};
 ghost use Rattle.query_core.specs.Held.{heap_in};
@@ -18,14 +20,14 @@ use text::{Span, part};
 use values::Kind;
 
 // The pages that a query selects, and the place where its nodes begin.
-#[derive(Drop)]
+#[derive(Clone, Copy)]
 pub struct Evaluated {
     pub set: PageSet,
     pub next: usize,
 }
 
 // The kind that is expected of the values under a property, or none.
-#[derive(Drop)]
+#[derive(Clone, Copy)]
 pub enum Expected {
     Kind(Span, Kind),
     Nothing,

@@ -1,4 +1,6 @@
 // Numbers and strings in the bytes of a buffer: read from any place, with zeros behind the end, and written as far as there is room.
+#![tactic(auto)]
+
 ghost use Rattle.std.specs.Prelude.{◌≡◌, [], ◌∷◌, ◌⊎◌, ◌+◌, ◌≤◌, length};
 ghost use Rattle.buffer.specs.Numbers.{two_bytes, eight_bytes, two_at, eight_at, zeros as zeros_of};
 ghost use Rattle.buffer.specs.Tests.{zeros_at, zeros_to};

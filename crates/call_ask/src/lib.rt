@@ -1,4 +1,6 @@
 // The ask call: marks the pages that a held query selects from a held register.
+#![tactic(auto)]
+
 ghost use Rattle.std.specs.Prelude.{◌≡◌, Bool, ℕ};
 ghost use Rattle.pageset.specs.Marks.{marks_from};
 ghost use Rattle.text.specs.Table.{bit};
@@ -15,7 +17,7 @@ use tables::widen;
 use text::part;
 
 // What the ask call answers: the number that refuses it, or how many pages are marked.
-#[derive(Drop)]
+#[derive(Clone, Copy)]
 pub enum Asked {
     Refused(usize),
     Marked(usize),

@@ -1,4 +1,6 @@
 // The join call: joins two held registers.
+#![tactic(auto)]
+
 ghost use Rattle.language.specs.Answer.{Answered};
 ghost use Rattle.call_answers.specs.Calls.{join_call};
 ghost use Rattle.call_join.specs.Stages.{Joins, Writes};

@@ -1,4 +1,6 @@
 // The calls that read a query text, fit what was read to a held register, and do both.
+#![tactic(auto)]
+
 ghost use Rattle.std.specs.Prelude.{◌≡◌, min};
 ghost use Rattle.buffer.specs.Writing.{written};
 ghost use Rattle.language.specs.Answer.{Answered};

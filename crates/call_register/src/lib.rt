@@ -1,4 +1,6 @@
 // The register call: judges a register text, and writes the held register.
+#![tactic(auto)]
+
 ghost use Rattle.std.specs.Prelude.{◌≡◌, ltb};
 ghost use Rattle.text.specs.Bytes.{all};
 ghost use Rattle.language.specs.Answer.{Answered};

@@ -1,4 +1,6 @@
 // The comparators that reader, fitting and evaluation share.
+#![tactic(auto)]
+
 pub mod comparators; // comparators.rt: what differs from comparator to comparator
 
 pub use comparators::{
@@ -7,7 +9,7 @@ pub use comparators::{
 };
 
 // Comparators of core queries (thesis 4.2.1).
-#[derive(Drop)]
+#[derive(Clone, Copy)]
 pub enum Comparator {
     Equal,
     Unequal,
@@ -16,7 +18,7 @@ pub enum Comparator {
 }
 
 // Comparators as written (thesis 5.2.2).
-#[derive(Drop)]
+#[derive(Clone, Copy)]
 pub enum SurfaceComparator {
     Equal,
     Unequal,

@@ -1,4 +1,6 @@
 // Names in two spellings: the table of compositions, whether bytes are a name, and its composed form.
+#![tactic(auto)]
+
 ghost use Rattle.std.specs.Prelude.{◌≡◌, ◌+◌, ◌<◌, ◌^◌, length, drop};
 ghost use Rattle.buffer.specs.Writing.{written};
 ghost use Rattle.names.specs.Codes.{encode};
@@ -19,7 +21,7 @@ use tables::wide;
 use text::{Class, all_in, byte_at, in_class, one_of, part};
 
 // A composed letter of a name, and how many of the bytes that were typed it has; 0 where they begin with none.
-#[derive(Drop)]
+#[derive(Clone, Copy)]
 pub struct Letter {
     pub code: u16,
     pub width: usize,

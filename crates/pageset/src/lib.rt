@@ -1,10 +1,12 @@
 // Sets of up to 256 pages, by value: a mark for each place, and what joins and counts them.
+#![tactic(auto)]
+
 ghost use Rattle.std.specs.Prelude.{◌≡◌, ◌%◌, ◌^◌, true, false, cond, ◌||◌, ◌&&◌, get_or, set, replicate};
 ghost use Rattle.text.specs.Table.{tabulate, count_to};
 ghost use Rattle.pageset.specs.Marks.{marks_from};
 
 // A set of pages: the mark at a page's place says whether it is in. The marks are the bits of four words, the lowest first.
-#[derive(Drop)]
+#[derive(Clone, Copy)]
 pub struct PageSet {
     pub words: [u64; 4],
 }

@@ -1,4 +1,6 @@
 // What asklist writes for a register text and a query text.
+#![tactic(auto)]
+
 ghost use Rattle.std.specs.Prelude.{ℕ};
 ghost use Rattle.program_listing.specs.Listing.{Lists};
 ghost use Rattle.program_listing.specs.Answering.{AnswersCore, AnswersText};

@@ -1,4 +1,6 @@
 // Core queries as postfix nodes, and the held query that carries them.
+#![tactic(auto)]
+
 pub mod layout; // layout.rt: the regions and tags of a held query
 pub mod query; // query.rt: number 21's test
 mod links; // links.rt: a link from the bytes of its slot
@@ -16,14 +18,14 @@ use values::{Scalar, Split};
 pub use writing::{count_of, finish, put_connective, put_node};
 
 // A constant: the kind and the code of a scalar, or where a string lies in a text.
-#[derive(Drop)]
+#[derive(Clone, Copy)]
 pub enum Constant {
     Scalar(Scalar, u64),
     String(Span),
 }
 
 // A core selector without what stands below it; names are places in a text.
-#[derive(Drop)]
+#[derive(Clone, Copy)]
 pub enum Selector {
     Category(Span),
     Namespace(Span),
@@ -35,7 +37,7 @@ pub enum Selector {
 }
 
 // What a node does with the queries before it.
-#[derive(Drop)]
+#[derive(Clone, Copy)]
 pub enum Connective {
     And,
     Or,
@@ -43,14 +45,14 @@ pub enum Connective {
 }
 
 // A node of a core query; the selector counts where the connective is Select.
-#[derive(Drop)]
+#[derive(Clone, Copy)]
 pub struct Node {
     pub connective: Connective,
     pub selector: Selector,
 }
 
 // Where the strings of a node lie, at most three.
-#[derive(Drop)]
+#[derive(Clone, Copy)]
 pub struct Strings {
     pub first: Span,
     pub second: Span,
@@ -59,13 +61,13 @@ pub struct Strings {
 
 // The place behind nodes that are laid into a held query: how many there are, 257 for more than 256, and 512 times how many bytes of
 // the heap their strings take. One number, since it goes through every call of a recursion.
-#[derive(Drop)]
+#[derive(Clone, Copy)]
 pub struct Place {
     pub code: usize,
 }
 
 // The numbers in a node's 20 bytes.
-#[derive(Drop)]
+#[derive(Clone, Copy)]
 pub struct Slot {
     pub tag: u8,
     pub comparator: u8,
@@ -76,21 +78,21 @@ pub struct Slot {
 }
 
 // A comparator that was read, or none.
-#[derive(Drop)]
+#[derive(Clone, Copy)]
 pub enum ComparatorRead {
     Is(Comparator),
     Nothing,
 }
 
 // A constant that was read, or none.
-#[derive(Drop)]
+#[derive(Clone, Copy)]
 pub enum ConstantRead {
     Is(Constant),
     Nothing,
 }
 
 // A node that was read, or none.
-#[derive(Drop)]
+#[derive(Clone, Copy)]
 pub enum NodeRead {
     Is(Node),
     Nothing,

@@ -1,4 +1,6 @@
 // The nodes of references and values, put behind those that a held query has. Names and constants are copied into its heap.
+#![tactic(auto)]
+
 ghost use Rattle.std.specs.Prelude.{◌≡◌};
 
 use query_core::{Constant, Place};
@@ -8,21 +10,21 @@ pub mod terms; // terms.rt: what a piece of the text writes
 pub mod writing; // writing.rt: nodes into a held query
 
 // What is compared: an article name, or the values of a property with a constant.
-#[derive(Drop)]
+#[derive(Clone, Copy)]
 pub enum Comparison {
     Article(Span),
     Value(Span, Constant),
 }
 
 // The namespaces that a reference is looked for in.
-#[derive(Drop)]
+#[derive(Clone, Copy)]
 pub enum Scope {
     Any,
     Within(Span),
 }
 
 // The place behind the nodes that were put, or that a piece is unfit (18).
-#[derive(Drop)]
+#[derive(Clone, Copy)]
 pub enum Emitted {
     At(Place),
     Unfit,

@@ -1,4 +1,6 @@
 // Fitting a held tree to the kinds of a register: from the whole query down to its pieces, to nodes of the core.
+#![tactic(auto)]
+
 ghost use Rattle.language.specs.Register.{kinds_of};
 ghost use Rattle.register_form.specs.Form.{register_in};
 ghost use Rattle.query_core_fit.specs.Answers.{FitsTree};
@@ -17,7 +19,7 @@ pub mod properties; // properties.rt: the properties that a tree names
 
 // What a node asks for: its two sides (and whether they are joined by OR), the query that it leads to, the alternatives or the rest
 // of the chain that it names, or nothing.
-#[derive(Drop)]
+#[derive(Clone, Copy)]
 pub enum Step {
     Two(usize, bool),
     Subquery,
@@ -28,7 +30,7 @@ pub enum Step {
 
 // What fitting answers: the held query is written, a property is not declared (17), a piece is unfit (18), there are more than 256
 // nodes (19).
-#[derive(Drop)]
+#[derive(Clone, Copy)]
 pub enum Fit {
     Accepted,
     Undeclared,

@@ -1,4 +1,6 @@
 // What heads, pieces and brackets without `::` add to a held tree.
+#![tactic(auto)]
+
 ghost use Rattle.std.specs.Prelude.{◌≡◌};
 
 use query_tree_write::Place;
@@ -7,7 +9,7 @@ pub mod adding; // adding.rt: a node, a connective, conditions
 pub mod plain; // plain.rt: heads, pieces, brackets without `::`
 
 // What was read so far: where the tree's nodes end, and whether a condition of 14, 15 or 16 was met.
-#[derive(Drop)]
+#[derive(Clone, Copy)]
 pub struct Seen {
     pub place: Place,
     pub deep: bool,
@@ -16,14 +18,14 @@ pub struct Seen {
 }
 
 // What a reader answers: the place behind what it read, or that there is no reading.
-#[derive(Drop)]
+#[derive(Clone, Copy)]
 pub enum Outcome {
     Got(usize, Seen),
     Refused,
 }
 
 // What joins two sides.
-#[derive(Drop)]
+#[derive(Clone, Copy)]
 pub enum Connective {
     And,
     Or,

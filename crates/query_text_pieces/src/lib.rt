@@ -1,4 +1,6 @@
 // The words and pieces of the query text: where they stand, and how a piece reads.
+#![tactic(auto)]
+
 ghost use Rattle.std.specs.Prelude.{◌≡◌, not};
 ghost use Rattle.std.proofs.Math.Option.{some};
 ghost use Rattle.text.specs.Bytes.{after as after_word};
@@ -15,14 +17,14 @@ use text::{Class, Span, part, same_bytes, scan, trimmed, widen, word_at};
 use values::{Split, split_reference};
 
 // A place that was looked for, or none.
-#[derive(Drop)]
+#[derive(Clone, Copy)]
 pub enum Found {
     At(usize),
     Nothing,
 }
 
 // A piece: its comparator, where its text lies, and the place behind it.
-#[derive(Drop)]
+#[derive(Clone, Copy)]
 pub struct Placed {
     pub comparator: SurfaceComparator,
     pub text: Span,
@@ -30,14 +32,14 @@ pub struct Placed {
 }
 
 // The category name of a bracket's first piece, or none.
-#[derive(Drop)]
+#[derive(Clone, Copy)]
 pub enum First {
     Category(Span),
     Other,
 }
 
 // How a piece outside property bodies reads: `namespace:+`, a reference, or neither.
-#[derive(Drop)]
+#[derive(Clone, Copy)]
 pub enum Read {
     Namespace(Span),
     Reference(SurfaceComparator, Span),

@@ -1,4 +1,6 @@
 // Reads a query text into a held tree, or turns it away with the lowest of 12 to 16.
+#![tactic(auto)]
+
 ghost use Rattle.std.specs.Prelude.{◌≡◌};
 ghost use Rattle.query_text_read.specs.Answers.{verdict_of, ReadsText};
 
@@ -10,7 +12,7 @@ use text::{Class, scan};
 mod readers; // readers.rt: the grammar
 
 // What reading a text answers: that it was read, or why it was not.
-#[derive(Drop)]
+#[derive(Clone, Copy)]
 pub enum Reading {
     Accepted,
     TooLong,

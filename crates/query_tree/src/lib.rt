@@ -1,4 +1,6 @@
 // The held tree of a query text: a surface query as postfix nodes.
+#![tactic(auto)]
+
 use language::SurfaceComparator;
 use text::Span;
 
@@ -8,7 +10,7 @@ pub mod reading; // reading.rt: nodes from their bytes
 pub use layout::TREE_BYTES;
 
 // A part of a query: a bracket of categories or of identifiers, the alternatives of a property, a property's bracket, two joined.
-#[derive(Drop)]
+#[derive(Clone, Copy)]
 pub enum Shape {
     Categories,
     Identifiers,
@@ -21,7 +23,7 @@ pub enum Shape {
 // What the test keeps of a part: its shape and its first node; how many names its chain has; whether it is one alternative, whether its
 // first one would be read as a category, whether every rule is kept, that aside; bytes and depth of its shortest spelling, the
 // brackets of categories and identifiers aside. Numbers stop at the first that is too large.
-#[derive(Drop)]
+#[derive(Clone, Copy)]
 pub struct Item {
     pub shape: Shape,
     pub from: usize,
@@ -34,7 +36,7 @@ pub struct Item {
 }
 
 // A node's six bytes: a tag, a comparator, a number, the lengths of a namespace and of a name or value.
-#[derive(Drop)]
+#[derive(Clone, Copy)]
 pub struct Row {
     pub tag: u8,
     pub comparator: u8,
@@ -44,7 +46,7 @@ pub struct Row {
 }
 
 // A node; its strings are places in the bytes of all strings.
-#[derive(Drop)]
+#[derive(Clone, Copy)]
 pub enum TreeNode {
     And(usize),
     Or(usize),

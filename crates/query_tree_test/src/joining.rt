@@ -147,7 +147,7 @@ pub fn or_item(at: usize, n: usize, i: Item, j: Item) -> Made
     only_if(are_queries(n, at, i, j), item)
 }
 
-pub fn and_item_lem(at: usize, n: usize, i: Item, j: Item) -> Made
+pub fn and_item(at: usize, n: usize, i: Item, j: Item) -> Made
     ensures { made_by result ≡ and_item at n i j }
 {
     let first = i.shape;

@@ -1,4 +1,6 @@
 // Whether bytes are a held tree: each row that of its node, and one pass over the nodes with a stack of parts.
+#![tactic(auto)]
+
 ghost use Rattle.std.specs.Prelude.{◌≡◌, true, false};
 ghost use Rattle.language.specs.Answer.{found};
 ghost use Rattle.query_tree.specs.Form.{held_tree};
@@ -15,7 +17,7 @@ use testing::is_exact;
 use text::part;
 
 // What a node makes of the parts before it, or nothing.
-#[derive(Drop)]
+#[derive(Clone, Copy)]
 pub enum Made {
     Is(Item),
     Nothing,

@@ -7,7 +7,7 @@ ghost use Rattle.query_tree.specs.Pass.{is_query, is_good, full_bytes, is_tree};
 ghost use Rattle.query_tree_test.specs.Stack.{made_by, arity as arity_of, made_of};
 
 use crate::Made;
-use crate::joining::{and_item_lem, bar_item, link_item, or_item, property_item, subquery_item};
+use crate::joining::{and_item, bar_item, link_item, or_item, property_item, subquery_item};
 use crate::leaves::{
     bare_item, category_item, existence_item, namespace_item, qualified_item, value_item,
 };
@@ -55,7 +55,7 @@ fn made(s: &[u8], at: usize, node: TreeNode, i: Item, j: Item) -> Made
     ensures { made_by result ≡ made_of at (node_by s.now node) i j }
 {
     match node {
-        TreeNode::And(n) => and_item_lem(at, n, i, j),
+        TreeNode::And(n) => and_item(at, n, i, j),
         TreeNode::Or(n) => or_item(at, n, i, j),
         TreeNode::Bar(n) => bar_item(at, n, i, j),
         TreeNode::Category(p) => Made::Is(category_item(at, part(s, p.start, p.len))),

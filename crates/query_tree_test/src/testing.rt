@@ -50,7 +50,7 @@ fn place_of(tag: u8, at: usize) -> usize
 }
 
 // Whether a row is that of its node, whose string begins at a place.
-pub fn row_fits_lem(row: Row, at: usize) -> bool
+pub fn row_fits(row: Row, at: usize) -> bool
     ensures { result ≡ row_fits at row }
 {
     if layout::STRING_BYTES < at {
@@ -70,7 +70,7 @@ pub fn row_fits_lem(row: Row, at: usize) -> bool
 }
 
 // Whether some rows fit, and where their strings end.
-#[derive(Drop)]
+#[derive(Clone, Copy)]
 pub struct Tested {
     pub ok: bool,
     pub end: usize,
@@ -84,7 +84,7 @@ fn rows_fit(h: &[u8], n: usize) -> Tested
     let mut i: usize = 0;
     while i < n {
         let row = row_at(h, i);
-        if !row_fits_lem(row, at) {
+        if !row_fits(row, at) {
             return Tested { ok: false, end: 0 };
         }
         at = at + widen(row.first) + widen(row.second);

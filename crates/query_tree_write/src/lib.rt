@@ -1,4 +1,6 @@
 // Nodes put into a held tree, one behind the other.
+#![tactic(auto)]
+
 ghost use Rattle.std.specs.Prelude.{◌≡◌, ◌+◌, ◌≤◌, length};
 ghost use Rattle.buffer.specs.Numbers.{two_bytes};
 ghost use Rattle.buffer.specs.Writing.{written};
@@ -14,14 +16,14 @@ use query_tree::{TreeNode, layout};
 use text::{Span, part};
 
 // How many nodes a tree has, and how many bytes their strings have.
-#[derive(Drop)]
+#[derive(Clone, Copy)]
 pub struct Place {
     pub count: usize,
     pub end: usize,
 }
 
 // What is put of a node: its tag, comparator and number, and its two strings as places in a text.
-#[derive(Drop)]
+#[derive(Clone, Copy)]
 pub struct Entry {
     pub tag: u8,
     pub comparator: SurfaceComparator,

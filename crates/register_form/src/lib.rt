@@ -1,4 +1,6 @@
 // The held register: reading its rows. Every number is one of 16 bits, so that no place overflows; what lies behind the bytes is 0.
+#![tactic(auto)]
+
 ghost use Rattle.std.specs.Prelude.{◌≡◌, suc, ◌+◌, ◌*◌, ◌-◌};
 ghost use Rattle.values.specs.Values.{kind_from};
 ghost use Rattle.register_form.specs.Dictionary.{space_of, name_of, group_of, term_code};

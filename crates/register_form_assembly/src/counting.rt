@@ -19,7 +19,7 @@ pub const MOST_COUNTED: u16 = 32768;
 const UNCOUNTED: u16 = 32769;
 
 // Bytes added, and whether none is missing.
-#[derive(Drop)]
+#[derive(Clone, Copy)]
 struct Sum {
     bytes: usize,
     all: bool,

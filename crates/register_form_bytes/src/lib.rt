@@ -1,4 +1,6 @@
 // The rows of the regions of a held register, written into a buffer as far as there is room.
+#![tactic(auto)]
+
 ghost use Rattle.std.specs.Prelude.{◌≡◌};
 ghost use Rattle.values.specs.Values.{kind_code, kind_from};
 ghost use Rattle.buffer.specs.Writing.{written};

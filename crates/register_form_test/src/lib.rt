@@ -1,4 +1,6 @@
 // Whether bytes are the form of a register: layout, texts, terms and pages, each gone over once.
+#![tactic(auto)]
+
 ghost use Rattle.std.specs.Prelude.{◌≡◌, length, replicate};
 ghost use Rattle.register_form_test.specs.Opening.{Opens, Tries};
 
@@ -14,14 +16,14 @@ use terms::terms_ok;
 use texts::{properties_ok, texts_ok};
 
 // Whether tests hold, and how many bytes were counted.
-#[derive(Drop)]
+#[derive(Clone, Copy)]
 pub struct Tally {
     pub ok: bool,
     pub bytes: usize,
 }
 
 // Whether a term keeps the rules, the number of the text that it names, and how many bytes it counts for.
-#[derive(Drop)]
+#[derive(Clone, Copy)]
 pub struct Judged {
     pub ok: bool,
     pub text: u16,

@@ -37,7 +37,7 @@ fn judge_in(h: &[u8], low: u16, high: u16, class: u16, x: u16) -> Judged
 }
 
 // A term that names no text.
-fn no_text_lem(ok: bool, bytes: u16) -> Judged
+fn no_text(ok: bool, bytes: u16) -> Judged
     ensures { result ≡ no_text ok bytes }
 {
     Judged {
@@ -52,7 +52,7 @@ fn judge_text(h: &[u8], classes: &[u16], low: u16, high: u16, code: u64) -> Judg
     ensures { result ≡ judged_text h.now classes.now low high code }
 {
     if long(text_count(h)) <= code {
-        return no_text_lem(false, 0);
+        return no_text(false, 0);
     }
     let x = code as u16;
     judge_in(h, low, high, get(classes, widen(x)), x)
@@ -71,7 +71,7 @@ fn judge_value(h: &[u8], classes: &[u16], kind: Kind, code: u64) -> Judged
 {
     match kind {
         Kind::Page => judge_text(h, classes, 2, 3, code),
-        Kind::Scalar(k) => no_text_lem(in_range(k, code), scalar_bytes(k, code)),
+        Kind::Scalar(k) => no_text(in_range(k, code), scalar_bytes(k, code)),
         Kind::String => judge_text(h, classes, 1, 2, code),
     }
 }
@@ -86,7 +86,7 @@ fn judge_group(h: &[u8], classes: &[u16], group: u16, code: u64) -> Judged
     if group <= property_count(h) {
         return judge_value(h, classes, kind_at(h, group - 1), code);
     }
-    no_text_lem(false, 0)
+    no_text(false, 0)
 }
 
 fn judge_term(h: &[u8], classes: &[u16], f: u16) -> Judged

@@ -1,4 +1,6 @@
 // What is asked of a held register: its properties by name, its pages by place, its texts and terms by number.
+#![tactic(auto)]
+
 ghost use Rattle.std.specs.Prelude.{◌≡◌};
 ghost use Rattle.language.specs.Register.{kinds_of};
 ghost use Rattle.language.specs.References.{stands_as};
@@ -28,7 +30,7 @@ use text::{Order, part, same_bytes};
 use values::{Kind, KindRead, Split};
 
 // The two lists of a dictionary that are in ascending order; texts by a name with no namespace, or by a text.
-#[derive(Drop)]
+#[derive(Clone, Copy)]
 pub enum Index {
     Names,
     Texts,
@@ -36,14 +38,14 @@ pub enum Index {
 }
 
 // The number of what was looked up, if it is there.
-#[derive(Drop)]
+#[derive(Clone, Copy)]
 pub enum Found {
     At(u16),
     Nothing,
 }
 
 // The terms from low to high, without the last: those of a category, or those of a property, with its kind.
-#[derive(Drop)]
+#[derive(Clone, Copy)]
 pub struct TermRange {
     pub low: u16,
     pub high: u16,
@@ -52,27 +54,27 @@ pub struct TermRange {
 
 // Where a name belongs among the texts: the first ones, so many as it says, have no namespace, and the name of text n stands to
 // the given one as 1 + 2 n stands to the key.
-#[derive(Drop)]
+#[derive(Clone, Copy)]
 pub struct Rank {
     pub plain: u16,
     pub key: u64,
 }
 
 // A set of terms: the mark at a term's number says whether it is in.
-#[derive(Drop)]
+#[derive(Clone, Copy)]
 pub struct TermSet {
     pub marks: [bool; 2048],
 }
 
 // What is asked of a page's identifier: that it has a namespace, or an article name that stands to another as a comparator says.
-#[derive(Drop)]
+#[derive(Clone, Copy)]
 pub enum NameTest {
     Namespace,
     Article(Comparator),
 }
 
 // What is asked of a value: that it stands to a constant, or that it is a link that a reference means. Their strings lie in a query.
-#[derive(Drop)]
+#[derive(Clone, Copy)]
 pub enum ValueTest {
     Constant(Comparator, Constant),
     Reference(SurfaceComparator, Split),

@@ -13,7 +13,7 @@ use crate::{Found, Index, TermRange, property_place};
 use register_form::{kind_at, property_count, term_at, term_count, text_at, text_count};
 use sorting::{is_equal, is_less};
 use text::{Order, byte_at, compare, part};
-use values::{Kind, same_kind_lem};
+use values::{Kind, same_kind};
 
 // How a text stands to that of a name with no namespace.
 fn compare_plain(t: &[u8], x: &[u8]) -> Order
@@ -154,5 +154,5 @@ pub fn other_kind(h: &[u8], x: &[u8], kind: Kind) -> bool
 {
     let range = property_range(h, x);
     let k = range.kind;
-    !same_kind_lem(k, kind) & (range.low < range.high)
+    !same_kind(k, kind) & (range.low < range.high)
 }

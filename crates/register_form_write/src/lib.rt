@@ -1,4 +1,6 @@
 // The one writer of held registers: it assembles a draft and writes it, or refuses it and leaves every byte.
+#![tactic(auto)]
+
 ghost use Rattle.std.specs.Prelude.{ℕ};
 ghost use Rattle.register_form.specs.Tables.{tables_of};
 ghost use Rattle.register_form_write.specs.Writer.{TermsWritten, NumberedWritten, DraftWritten, OrderedWritten};

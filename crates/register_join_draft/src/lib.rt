@@ -1,4 +1,6 @@
 // The draft of the join of two held registers, in tables.
+#![tactic(auto)]
+
 ghost use Rattle.std.specs.Prelude.{◌≡◌, ◌+◌, ◌<◌, set};
 ghost use Rattle.register_form.specs.Form.{page_count, property_count};
 ghost use Rattle.register_join_draft.specs.Drafting.{Entering, PropertiesPut, IdentifiersPut, new_row, PagesPut, JoinPut, clashes_at, some_clash, Clashed};
@@ -12,7 +14,7 @@ use tables::{get, next, num_at, put, put_byte, widen};
 mod forms; // forms.rt: the terms of a register, the forms of a page
 
 // How many properties, pages and terms a draft has.
-#[derive(Drop)]
+#[derive(Clone, Copy)]
 pub struct Counts {
     pub properties: u16,
     pub pages: u16,

@@ -1,4 +1,6 @@
 // The texts of two held registers as one ascending list, each text once, and the item that each number of a text has in it.
+#![tactic(auto)]
+
 ghost use Rattle.std.specs.Prelude.{◌≡◌, ◌&&◌, ◌+◌, ◌%◌, ◌<◌, set};
 ghost use Rattle.register_form.specs.Form.{text_at};
 ghost use Rattle.register_join_merge.specs.Merging.{next_order, takes_first, takes_second, next_text, Pasted, Added, Noted, Merger};

@@ -1,4 +1,6 @@
 // The draft of a register text: its entries, one after the other, into the tables of a draft.
+#![tactic(auto)]
+
 ghost use Rattle.std.specs.Prelude.{◌≡◌, List, ℕ};
 ghost use Rattle.text.specs.Bytes.{Bytes};
 ghost use Rattle.language.specs.Register.{Property};
@@ -23,21 +25,21 @@ use text::part;
 use values::Kind;
 
 // A property's kind and its place among the properties, or none.
-#[derive(Drop)]
+#[derive(Clone, Copy)]
 pub enum PropertyFound {
     At(Kind, u16),
     Nothing,
 }
 
 // How many texts there are, and how many bytes they have.
-#[derive(Drop)]
+#[derive(Clone, Copy)]
 pub struct Ends {
     pub texts: u16,
     pub bytes: u16,
 }
 
 // How many texts, bytes of texts, properties, pages and forms there are.
-#[derive(Drop)]
+#[derive(Clone, Copy)]
 pub struct Counts {
     pub texts: u16,
     pub bytes: u16,

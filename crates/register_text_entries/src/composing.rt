@@ -16,7 +16,7 @@ use text::{Class, Span, all_in, part};
 use values::is_value;
 
 // An entry that was copied, and whether it breaks a rule.
-#[derive(Drop)]
+#[derive(Clone, Copy)]
 pub struct Copied {
     pub item: Item,
     pub broken: bool,

@@ -1,4 +1,6 @@
 // The register text: its entries one after the other, and the table that holds them.
+#![tactic(auto)]
+
 ghost use Rattle.std.specs.Prelude.{◌≡◌};
 ghost use Rattle.register_text_entries.specs.Items.{is_broken};
 ghost use Rattle.register_text_entries.specs.Table.{Filled};
@@ -13,28 +15,28 @@ use text::Span;
 use values::Kind;
 
 // A place in a text, or none.
-#[derive(Drop)]
+#[derive(Clone, Copy)]
 pub enum Found {
     At(usize),
     Nothing,
 }
 
 // A quoted text and the place behind it, or none.
-#[derive(Drop)]
+#[derive(Clone, Copy)]
 pub enum Quoted {
     Text(Span, usize),
     Nothing,
 }
 
 // A kind word and the place behind it, or none.
-#[derive(Drop)]
+#[derive(Clone, Copy)]
 pub enum KindFound {
     At(Kind, usize),
     Nothing,
 }
 
 // What an entry is.
-#[derive(Drop)]
+#[derive(Clone, Copy)]
 pub enum Tag {
     Prop,
     Page,
@@ -45,7 +47,7 @@ pub enum Tag {
 }
 
 // An entry: what it is, where its one or two texts lie, whether the place behind it is inside a page form, and that place.
-#[derive(Drop)]
+#[derive(Clone, Copy)]
 pub struct Item {
     pub tag: Tag,
     pub kind: Kind,
@@ -56,7 +58,7 @@ pub struct Item {
 }
 
 // What reading a whole text answers: whether it is lines of the two forms, and how many entries they have.
-#[derive(Drop)]
+#[derive(Clone, Copy)]
 pub struct Rows {
     pub ok: bool,
     pub count: usize,

@@ -1,4 +1,6 @@
 // The rows of a register's table: which are properties and pages, what each must keep, and the verdict 1 to 7 on a text.
+#![tactic(auto)]
+
 ghost use Rattle.std.specs.Prelude.{◌≡◌, ◌&&◌, ◌≤◌, length};
 ghost use Rattle.text.specs.Bytes.{Bytes};
 ghost use Rattle.register_text_verdict.specs.Checks.{Collected, some_fails, lowest, verdict_of, row_room, ReadsRows, JudgesTyped, Prepared, Judges, Room};
@@ -15,14 +17,14 @@ use tests::{count_inner, some_row, twice};
 use text::Span;
 
 // What a row declares.
-#[derive(Drop)]
+#[derive(Clone, Copy)]
 pub enum Declared {
     Property,
     Page,
 }
 
 // What a row is tested for: 3, 5 or 6.
-#[derive(Drop)]
+#[derive(Clone, Copy)]
 pub enum Check {
     Rule,
     Undeclared,
@@ -30,21 +32,21 @@ pub enum Check {
 }
 
 // Where what a row declares lies in one part of the text, if it does.
-#[derive(Drop)]
+#[derive(Clone, Copy)]
 pub enum Piece {
     At(Span),
     Nothing,
 }
 
 // A number that refuses a text as typed, or 0, and how many rows it has.
-#[derive(Drop)]
+#[derive(Clone, Copy)]
 pub struct TypedRows {
     pub number: usize,
     pub rows: usize,
 }
 
 // The verdict on rows, and how many properties and pages they are.
-#[derive(Drop)]
+#[derive(Clone, Copy)]
 pub struct Judged {
     pub number: usize,
     pub props: usize,

@@ -1,4 +1,6 @@
 // Numbers as wider and narrower ones, and tables of numbers: reading, and writing where there is room.
+#![tactic(auto)]
+
 ghost use Rattle.std.specs.Prelude.{◌≡◌, ◌+◌, ◌%◌, get_or, set};
 
 // A number as a wider one.

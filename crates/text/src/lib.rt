@@ -1,4 +1,6 @@
 // Byte strings: parts of them, their order, the byte classes of the language, words and trimming.
+#![tactic(auto)]
+
 ghost use Rattle.std.specs.Prelude.{◌≡◌, ◌+◌, ◌<◌, eqb, length, get_or, drop};
 ghost use Rattle.text.specs.Bytes.{any, all, same, order_of, numbers, span, starts, trim_end, part as part_from};
 ghost use Rattle.text.specs.Class.{one_of, in_class};
@@ -6,7 +8,7 @@ ghost use Rattle.text.specs.Keys.{key_to};
 ghost use Rattle.text.specs.Parts.{Trimmed};
 
 // How two byte strings stand to one another.
-#[derive(Drop)]
+#[derive(Clone, Copy)]
 pub enum Order {
     Less,
     Equal,
@@ -14,7 +16,7 @@ pub enum Order {
 }
 
 // The byte classes that a scan goes by.
-#[derive(Drop)]
+#[derive(Clone, Copy)]
 pub enum Class {
     Blank,
     Free,
@@ -27,7 +29,7 @@ pub enum Class {
 }
 
 // Where a part of a text lies.
-#[derive(Drop)]
+#[derive(Clone, Copy)]
 pub struct Span {
     pub start: usize,
     pub len: usize,

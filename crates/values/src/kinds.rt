@@ -5,7 +5,7 @@ ghost use Rattle.values.specs.Spelling.{spell_scalar};
 ghost use Rattle.values.specs.Answers.{code_read, kind_read, kind_at};
 
 use crate::booleans::{boolean_length, read_boolean};
-use crate::numbers::{number_length, read_number_lem};
+use crate::numbers::{number_length, read_number};
 use crate::{CodeRead, Kind, KindRead, Scalar};
 use text::word_at;
 
@@ -91,7 +91,7 @@ pub fn same_scalar(a: Scalar, b: Scalar) -> bool
 }
 
 // Whether two kinds are one.
-pub fn same_kind_lem(a: Kind, b: Kind) -> bool
+pub fn same_kind(a: Kind, b: Kind) -> bool
     ensures { result ≡ same_kind a b }
 {
     kind_code(a) == kind_code(b)
@@ -102,7 +102,7 @@ pub fn read_scalar(k: Scalar, s: &[u8]) -> CodeRead
     ensures { result ≡ code_read (read_scalar k s.now) }
 {
     match k {
-        Scalar::Number => read_number_lem(s),
+        Scalar::Number => read_number(s),
         Scalar::Boolean => read_boolean(s),
     }
 }

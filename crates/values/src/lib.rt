@@ -1,4 +1,6 @@
 // References, values and kinds: the tests, and how the values are read.
+#![tactic(auto)]
+
 ghost use Rattle.std.specs.Prelude.{◌≡◌};
 ghost use Rattle.names.specs.Names.{is_name, is_property_name, is_namespace, is_sized, last};
 ghost use Rattle.values.specs.Names.{is_value, is_reference, reference};
@@ -12,14 +14,14 @@ pub mod rules; // rules.rt: the rules for bytes, in a table
 
 pub use dates::{is_date_code, read_date};
 pub use kinds::{
-    KIND_COUNT, in_range, kind_at, kind_code, kind_from, read_scalar, same_kind_lem, same_scalar,
+    KIND_COUNT, in_range, kind_at, kind_code, kind_from, read_scalar, same_kind, same_scalar,
     scalar_length, word_length,
 };
 use names::{is_name, is_namespace};
 use text::{Class, Span, all_in, byte_at, in_class, part, scan, trimmed};
 
 // The kinds of a property's values.
-#[derive(Drop)]
+#[derive(Clone, Copy)]
 pub enum Kind {
     Page,
     Scalar(Scalar),
@@ -27,14 +29,14 @@ pub enum Kind {
 }
 
 // The kinds whose values are numbers of an order of their own: each value has a code.
-#[derive(Drop)]
+#[derive(Clone, Copy)]
 pub enum Scalar {
     Number,
     Boolean,
 }
 
 // A reference as written: where its namespace, if it has one, and its article name lie.
-#[derive(Drop)]
+#[derive(Clone, Copy)]
 pub struct Split {
     pub qualified: bool,
     pub namespace: Span,
@@ -42,14 +44,14 @@ pub struct Split {
 }
 
 // The code of a value that was read, or none.
-#[derive(Drop)]
+#[derive(Clone, Copy)]
 pub enum CodeRead {
     Code(u64),
     Unfit,
 }
 
 // A kind whose word was found, or none.
-#[derive(Drop)]
+#[derive(Clone, Copy)]
 pub enum KindRead {
     Kind(Kind),
     Nothing,

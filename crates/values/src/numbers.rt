@@ -76,7 +76,7 @@ fn read_thousandths(s: &[u8]) -> CodeRead
 }
 
 // The number of thousandths that the bytes write, with 10^18 added.
-pub fn read_number_lem(s: &[u8]) -> CodeRead
+pub fn read_number(s: &[u8]) -> CodeRead
     ensures { result ≡ code_read (map_option biased (read_number s.now)) }
 {
     if byte_at(s, 0) == 45 {
