@@ -1,7 +1,7 @@
 -- Mismatches: what a node expects, and that the nodes of a query mix kinds where the query does.
 use Prim.Native.Nat.{ℕ, zero, suc, ◌+◌, ◌≤◌}
 use mathlib.Core.Path.{◌≡◌, refl, sym, ap₂, ◌∙◌}
-use mathlib.Core.Bool.{Bool, true, false, not, ◌||◌, or_true, or_false, or_comm, true≢false}
+use mathlib.Core.Bool.{Bool, true, false, not, ◌||◌, or-true, or-false, or_comm, true≢false}
 use mathlib.Core.List.{List, [], ◌∷◌}
 use mathlib.Core.Option.{Option, some, none}
 use native.Mathlib.Numerals.{add-one}
@@ -78,12 +78,12 @@ module _ (R : Register) where
   both_mix true true c = refl
   both_mix true false c = refl
   both_mix false true c = refl
-  both_mix false false c = sym (or_false c)
+  both_mix false false c = sym (or-false c)
 
   both_sides : (c a b : Bool) → (c || (a || b)) ≡ (b || c || a)
   both_sides true a true = refl
   both_sides true a false = refl
-  both_sides false true b = sym (or_true (b || false))
+  both_sides false true b = sym (or-true (b || false))
   both_sides false false true = refl
   both_sides false false false = refl
 
@@ -186,6 +186,6 @@ module _ (h q : Bytes) where
     unfolding SomeMixes Mismatches any
     some_all n e l m places R o c k =
         let w : i ≡ count_in q = omega arith in
-        so_far places R o ∙ rw w (stack_mixes R q (count_in q) (c ∷ []) k.stack) ∙ or_false (mismatch c R)
+        so_far places R o ∙ rw w (stack_mixes R q (count_in q) (c ∷ []) k.stack) ∙ or-false (mismatch c R)
 
 pub ruleset mixing = (mixes_plain, mixes_unread, mixes_none, mixes_kind)

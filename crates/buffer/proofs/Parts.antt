@@ -1,7 +1,7 @@
 -- Laws of parts of a list, and of lists joined.
 use Prim.Native.Nat.{ℕ, zero, suc, ◌+◌, ◌-◌, ◌≤◌, ◌<◌}
 use mathlib.Core.Path.{◌≡◌, refl, ap, ap₂, sym, ◌∙◌}
-use mathlib.Core.List.{List, [], ◌∷◌, ◌++◌, map, flat_map, append_assoc, append_nil, map-append}
+use mathlib.Core.List.{List, [], ◌∷◌, ◌++◌, map, flat_map, append_assoc, append-nil, map-append}
 use native.Mathlib.Nat.{zero-add, suc-add}
 use native.Mathlib.Omega.{arith}
 use lib.ListN.{length, get_or, take, drop, length-drop, take-append-drop}
@@ -57,7 +57,7 @@ module _ {A B : Type 0} (f : A → List B) where
   -- a table grows at its end
   pub flat_more : (n : ℕ) (g : ℕ → A) → flat_map f (tabulate (suc n) g) ≡ flat_map f (tabulate n g) ++ f (g n)
   unfolding tabulate flat_map
-  flat_more n g = flat_append (tabulate n g) (g n ∷ []) ∙ rw append_nil
+  flat_more n g = flat_append (tabulate n g) (g n ∷ []) ∙ rw append-nil
 
 -- joining after a map, and a map of a table
 pub flat_map_lem : {A B : Type 0} (f : A → List B) (l : List A) → flat_map (λ t. t) (map f l) ≡ flat_map f l

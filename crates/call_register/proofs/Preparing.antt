@@ -1,7 +1,7 @@
 -- The rows of a text with their names composed: as they are where all bytes are ASCII, or copied.
 use Prim.Native.Nat.{ℕ, zero, suc, ◌+◌, ◌*◌, ◌≤◌, ◌<◌}
 use mathlib.Core.Path.{◌≡◌, refl, sym, ap, ◌∙◌, subst}
-use mathlib.Core.Bool.{Bool, true, false, ◌&&◌, and-eq-true_iff, and_assoc, and_true}
+use mathlib.Core.Bool.{Bool, true, false, ◌&&◌, and-eq-true_iff, and_assoc, and-true}
 use mathlib.Core.List.{List, [], ◌∷◌}
 use mathlib.Core.Option.{some}
 use native.Mathlib.Numerals.{add-one}
@@ -102,6 +102,6 @@ module _ (s : Bytes) where
 
   pub ascii_all : (ok : Bool) (i : ℕ) → length s ≤ i → Testing ok i → ok ≡ is_ascii s
   unfolding all
-  ascii_all ok i l h = sym (and_true ok) ∙ ap (λ (x : Bool). ok && x) (let q : true ≡ is_ascii (drop i s) = rw (drop_of_length-le s l) in q) ∙ h
+  ascii_all ok i l h = sym (and-true ok) ∙ ap (λ (x : Bool). ok && x) (let q : true ≡ is_ascii (drop i s) = rw (drop_of_length-le s l) in q) ∙ h
 
 pub ruleset ascii = (ascii_none, ascii_more, ascii_all)

@@ -2,7 +2,7 @@
 use Prim.Native.Nat.{ℕ, ◌+◌, ◌≤◌, ◌<◌}
 use mathlib.Core.Path.{◌≡◌, refl, sym, ap, ap₂, ◌∙◌}
 use mathlib.Core.Bool.{Bool, true, false, cond, ◌&&◌, ◌||◌, false≢true}
-use mathlib.Core.List.{List, [], ◌∷◌, ◌++◌, map, append_nil, Memᴰ}
+use mathlib.Core.List.{List, [], ◌∷◌, ◌++◌, map, append-nil, Memᴰ}
 use mathlib.Core.Option.{Option, some, none}
 use native.Mathlib.Omega.{arith}
 use borrow.Author.Tests.{not-false}
@@ -226,7 +226,7 @@ module _ (R S : Register) where
 pub join_empty_right : (R : Register) → join R empty_register ≡ R
 unfolding join only_in joined_with like_in
 join_empty_right R =
-    λ k. record { properties = append_nil R.properties k; pages = (append_nil (map (joined_with []) R.pages) ∙ map_itself (joined_with []) R.pages (λ p i. refl)) k }
+    λ k. record { properties = append-nil R.properties k; pages = (append-nil (map (joined_with []) R.pages) ∙ map_itself (joined_with []) R.pages (λ p i. refl)) k }
 
 pub join_empty_left : (R : Register) → join empty_register R ≡ R
 unfolding join
@@ -243,4 +243,4 @@ join_self R h = λ k. record { properties = union_self same_property_likeness R.
     kept p i = rw (like_self same_page_likeness R.pages (register_rules R h).pages_once i) (page p)
 
     pages : map (joined_with R.pages) R.pages ++ only_in same_page R.pages R.pages ≡ R.pages
-    pages = ap₂ ◌++◌ (map_itself (joined_with R.pages) R.pages kept) (only_self same_page_likeness R.pages) ∙ append_nil R.pages
+    pages = ap₂ ◌++◌ (map_itself (joined_with R.pages) R.pages kept) (only_self same_page_likeness R.pages) ∙ append-nil R.pages

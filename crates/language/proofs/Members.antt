@@ -1,7 +1,7 @@
 -- Tests over the members of a list, and the truth values that they come to.
 use Prim.Native.Nat.{ℕ, zero, suc, ◌<◌}
 use mathlib.Core.Path.{◌≡◌, refl, sym, ap, ap₂, ◌∙◌, subst}
-use mathlib.Core.Bool.{Bool, true, false, not, ◌&&◌, ◌||◌, or_true, true≢false, false≢true}
+use mathlib.Core.Bool.{Bool, true, false, not, ◌&&◌, ◌||◌, or-true, true≢false, false≢true}
 use mathlib.Core.List.{List, [], ◌∷◌, map, Memᴰ}
 use native.Mathlib.Omega.{arith}
 use lib.ListN.{length, get_or}
@@ -46,7 +46,7 @@ module _ {A : Type 0} where
   pub any_mem : (p : A → Bool) {a : A} {l : List A} → Memᴰ a l → p a ≡ true → any p l ≡ true
   unfolding any
   any_mem p (Memᴰ.head {xs = l} e) h = rw (← e, h)
-  any_mem p (Memᴰ.tail {x = x} m) h = rw (any_mem p m h) (or_true (p x))
+  any_mem p (Memᴰ.tail {x = x} m) h = rw (any_mem p m h) (or-true (p x))
 
   pub all_at : (p : A → Bool) {a : A} {l : List A} → all p l ≡ true → Memᴰ a l → p a ≡ true
   unfolding all

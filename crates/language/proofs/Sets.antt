@@ -167,6 +167,7 @@ links_meant x c r p =
 -- The page that is named: that of the one page with the identifier.
 named : {p : Page} (l : List Page) → distinct same_page l ≡ true → Memᴰ p l → page_named l p.identifier ≡ some (page_of p)
 unfolding distinct page_named
+named {p = p} [] h x' = elim x' [ ]
 named (x ∷ l) h (Memᴰ.head e) = rw (e, identifier_refl x.identifier)
 named (x ∷ l) h (Memᴰ.tail m) =
     let t = and_true (not (any (same_page x) l)) (distinct same_page l) h in

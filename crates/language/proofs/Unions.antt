@@ -2,7 +2,7 @@
 use mathlib.Core.Path.{◌≡◌, refl, sym, ap, ap₂, ◌∙◌}
 use mathlib.Core.Bool.{Bool, true, false, cond, not, ◌&&◌, ◌||◌, true≢false, false≢true}
 use mathlib.Core.List.Memᴰ
-use mathlib.Core.List.{List, [], ◌∷◌, ◌++◌, map, append_nil, Memᴰ}
+use mathlib.Core.List.{List, [], ◌∷◌, ◌++◌, map, append-nil, Memᴰ}
 use mathlib.Core.Option.{Option, some, none}
 use borrow.Author.Tests.{not-true}
 use Rattle.text.specs.Bytes.{any, all}
@@ -169,11 +169,12 @@ module _ {A : Type 0} {alike : A → A → Bool} (s : Likeness alike) where
   only_self l = only_none alike l l (λ b i. like_itself b l i)
 
   pub union_self : (l : List A) → union alike l l ≡ l
-  union_self l = ap (λ m. l ++ m) (only_self l) ∙ append_nil l
+  union_self l = ap (λ m. l ++ m) (only_self l) ∙ append-nil l
 
   -- Where no two are alike, each is the one that is found like it.
   pub like_self : (l : List A) → distinct alike l ≡ true → {a : A} → Memᴰ a l → like_in alike a l ≡ some a
   unfolding distinct like_in
+  like_self [] h {a = a} x' = elim x' [ ]
   like_self (x ∷ l) h {a} (Memᴰ.head e) = rw (e, s.itself x)
   like_self (x ∷ l) h {a} (Memᴰ.tail i) =
       let t = and_true (not (any (alike x) l)) (distinct alike l) h in

@@ -1,7 +1,7 @@
 -- A text of plain code points is its own composed form, and names of bytes below 128 keep the rule of document 01.
 use Prim.Native.Nat.{ℕ, ◌<◌}
 use mathlib.Core.Path.{◌≡◌, refl, sym, ap, ◌∙◌}
-use mathlib.Core.Bool.{Bool, true, false, cond, not, ◌&&◌, false≢true, and-eq-true_iff, and-false, and_true}
+use mathlib.Core.Bool.{Bool, true, false, cond, not, ◌&&◌, false≢true, and-eq-true_iff, and-false, and-true}
 use mathlib.Core.List.{[], ◌∷◌}
 use mathlib.Core.Option.{Option, some, none}
 use native.Mathlib.Omega.{arith}
@@ -97,7 +97,7 @@ ascii_composed s h = rw (← ascii_bytes s h) (go (all is_plain s) refl)
     go false e = unread s (ascii_none s h e)
 
 sorted : (z n o p q : Bool) → ((z && o && p && q) && n) ≡ (z && n && o && p && q)
-sorted true true o p q = and_true (o && p && q)
+sorted true true o p q = and-true (o && p && q)
 sorted true false o p q = and-false (o && p && q)
 sorted false n o p q = refl
 
@@ -117,5 +117,5 @@ unfolding is_composed_name is_name
 ascii_composed_name s h = rw (ascii_composed s h, ← ascii_bytes s h) (go (all is_plain s))
   where
     go : (p : Bool) → (has_name_shape s && is_some (cond p (some s) none) && is_form s (cond p (some s) none)) ≡ (has_name_shape s && p)
-    go true = rw (same_refl s) (and_true (has_name_shape s && true))
+    go true = rw (same_refl s) (and-true (has_name_shape s && true))
     go false = and-false (has_name_shape s && false) ∙ sym (and-false (has_name_shape s))

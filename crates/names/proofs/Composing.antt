@@ -1,7 +1,7 @@
 -- Laws of composing code points: it ends in one step, and it keeps apart what decomposing keeps apart.
 use Prim.Native.Nat.{ℕ, ◌≤◌}
 use mathlib.Core.Path.{◌≡◌, refl, sym, ap, ◌∙◌}
-use mathlib.Core.Bool.{Bool, true, false, cond, not, ◌&&◌, false≢true, and-eq-true_iff, or_true}
+use mathlib.Core.Bool.{Bool, true, false, cond, not, ◌&&◌, false≢true, and-eq-true_iff, or-true}
 use mathlib.Core.List.{List, [], ◌∷◌, ◌++◌, Memᴰ}
 use mathlib.Core.Option.{Option, some, none}
 use native.Mathlib.Omega.{arith}
@@ -74,7 +74,7 @@ composing (c ∷ d ∷ l) = go (composition c d) refl (composing l) (composing (
 
 -- Composing leaves allowed code points.
 letter_allowed : (e : Entry) → Memᴰ e table → is_allowed e.composed ≡ true
-letter_allowed e m = let r = ranges e m in rw (wide_letter_lem e.composed (omega (arith, r.composed_least)) r.composed_most, or_true (is_plain e.composed))
+letter_allowed e m = let r = ranges e m in rw (wide_letter_lem e.composed (omega (arith, r.composed_least)) r.composed_most, or-true (is_plain e.composed))
 
 pub composed_allowed : {l k : List ℕ} → Composing l k → all is_allowed l ≡ true → all is_allowed k ≡ true
 unfolding all

@@ -1,7 +1,7 @@
 -- The table's theorems: one test over the whole of it, and what it says of each entry.
 use Prim.Native.Nat.{ℕ, zero, suc, ◌≤◌, ◌<◌}
 use mathlib.Core.Path.{◌≡◌, refl, sym, ap, ◌∙◌}
-use mathlib.Core.Bool.{Bool, true, false, not, ◌&&◌, false≢true, and-eq-true_iff, or_true}
+use mathlib.Core.Bool.{Bool, true, false, not, ◌&&◌, false≢true, and-eq-true_iff, or-true}
 use mathlib.Core.List.Memᴰ
 use mathlib.Core.List.{List, [], ◌∷◌, Memᴰ}
 use mathlib.Core.Option.{some}
@@ -24,7 +24,7 @@ any_at : (p : Entry → Bool) (t : List Entry) {e : Entry} → Memᴰ e t → p 
 unfolding any
 any_at p [] m h = absurd (Memᴰ.not-nil m)
 any_at p (f ∷ t) (Memᴰ.head q) h = rw (← q, h)
-any_at p (f ∷ t) (Memᴰ.tail m) h = rw (any_at p t m h, or_true (p f))
+any_at p (f ∷ t) (Memᴰ.tail m) h = rw (any_at p t m h, or-true (p f))
 
 -- An entry that is found passes the test, and is one of the list's.
 pub find_holds : (p : Entry → Bool) (t : List Entry) (e : Entry) → find p t ≡ some e → (p e ≡ true) × Memᴰ e t
@@ -56,7 +56,7 @@ pair_clashes : (e f : Entry) → has_pair e.letter e.mark f ≡ true → clash f
 pair_clashes e f h = rw h
 
 composed_clashes : (e f : Entry) → has_composed e.composed f ≡ true → clash f e ≡ true
-composed_clashes e f h = rw (h, or_true (has_pair e.letter e.mark f))
+composed_clashes e f h = rw (h, or-true (has_pair e.letter e.mark f))
 
 -- "composing and decomposing undo each other at every entry"
 pub composes : (e : Entry) → Memᴰ e table → composition e.letter e.mark ≡ some e

@@ -1,8 +1,8 @@
 -- The front of a text that is composed as it is typed.
 use Prim.Native.Nat.{ℕ, zero, suc, ◌+◌, ◌-◌, ◌≤◌, ◌<◌}
 use mathlib.Core.Path.{◌≡◌, refl, sym, ap, ◌∙◌}
-use mathlib.Core.Bool.{Bool, true, false, not, ◌&&◌, false≢true, and-eq-true_iff, and_assoc, and_true}
-use mathlib.Core.List.{[], ◌∷◌, ◌++◌, append_assoc, append_nil}
+use mathlib.Core.Bool.{Bool, true, false, not, ◌&&◌, false≢true, and-eq-true_iff, and_assoc, and-true}
+use mathlib.Core.List.{[], ◌∷◌, ◌++◌, append_assoc, append-nil}
 use mathlib.Core.Option.{Option, some, none}
 use native.Mathlib.Nat.{add-zero, zero-add, suc-add}
 use native.Mathlib.Numerals.{add-one}
@@ -86,7 +86,7 @@ module _ (s : Bytes) (i : ℕ) (r : Front s i) where
   pub front_whole : length s ≤ i → OwnFront s i
   front_whole l =
       let e : i ≡ length s = omega (arith, r.most) in
-      record { front = r; whole = eq-eqb i (length s) e ∙ own s (r.is ∙ rw (drop_of_length-le s l, composed_nothing, take_all i s l) (ap some (append_nil s))) }
+      record { front = r; whole = eq-eqb i (length s) e ∙ own s (r.is ∙ rw (drop_of_length-le s l, composed_nothing, take_all i s l) (ap some (append-nil s))) }
 
   short_of : i < length s → (composed s ≡ some s → ⊥) → OwnFront s i
   short_of l n = record { front = r; whole = ne_eqb i (length s) (λ e. omega arith) ∙ not_own s n }
@@ -154,4 +154,4 @@ module _ (s : Bytes) (at : ℕ) where
 
   pub block_all : (ok : Bool) (i : ℕ) → BlockTo ok i → 16 ≤ i → ok ≡ all is_plain (part s at 16)
   unfolding all
-  block_all ok i r l = let n : 16 - i ≡ 0 = omega arith in sym (and_true ok) ∙ ap (λ (x : Bool). ok && x) (let q : true ≡ all is_plain (part s (at + i) (16 - i)) = rw n in q) ∙ r
+  block_all ok i r l = let n : 16 - i ≡ 0 = omega arith in sym (and-true ok) ∙ ap (λ (x : Bool). ok && x) (let q : true ≡ all is_plain (part s (at + i) (16 - i)) = rw n in q) ∙ r

@@ -1,7 +1,7 @@
 -- One letter of a name after the other: composing bytes goes by the letter at their front.
 use Prim.Native.Nat.{ℕ, zero, suc, ◌+◌, ◌*◌, ◌/◌, ◌%◌, ◌≤◌}
 use mathlib.Core.Path.{◌≡◌, refl, sym, ap, ◌∙◌}
-use mathlib.Core.Bool.{Bool, true, false, cond, ◌&&◌, ◌||◌, false≢true, and-eq-true_iff, or_true}
+use mathlib.Core.Bool.{Bool, true, false, cond, ◌&&◌, ◌||◌, false≢true, and-eq-true_iff, or-true}
 use mathlib.Core.List.{List, [], ◌∷◌, ◌++◌}
 use mathlib.Core.Option.{Option, some, none}
 use native.Mathlib.Omega.{arith}
@@ -179,7 +179,7 @@ unfolding is_pair is_wide
 mark_code c m =
     let r = mark_range (640 + c) m in
     let e : pair_code 204 c ≡ 640 + c = omega (arith, code_parts 204 c) in
-    let p : is_pair 204 c ≡ true = rw (true_within 128 191 c (omega arith) (omega arith), e, m, or_true (within 160 383 (640 + c))) in
+    let p : is_pair 204 c ≡ true = rw (true_within 128 191 c (omega arith) (omega arith), e, m, or-true (within 160 383 (640 + c))) in
     pair_is 204 c p ∙ e
 
 code_mark : (c : ℕ) → is_mark (pair_of 204 c) ≡ true → pair_of 204 c ≡ 640 + c

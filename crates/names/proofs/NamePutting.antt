@@ -2,7 +2,7 @@
 use Prim.Native.Nat.{ℕ, ◌+◌, ◌≤◌, ◌<◌}
 use mathlib.Core.Path.{◌≡◌, refl, sym, ap, ◌∙◌}
 use mathlib.Core.Bool.{Bool, true, false, cond, not, false≢true}
-use mathlib.Core.List.{[], ◌∷◌, ◌++◌, append_nil, append_assoc}
+use mathlib.Core.List.{[], ◌∷◌, ◌++◌, append-nil, append_assoc}
 use mathlib.Core.Logic.{◌⊎◌, inl, inr}
 use mathlib.Core.Option.{Option, some, none}
 use native.Mathlib.Nat.{add-zero, zero-add}
@@ -75,7 +75,7 @@ module _ (T : Type 0) (s k : Bytes) (at front : ℕ) where
         long = add-zero front;
         shorter = omega arith;
         put = sym (written_none k (at + front));
-        is = λ t. rw (append_nil (take front s)) r.is;
+        is = λ t. rw (append-nil (take front s)) r.is;
       }
 
   pub put_next : (h : Bytes) (n i : ℕ) → Putting T s k at front h n i → (x : Letter) → LetterTold T x (letter_at (drop i s)) → (x.width ≡ 0 → ⊥) → (g : Bytes) (z : ℕ) → g ≡ written h (at + n) (encode x.code) → z ≡ length (encode x.code)
@@ -137,7 +137,7 @@ module _ (T : Type 0) (s b : Bytes) (at front : ℕ) (o : Front s front) (v k : 
         }
       where
         form : composed s ≡ some text
-        form = let m : composed (drop i s) ≡ some [] = rw (drop_of_length-le s l) composed_nothing in r.is t ∙ ap (prepend text) m ∙ ap some (append_nil text)
+        form = let m : composed (drop i s) ≡ some [] = rw (drop_of_length-le s l) composed_nothing in r.is t ∙ ap (prepend text) m ∙ ap some (append-nil text)
 
 -- A name judged and composed.
 module _ (s b : Bytes) (at : ℕ) (p : Bool) (f : p ≡ has_name_shape s) where

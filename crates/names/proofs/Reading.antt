@@ -1,7 +1,7 @@
 -- Laws of UTF-8: what is written reads back, and what reads is what is written of it.
 use Prim.Native.Nat.{ℕ, ◌+◌, ◌*◌, ◌/◌, ◌%◌, ◌≤◌}
 use mathlib.Core.Path.{◌≡◌, refl, sym, ap, ◌∙◌}
-use mathlib.Core.Bool.{Bool, true, false, cond, ◌&&◌, ◌||◌, and-eq-true_iff, and-false, or_true, or_false}
+use mathlib.Core.Bool.{Bool, true, false, cond, ◌&&◌, ◌||◌, and-eq-true_iff, and-false, or-true, or-false}
 use mathlib.Core.List.{List, [], ◌∷◌, ◌++◌}
 use mathlib.Core.Option.{Option, some, none}
 use native.Mathlib.Omega.{arith}
@@ -49,7 +49,7 @@ wide_letter_lem c h k = rw (true_within 160 383 c h k)
 
 pub letter_range : (c : ℕ) → is_wide c ≡ true → is_mark c ≡ false → (160 ≤ c) × (c ≤ 383)
 unfolding is_wide
-letter_range c w m = within_true 160 383 c (sym (or_false (within 160 383 c)) ∙ (rw m at w))
+letter_range c w m = within_true 160 383 c (sym (or-false (within 160 383 c)) ∙ (rw m at w))
 
 pub not_plain : (c : ℕ) → 127 ≤ c → is_plain c ≡ false
 unfolding is_plain
@@ -172,7 +172,7 @@ pub reads_allowed : {s : Bytes} {l : List ℕ} → Reading s l → all is_allowe
 unfolding all
 reads_allowed end = refl
 reads_allowed (plain a h r) = rw h (reads_allowed r)
-reads_allowed (pair a b h r) = rw ((paired a b h).wide, or_true (is_plain (pair_code a b))) (reads_allowed r)
+reads_allowed (pair a b h r) = rw ((paired a b h).wide, or-true (is_plain (pair_code a b))) (reads_allowed r)
 
 pub reads_written : {s : Bytes} {l : List ℕ} → Reading s l → write l ≡ s
 unfolding write

@@ -1,7 +1,7 @@
 -- What each method makes of the marks.
 use Prim.Native.Nat.{ℕ, ◌*◌, ◌/◌, ◌%◌, ◌^◌, ◌≤◌, ◌<◌}
 use mathlib.Core.Path.{◌≡◌, refl, sym, ap, ap₂, ◌∙◌}
-use mathlib.Core.Bool.{Bool, true, false, cond, ◌&&◌, ◌||◌, or_false, or_true, true≢false, and-eq-true_iff}
+use mathlib.Core.Bool.{Bool, true, false, cond, ◌&&◌, ◌||◌, or-false, or-true, true≢false, and-eq-true_iff}
 use mathlib.Core.List.{List, [], ◌∷◌}
 use native.Mathlib.Nat.{one-mul}
 use native.Mathlib.Omega.{arith}
@@ -88,8 +88,8 @@ module _ (a : List ℕ) (page : ℕ) where
       go : (t : Bool) → eqb i page ≡ t → (get_or (marks_from a) i false || t) ≡ get_or (set (marks_from a) page true) i false
       go true e =
           let q = eqb-true i page e in
-          or_true (get_or (marks_from a) i false) ∙ sym (rw q (get_or-set_same (marks_from a) page true false (omega (arith, length_tabulate 256 (mark_in a)))))
-      go false e = or_false (get_or (marks_from a) i false) ∙ sym (get_or-set_other (marks_from a) page i true false (eqb-false i page e))
+          or-true (get_or (marks_from a) i false) ∙ sym (rw q (get_or-set_same (marks_from a) page true false (omega (arith, length_tabulate 256 (mark_in a)))))
+      go false e = or-false (get_or (marks_from a) i false) ∙ sym (get_or-set_other (marks_from a) page i true false (eqb-false i page e))
 
   with_bit : marks_from (bit_or (get_or a 0 0) (bit_in 0) ∷ bit_or (get_or a 1 0) (bit_in 1) ∷ bit_or (get_or a 2 0) (bit_in 2) ∷ bit_or (get_or a 3 0) (bit_in 3) ∷ []) ≡ set (marks_from a) page true
   unfolding mark_in

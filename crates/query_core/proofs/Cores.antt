@@ -2,7 +2,7 @@
 use Prim.Native.Nat.{ℕ, zero, suc}
 use mathlib.Core.Path.{◌≡◌, refl, sym, ap, subst, ◌∙◌}
 use mathlib.Core.Bool.{true, ◌&&◌}
-use mathlib.Core.List.{List, [], ◌∷◌, ◌++◌, append_assoc, append_nil}
+use mathlib.Core.List.{List, [], ◌∷◌, ◌++◌, append_assoc, append-nil}
 use mathlib.Core.Option.{some}
 use native.Mathlib.Omega.{arith}
 use lib.Dec.{eqb, leb, ltb}
@@ -109,7 +109,7 @@ stepped_codes (Node.link x c r) st = refl
 
 runs_codes : (l : List Node) (st : List Core) → OnSome (Codes (codes st ++ l)) (runs l st)
 unfolding runs
-runs_codes [] st = sym (append_nil (codes st))
+runs_codes [] st = sym (append-nil (codes st))
 runs_codes (m ∷ l) st =
     on_bind (Codes (codes st ++ (m ∷ []))) (Codes (codes st ++ (m ∷ l))) (stepped m st) (runs l) (stepped_codes m st)
     (λ t e. on_weaker (Codes (codes t ++ l)) (Codes (codes st ++ (m ∷ l))) (runs l t) (runs_codes l t) (λ u f. f ∙ ap (λ (r : List Node). r ++ l) e ∙ append_snoc (codes st) m l))

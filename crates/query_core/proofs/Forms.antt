@@ -7,7 +7,7 @@ use mathlib.Core.Option.{some}
 use native.Mathlib.Nat.{add-zero, mod-eq_of_lt}
 use native.Mathlib.Omega.{arith}
 use lib.ListN.{length, get_or, take, drop, length-append}
-use lib.Seq.{split_at, take_suc, take-length, length-take-le}
+use lib.Seq.{split_at, take-suc, take-length, length-take-le}
 use borrow.Author.Tests.{lt-ltb}
 use Rattle.text.specs.Bytes.{Bytes, part, all}
 use Rattle.text.proofs.Laws.{all_at}
@@ -187,7 +187,7 @@ nodes_there h l f g d (suc n) b =
     let parts : l ≡ take n l ++ (x ∷ drop (suc n) l) = split_at l n Node.conjunction b in
     let k : length (take n l) ≡ n = length-take-le n l (omega (arith, b)) in
     let there : node_in h n ≡ some x = ap (node_in h) (sym k) ∙ node_there h (take n l) x (drop (suc n) l) (subst Fits parts f) (subst (Holding h) parts d) (all_at is_node l n Node.conjunction g b) in
-    rw (nodes_there h l f g d n (omega arith), there, take_suc l n Node.conjunction b)
+    rw (nodes_there h l f g d n (omega arith), there, take-suc l n Node.conjunction b)
 
 -- The bytes of nodes hold them, whatever is behind.
 module _ (l : List Node) (f : Fits l) where

@@ -2,7 +2,7 @@
 use Prim.Native.Nat.{ℕ, ◌+◌, ◌-◌, ◌*◌, ◌≤◌, ◌<◌}
 use mathlib.Core.Path.{◌≡◌, refl, sym, ap, ap₂, ◌∙◌}
 use mathlib.Core.Bool.{Bool, true, false, cond, not}
-use mathlib.Core.List.{List, [], ◌∷◌, ◌++◌, append_assoc, append_nil}
+use mathlib.Core.List.{List, [], ◌∷◌, ◌++◌, append_assoc, append-nil}
 use native.Mathlib.Nat.{add-zero}
 use native.Mathlib.Omega.{arith}
 use lib.Dec.{leb}
@@ -61,13 +61,13 @@ length_slots at (x ∷ l) = omega (arith, length-append (slot_bytes (slot_at at 
 module _ (l : List Node) (x : Node) where
   pub strings_more : strings (l ++ (x ∷ [])) ≡ strings l ++ string_of x
   unfolding strings
-  strings_more = strings_append l (x ∷ []) ∙ ap (λ (r : Bytes). strings l ++ r) (append_nil (string_of x))
+  strings_more = strings_append l (x ∷ []) ∙ ap (λ (r : Bytes). strings l ++ r) (append-nil (string_of x))
 
   pub slots_more : slots_from 0 (l ++ (x ∷ [])) ≡ slots_from 0 l ++ slot_bytes (slot_at (length (strings l)) x)
   unfolding slots_from
   slots_more =
       let place : 0 + length (strings l) ≡ length (strings l) = omega arith in
-      slots_append 0 l (x ∷ []) ∙ ap (λ (r : Bytes). slots_from 0 l ++ r) (append_nil (slot_bytes (slot_at (0 + length (strings l)) x)) ∙ ap (λ (n : ℕ). slot_bytes (slot_at n x)) place)
+      slots_append 0 l (x ∷ []) ∙ ap (λ (r : Bytes). slots_from 0 l ++ r) (append-nil (slot_bytes (slot_at (0 + length (strings l)) x)) ∙ ap (λ (n : ℕ). slot_bytes (slot_at n x)) place)
 
 -- Strings written one behind the other.
 pub strings_written : (h : Bytes) (at : ℕ) (a b c h1 h2 h3 : Bytes) → h1 ≡ written h at a → h2 ≡ written h1 (at + length a) b → h3 ≡ written h2 (at + length a + length b) c → h3 ≡ written h at (a ++ b ++ c)
@@ -104,7 +104,7 @@ module _ (s t : Bytes) where
   both r = part_of s r.first ++ part_of t r.second ++ part_of t r.third
 
   alone : (t : Bytes) → t ++ [] ++ [] ≡ t
-  alone t = append_nil (t ++ []) ∙ append_nil t
+  alone t = append-nil (t ++ []) ∙ append-nil t
 
   strings_joined : (c : Connective) (y : Selector) → both (joined_strings c y) ≡ string_of (joined_over s t c y)
   unfolding string_of
@@ -114,9 +114,9 @@ module _ (s t : Bytes) where
   strings_joined Connective.Select (Selector.Namespace p) = alone (part_of s p)
   strings_joined Connective.Select (Selector.Existence p) = alone (part_of s p)
   strings_joined Connective.Select (Selector.Subquery p) = alone (part_of s p)
-  strings_joined Connective.Select (Selector.Article c p) = append_nil (part_of t p)
-  strings_joined Connective.Select (Selector.Value p c (Constant.Scalar k n)) = alone (part_of s p) ∙ sym (append_nil (part_of s p))
-  strings_joined Connective.Select (Selector.Value p c (Constant.String q)) = append_nil (part_of s p ++ part_of t q)
+  strings_joined Connective.Select (Selector.Article c p) = append-nil (part_of t p)
+  strings_joined Connective.Select (Selector.Value p c (Constant.Scalar k n)) = alone (part_of s p) ∙ sym (append-nil (part_of s p))
+  strings_joined Connective.Select (Selector.Value p c (Constant.String q)) = append-nil (part_of s p ++ part_of t q)
   strings_joined Connective.Select (Selector.Link p c r) = link_strings s p t r
 
   -- the strings lie at the place, one behind the other

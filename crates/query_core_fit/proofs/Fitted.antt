@@ -2,7 +2,7 @@
 use Prim.Native.Nat.{ℕ, ◌+◌, ◌≤◌, ◌<◌, min}
 use mathlib.Core.Path.{◌≡◌, refl, sym, ap, subst, ◌∙◌}
 use mathlib.Core.Bool.{Bool, true, false, cond}
-use mathlib.Core.List.{List, [], ◌++◌, append_nil}
+use mathlib.Core.List.{List, [], ◌++◌, append-nil}
 use mathlib.Core.Option.{Option, some, none}
 use native.Mathlib.Omega.{arith}
 use borrow.Author.Tests.{lt-ltb, le-ltb}
@@ -71,7 +71,7 @@ module _ (t g : Bytes) (n w : ℕ) (u : Bool) (there : w ≡ two_at t 0) (wide :
     emitted : (q : Query) → nodes_in t ≡ tree q → Emits (elaborate q Γ) h start v h₁
     unfolding nodes_in
     emitted q e =
-        put.is [] [] q (e ∙ sym (append_nil (tree q))) (counted ∙ sym (length_tabulate (node_count t) (node_in t)) ∙ ap length e ∙ (let z : length (tree q) ≡ 0 + length (tree q) = omega arith in z))
+        put.is [] [] q (e ∙ sym (append-nil (tree q))) (counted ∙ sym (length_tabulate (node_count t) (node_in t)) ∙ ap length e ∙ (let z : length (tree q) ≡ 0 + length (tree q) = omega arith in z))
 
     pub fit_unfit : v ≡ Emitted.Unfit → FitsTree t (kinds_of (register_in g)) h Fit.Unfit h₁
     unfolding Emits

@@ -1,7 +1,7 @@
 -- 17: a property of the tree that is not declared.
 use Prim.Native.Nat.{ℕ, zero, suc, ◌+◌, ◌≤◌, ◌<◌}
 use mathlib.Core.Path.{◌≡◌, refl, sym, ap, ◌∙◌}
-use mathlib.Core.Bool.{Bool, true, false, ◌||◌, or_false}
+use mathlib.Core.Bool.{Bool, true, false, ◌||◌, or-false}
 use mathlib.Core.List.{List, [], ◌∷◌, ◌++◌}
 use mathlib.Core.Logic.{⊎_elim}
 use mathlib.Core.Option.{Option, some, none}
@@ -84,7 +84,7 @@ pub ruleset naming = (two_names, subquery_names, leaf_names, property_names, lin
 -- The first nodes of a tree, one after the other.
 any_one : {A : Type 0} (p : A → Bool) (x : A) → any p (x ∷ []) ≡ p x
 unfolding any
-any_one p x = or_false (p x)
+any_one p x = or-false (p x)
 
 module _ (t g : Bytes) where
   abbrev undeclared_to : ℕ → Bool
@@ -138,7 +138,7 @@ module _ (Γ : Typing) where
 
   two17 : (l m : List Node) (y : Node) → node_undeclared Γ y ≡ false → some17 (l ++ m ++ (y ∷ [])) ≡ some17 l || some17 m
   two17 l m y e =
-      any_append (node_undeclared Γ) (l ++ m) (y ∷ []) ∙ rw (any_append (node_undeclared Γ) l m, any_one (node_undeclared Γ) y, e) (or_false _)
+      any_append (node_undeclared Γ) (l ++ m) (y ∷ []) ∙ rw (any_append (node_undeclared Γ) l m, any_one (node_undeclared Γ) y, e) (or-false _)
 
   categories17 : (c : Categories) → some17 (tree_categories c) ≡ false
   unfolding tree_categories any
@@ -163,7 +163,7 @@ module _ (Γ : Typing) where
 
   chain17 : (p : Chain) (l : List Node) → some17 (tree_chain p l) ≡ names17 (names_of p) || some17 l
   unfolding tree_chain names_of any
-  chain17 (single x) l = behind17 l (Node.property x) x refl ∙ ap (λ b. b || some17 l) (sym (or_false (is_undeclared Γ x)))
+  chain17 (single x) l = behind17 l (Node.property x) x refl ∙ ap (λ b. b || some17 l) (sym (or-false (is_undeclared Γ x)))
   chain17 (chain x p) l = behind17 (tree_chain p l) (Node.link x) x refl ∙ rw (chain17 p l) (sym (assoc (is_undeclared Γ x) (names17 (names_of p)) (some17 l)))
     where
       assoc : (a b c : Bool) → (a || b) || c ≡ a || (b || c)
@@ -176,7 +176,7 @@ module _ (Γ : Typing) where
     in17 : (a : Alternatives) → some17 (tree_in a) ≡ names17 (properties_in a)
     in17 Alternatives.existence = refl
     in17 (Alternatives.value c v) = refl
-    in17 (Alternatives.subquery q) = any_append (node_undeclared Γ) (tree q) (Node.subquery ∷ []) ∙ rw (query17 q) (or_false _)
+    in17 (Alternatives.subquery q) = any_append (node_undeclared Γ) (tree q) (Node.subquery ∷ []) ∙ rw (query17 q) (or-false _)
     in17 (Alternatives.either a b) = two17 (tree_in a) (tree_in b) (Node.bar (length (tree_in b))) refl ∙ rw (in17 a, in17 b) (sym (any_append (is_undeclared Γ) (properties_in a) (properties_in b)))
 
     pub query17 : (q : Query) → some17 (tree q) ≡ names17 (properties_of q)

@@ -1,8 +1,8 @@
 -- Laws of heads, pieces and brackets without `::`, and the ways through their functions.
 use Prim.Native.Nat.{ℕ, ◌+◌, ◌-◌, ◌≤◌, ◌<◌, max}
 use mathlib.Core.Path.{◌≡◌, refl, sym, ◌∙◌}
-use mathlib.Core.Bool.{Bool, true, false, cond, not, ◌&&◌, ◌||◌, or_false}
-use mathlib.Core.List.{List, [], ◌∷◌, ◌++◌, append_assoc, append_nil}
+use mathlib.Core.Bool.{Bool, true, false, cond, not, ◌&&◌, ◌||◌, or-false}
+use mathlib.Core.List.{List, [], ◌∷◌, ◌++◌, append_assoc, append-nil}
 use mathlib.Core.Option.{Option, some, none}
 use mathlib.Core.Logic.{⊎_elim}
 use native.Mathlib.Omega.{arith}
@@ -61,7 +61,7 @@ chain_single n x = same_effect refl (deep_last n) refl refl
 chain_more : (n : ℕ) (x : Bytes) (p : Chain) → chain_effect n (chain x p) ≡ chain_effect (deeper n) p then noded (Node.link x) false (not (is_property_name x)) false
 unfolding chain_effect chain_nodes names_in breaks_names noded ◌then◌
 chain_more n x p =
-    same_effect refl (one_deeper n (names_in p) ∙ sym (or_false _)) (or_comm (not (is_property_name x)) (breaks_names p)) refl
+    same_effect refl (one_deeper n (names_in p) ∙ sym (or-false _)) (or_comm (not (is_property_name x)) (breaks_names p)) refl
 
 module _ (s h : Bytes) (at len dot names : ℕ) (t : Bytes) (n r : Seen) (x : Span) (y : Bytes) (b : Bool) (p : h ≡ part s at len) (q : dot ≡ 0 + span (is_other 46) h) (e : y ≡ part_of s x) (f : b ≡ is_property_name y) where
   pub chain_last : (t' : Bytes) (n' : Seen) → length h ≤ dot → Trimmed s at len x → After t n (one (Node.property (part_of s x))) t' n' → r ≡ flagged n' (leb 8 names) (not b) false → After t n (chain_effect names (head_of s at len)) t' r
@@ -147,9 +147,9 @@ broken_number s i b (Read.Reference c x) n h e = rw e (unbroken_reference s i b 
 broken_number s i b Read.Broken n h e = rw e (broken_piece s i b Read.Broken h refl)
 
 -- The number of a piece that is neither.
-pub number_left : (p : Read) → OneOf (1 ∷ 2 ∷ []) (tag_of the_type p) → OneOf (0 ∷ 2 ∷ []) (tag_of the_type p) → 15 ≡ number_of_read p
-number_left (Read.Namespace p) h k = absurd (⊎_elim (λ (e : ◌≡◌ {A = ℕ} 0 1). omega arith) (λ (e : ◌≡◌ {A = ℕ} 0 2). omega arith) h)
-number_left (Read.Reference c p) h k = absurd (⊎_elim (λ (e : ◌≡◌ {A = ℕ} 1 0). omega arith) (λ (e : ◌≡◌ {A = ℕ} 1 2). omega arith) k)
+pub number_left : (p : Read) → ((x : Span) → p ≡ Read.Namespace x → ⊥) → ((c : SurfaceComparator) (x : Span) → p ≡ Read.Reference c x → ⊥) → 15 ≡ number_of_read p
+number_left (Read.Namespace x) h k = absurd (h x refl)
+number_left (Read.Reference c x) h k = absurd (k c x refl)
 number_left Read.Broken h k = refl
 
 pub number_namespace : (p : Read) (x : Span) → p ≡ Read.Namespace x → 0 ≡ number_of_read p
@@ -229,12 +229,12 @@ pub ruleset pieces = (pieces_end, pieces_not)
 -- What the pieces behind a first one add.
 pub categories_tree : (c : Categories) (l : List Piece) → tree_categories (categories_from c l) ≡ tree_categories c ++ (rest_effect true l).nodes
 unfolding tree_categories categories_from rest_effect piece_effect noded one met ◌then◌
-categories_tree c [] = sym (append_nil (tree_categories c))
+categories_tree c [] = sym (append-nil (tree_categories c))
 categories_tree c (p ∷ l) = categories_tree (Categories.either c (Categories.one p.text)) l ∙ simp append_assoc
 
 pub identifiers_tree : (i : Identifiers) (l : List Piece) → tree_identifiers (identifiers_from i l) ≡ tree_identifiers i ++ (rest_effect false l).nodes
 unfolding tree_identifiers identifiers_from rest_effect piece_effect noded one met ◌then◌
-identifiers_tree i [] = sym (append_nil (tree_identifiers i))
+identifiers_tree i [] = sym (append-nil (tree_identifiers i))
 identifiers_tree i (p ∷ l) = identifiers_tree (Identifiers.either i (identifier_of p)) l ∙ rw (one_node p) (simp append_assoc)
 
 rest_deep : (b : Bool) (l : List Piece) → (rest_effect b l).deep ≡ false
@@ -252,12 +252,12 @@ rest_value false (p ∷ l) = rest_value false l
 rest_categories : (l : List Piece) → any breaks_category l ≡ (rest_effect true l).name
 unfolding any rest_effect piece_effect noded one met ◌then◌
 rest_categories [] = refl
-rest_categories (p ∷ l) = rw (rest_categories l, or_false)
+rest_categories (p ∷ l) = rw (rest_categories l, or-false)
 
 rest_references : (l : List Piece) → any breaks_reference l ≡ (rest_effect false l).name
 unfolding any rest_effect piece_effect noded one met ◌then◌
 rest_references [] = refl
-rest_references (p ∷ l) = rw (rest_references l, or_false)
+rest_references (p ∷ l) = rw (rest_references l, or-false)
 
 -- A bracket without `::`.
 plain_tail : (s : Bytes) → plain_body s ≡ (tail_pieces (piece_at s).1 >>= λ l. some (RawQuery.pieces (piece_at s).0 l.0, l.1))
@@ -269,7 +269,7 @@ plain_tail s = rw (pieces_tail s) (go (tail_pieces (piece_at s).1))
     go (some x) = refl
 
 shallow : (d : ℕ) (b : Bool) (l : List Piece) → ltb 8 (max (d + 0) 0) ≡ (ltb 8 d || false || (rest_effect b l).deep)
-shallow d b l = rw (rest_deep b l, or_false (ltb 8 d || false), or_false (ltb 8 d)) (same_test 8 (max (d + 0) 0) 8 d (λ h. omega arith) (λ h. omega arith))
+shallow d b l = rw (rest_deep b l, or-false (ltb 8 d || false), or-false (ltb 8 d)) (same_test 8 (max (d + 0) 0) 8 d (λ h. omega arith) (λ h. omega arith))
 
 module _ (d : ℕ) (p : Piece) (l : List Piece) where
   categories_effect : is_category p ≡ true → effect d (RawQuery.pieces p l) ≡ met (ltb 8 d) false false then noded (Node.category (article_of (reference p.text))) false (not (true && is_name (article_of (reference p.text)))) false then rest_effect true l

@@ -1,7 +1,7 @@
 -- Laws of effects one after the other.
 use Prim.Native.Nat.{ℕ, ◌-◌}
 use mathlib.Core.Path.{◌≡◌, refl, ap, sym, subst, ◌∙◌}
-use mathlib.Core.Bool.{Bool, ◌||◌, false, or_assoc, or_false}
+use mathlib.Core.Bool.{Bool, ◌||◌, false, or_assoc, or-false}
 use mathlib.Core.List.{List, [], ◌∷◌, map-append}
 use lib.ListN.{length}
 use Rattle.text.specs.Bytes.{Bytes}
@@ -23,7 +23,7 @@ after_met t n d m v = record { adds = adds_none t n.place; deep = refl; name = r
 
 pub nothing_met : (t : Bytes) (n : Seen) → After t n (met false false false) t n
 unfolding met
-nothing_met t n = record { adds = adds_none t n.place; deep = sym (or_false n.deep); name = sym (or_false n.name); value = sym (or_false n.value) }
+nothing_met t n = record { adds = adds_none t n.place; deep = sym (or-false n.deep); name = sym (or-false n.name); value = sym (or-false n.value) }
 
 -- A condition that was met before, by the first effect or by the second.
 both : {z y : Bool} (x p q : Bool) → y ≡ (x || p) → z ≡ (y || q) → z ≡ (x || (p || q))
@@ -73,7 +73,7 @@ after_noded t t' n n' r x d m v a e = rw e (after_then t t' t' n n' (flagged n' 
 -- A node that is put.
 pub added : (t t' : Bytes) (n : Seen) (p : Place) (x : Node) → Adds (composed_node x ∷ []) t n.place t' p → After t n (one x) t' (record { place = p; deep = n.deep; name = n.name; value = n.value })
 unfolding one
-added t t' n p x a = record { adds = a; deep = sym (or_false n.deep); name = sym (or_false n.name); value = sym (or_false n.value) }
+added t t' n p x a = record { adds = a; deep = sym (or-false n.deep); name = sym (or-false n.name); value = sym (or-false n.value) }
 
 join_is : (s : Bytes) (kind : Connective) (m : ℕ) → node_by s (join_node kind m) ≡ connective kind m
 join_is s Connective.And m = refl

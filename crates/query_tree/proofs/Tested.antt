@@ -2,12 +2,12 @@
 use Prim.Native.Nat.{ℕ, zero, suc, ◌+◌, ◌*◌, ◌-◌, ◌≤◌, ◌<◌}
 use mathlib.Core.Path.{◌≡◌, refl, sym, ap, ap₂, subst, ◌∙◌}
 use mathlib.Core.Bool.{Bool, true, false, cond, ◌&&◌, ◌||◌}
-use mathlib.Core.List.{List, [], ◌∷◌, ◌++◌, append_nil}
+use mathlib.Core.List.{List, [], ◌∷◌, ◌++◌, append-nil}
 use native.Mathlib.Nat.{add-zero}
 use native.Mathlib.Omega.{arith}
 use lib.Dec.{eqb, leb}
 use lib.ListN.{length, get_or, take, drop, length-append, take-append-drop}
-use lib.Seq.{drop-cons, take_suc, length-take-le, take_all}
+use lib.Seq.{drop-cons, take-suc, length-take-le, take_all}
 use borrow.Author.Tests.{leb-true, le-leb, eq-eqb}
 use Rattle.text.specs.Bytes.{Bytes, part}
 use Rattle.text.specs.Table.{tabulate}
@@ -61,8 +61,8 @@ module _ (h : Bytes) (long : length h ≡ tree_size) (small : (j : ℕ) → get_
       let n = (row_in h i).first + (row_in h i).second in
       let place : 0 + length (strings l) ≡ at = omega (arith, ap length f.texts, length_part (strings_in h) 0 at (omega (arith, f.most, texts_long_here))) in
       record {
-        rows = rows_append 0 l (node_in h i ∷ []) ∙ both f.rows (append_nil (row_bytes (row_at (0 + length (strings l)) (node_in h i))) ∙ ap (λ (k : ℕ). row_bytes (row_at k (node_in h i))) place ∙ ap row_bytes d.row ∙ row_here h i (omega (arith, b, long)) small) ∙ sym (part_add h 2 (6 * i) 6) ∙ ap (part h 2) (let z : 6 * i + 6 ≡ 6 * suc i = omega arith in z);
-        texts = strings_append l (node_in h i ∷ []) ∙ both f.texts (append_nil (string_of (node_in h i)) ∙ d.string ∙ ap (λ (k : ℕ). part (strings_in h) k n) (let z : at ≡ 0 + at = omega arith in z)) ∙ sym (part_add (strings_in h) 0 at n) ∙ ap (part (strings_in h) 0) (let z : at + n ≡ at + (row_in h i).first + (row_in h i).second = omega arith in z);
+        rows = rows_append 0 l (node_in h i ∷ []) ∙ both f.rows (append-nil (row_bytes (row_at (0 + length (strings l)) (node_in h i))) ∙ ap (λ (k : ℕ). row_bytes (row_at k (node_in h i))) place ∙ ap row_bytes d.row ∙ row_here h i (omega (arith, b, long)) small) ∙ sym (part_add h 2 (6 * i) 6) ∙ ap (part h 2) (let z : 6 * i + 6 ≡ 6 * suc i = omega arith in z);
+        texts = strings_append l (node_in h i ∷ []) ∙ both f.texts (append-nil (string_of (node_in h i)) ∙ d.string ∙ ap (λ (k : ℕ). part (strings_in h) k n) (let z : at ≡ 0 + at = omega arith in z)) ∙ sym (part_add (strings_in h) 0 at n) ∙ ap (part (strings_in h) 0) (let z : at + n ≡ at + (row_in h i).first + (row_in h i).second = omega arith in z);
         most = d.room;
       }
 
@@ -130,7 +130,7 @@ module _ (h : Bytes) (l : List Node) (f : Fits l) (d : Holds h l) where
       let g = subst Fits parts f in
       let row : row_in h i ≡ row_at (string_at h i) x = ap (row_in h) (sym k) ∙ row_there h (take i l) x (drop (suc i) l) g (subst (Holds h) parts d) ∙ ap (λ (n : ℕ). row_at n x) (sym e) in
       let long = texts_long h (take i l) x (drop (suc i) l) g (subst (Holds h) parts d) in
-      let next : length (strings (take (suc i) l)) ≡ length (strings (take i l)) + length (string_of x) = ap (λ (r : List Node). length (strings r)) (take_suc l i Node.existence b) ∙ ap length (strings_append (take i l) (x ∷ [])) ∙ omega (arith, length-append (strings (take i l)) (string_of x ++ []), length-append (string_of x) []) in
+      let next : length (strings (take (suc i) l)) ≡ length (strings (take i l)) + length (string_of x) = ap (λ (r : List Node). length (strings r)) (take-suc l i Node.existence b) ∙ ap length (strings_append (take i l) (x ∷ [])) ∙ omega (arith, length-append (strings (take i l)) (string_of x ++ []), length-append (string_of x) []) in
       let room = g.short in
       (rw row (omega (arith, e, next, row_lengths (string_at h i) x)), both_true t (rw row (row_fits_lem (string_at h i) x (omega (arith, e, long, room)))))
 

@@ -2,7 +2,7 @@
 use Prim.Native.Nat.{ℕ, suc, ◌+◌, ◌*◌, ◌-◌, ◌/◌, ◌%◌, ◌≤◌, ◌<◌}
 use mathlib.Core.Path.{◌≡◌, refl, sym, ap, ap₂, subst, ◌∙◌}
 use mathlib.Core.Bool.{Bool, true, false, not, ◌&&◌, false≢true}
-use mathlib.Core.List.{List, [], ◌∷◌, ◌++◌, append_assoc, append_nil}
+use mathlib.Core.List.{List, [], ◌∷◌, ◌++◌, append_assoc, append-nil}
 use native.Mathlib.Omega.{arith}
 use native.Mathlib.Nat.{zero-add}
 use lib.Dec.{ltb, leb, eqb}
@@ -119,7 +119,7 @@ entry_tells s end (TreeNode.And n) = both_none _ _ _ _ (record { row = refl; sho
 entry_tells s end (TreeNode.Or n) = both_none _ _ _ _ (record { row = refl; short = refl; string = refl })
 entry_tells s end (TreeNode.Bar n) = both_none _ _ _ _ (record { row = refl; short = refl; string = refl })
 entry_tells s end (TreeNode.Category p) = first_none _ _ _ _ _ (record { row = refl; short = refl; string = refl })
-entry_tells s end (TreeNode.Namespace p) = second_none _ _ _ _ _ (record { row = refl; short = refl; string = append_nil _ })
+entry_tells s end (TreeNode.Namespace p) = second_none _ _ _ _ _ (record { row = refl; short = refl; string = append-nil _ })
 entry_tells s end (TreeNode.Bare c p) = first_none _ _ _ _ _ (record { row = refl; short = refl; string = refl })
 entry_tells s end (TreeNode.Qualified c p q) = record { row = refl; short = refl; string = refl }
 entry_tells s end TreeNode.Existence = both_none _ _ _ _ (record { row = refl; short = refl; string = refl })
@@ -135,7 +135,7 @@ module _ (l : List Node) (x : Node) where
 
   strings_more : strings (l ++ (x ∷ [])) ≡ strings l ++ string_of x
   unfolding strings
-  strings_more = strings_append l (x ∷ []) ∙ ap (λ (r : Bytes). strings l ++ r) (append_nil (string_of x))
+  strings_more = strings_append l (x ∷ []) ∙ ap (λ (r : Bytes). strings l ++ r) (append-nil (string_of x))
 
   rows_more : rows_from 0 (l ++ (x ∷ [])) ≡ rows_from 0 l ++ row_bytes (row_at (length (strings l)) x)
   unfolding rows_from row_bytes
@@ -286,7 +286,7 @@ module _ (t t₁ t₂ : Bytes) (p p₁ p₂ : Place) (k m : List Node) where
       }
 
 pub adds_none : (t : Bytes) (p : Place) → Adds [] t p t p
-adds_none t p = record { long = refl; laid = λ l f d. subst (Laid t p) (sym (append_nil l)) d }
+adds_none t p = record { long = refl; laid = λ l f d. subst (Laid t p) (sym (append-nil l)) d }
 
 -- No node, and all.
 pub laid_none : Laid (zeros tree_size) (record { count = 0; end = 0 }) []

@@ -3,7 +3,7 @@ use mathlib.Core.Path.{◌≡◌, refl, sym, ap, ap₂, ◌∙◌}
 use mathlib.Core.Bool.{Bool, true, false, cond, not}
 use mathlib.Core.Logic.{◌⊎◌, inl, inr}
 use mathlib.Core.List.Memᴰ
-use mathlib.Core.List.{List, [], ◌∷◌, ◌++◌, map, append_nil, Memᴰ}
+use mathlib.Core.List.{List, [], ◌∷◌, ◌++◌, map, append-nil, Memᴰ}
 use borrow.Author.Tests.{not-true}
 use Rattle.language.proofs.Members.{by_test}
 use Rattle.register_form.specs.Draft.{filtered}
@@ -65,7 +65,7 @@ module _ {A : Type 0} (p : A → Bool) (l : List A) where
   split_passes =
       filtered_append p (filtered p l) (filtered (λ a. not (p a)) l)
       ∙ ap₂ ◌++◌ (filtered_all p (filtered p l) (λ a m. (of_filtered p l m).1)) (filtered_none p (filtered (λ a. not (p a)) l) (λ a m. fails m))
-      ∙ append_nil (filtered p l)
+      ∙ append-nil (filtered p l)
 
   pub split_fails : filtered (λ a. not (p a)) (filtered p l ++ filtered (λ a. not (p a)) l) ≡ filtered (λ a. not (p a)) l
   split_fails =

@@ -2,7 +2,7 @@
 use Prim.Native.Nat.{ℕ, ◌+◌, ◌*◌, ◌≤◌, ◌<◌}
 use mathlib.Core.Path.{◌≡◌, refl, sym, ap, ◌∙◌}
 use mathlib.Core.Bool.{Bool, true, false, ◌&&◌}
-use mathlib.Core.List.{[], ◌∷◌, ◌++◌, append_nil}
+use mathlib.Core.List.{[], ◌∷◌, ◌++◌, append-nil}
 use mathlib.Core.Option.{Option, some, none}
 use native.Mathlib.Omega.{arith}
 use lib.Dec.{ltb}
@@ -47,7 +47,7 @@ module _ (R : Register) (r : is_register R ≡ true) where
 
   dictionary_there : dictionary_in (form_of R) ≡ encode R
   unfolding form_of
-  dictionary_there = rw append_nil at (read_back_lem (encode R) [] (bounded R r))
+  dictionary_there = rw append-nil at (read_back_lem (encode R) [] (bounded R r))
 
   register_there : register_in (form_of R) ≡ R
   unfolding register_in

@@ -1,7 +1,7 @@
 -- The bytes of a dictionary region by region, and that regions that hold it are its bytes.
 use Prim.Native.Nat.{ℕ, suc, ◌+◌, ◌*◌, ◌<◌}
 use mathlib.Core.Path.{◌≡◌, refl, sym, ◌∙◌}
-use mathlib.Core.List.{List, [], ◌∷◌, ◌++◌, map, flat_map, append_nil}
+use mathlib.Core.List.{List, [], ◌∷◌, ◌++◌, map, flat_map, append-nil}
 use native.Mathlib.Omega.{arith}
 use lib.ListN.{length, get_or, drop, length-append, length-drop, length-map}
 use lib.Seq.{take_all}
@@ -62,7 +62,7 @@ regions_of d =
 
 bytes_regions : (d : Dictionary) → bytes_of d ≡ joined (regions_of d)
 unfolding bytes_of flat_map
-bytes_regions d = rw append_nil
+bytes_regions d = rw append-nil
 
 record Sized (d : Dictionary) : Type 0 where
   counts : length (count_bytes d) ≡ 8

@@ -1,7 +1,7 @@
 -- Members of lists, and of sorted lists of byte strings by their numbers.
 use Prim.Native.Nat.{ℕ, zero, suc, ◌<◌}
 use mathlib.Core.Path.{◌≡◌, refl, sym, ap, ◌∙◌, subst}
-use mathlib.Core.Bool.{true, ◌||◌, false≢true, or_true}
+use mathlib.Core.Bool.{true, ◌||◌, false≢true, or-true}
 use mathlib.Core.List.Memᴰ
 use mathlib.Core.List.{List, [], ◌∷◌, flat_map, Memᴰ}
 use mathlib.Core.Logic.{◌⊎◌, inl, inr}
@@ -71,7 +71,7 @@ member_mem z (x ∷ l) h = go (order_of z x) refl h (member_mem z l)
 pub mem_member : {z : Bytes} {l : List Bytes} → Memᴰ z l → member order_of z l ≡ true
 unfolding member
 mem_member (Memᴰ.head {x = x} {xs = l} e) = rw (e, bytes_total.self x)
-mem_member {z} (Memᴰ.tail {x = x} {xs = l} m) = rw (mem_member m) (or_true (is_equal (order_of z x)))
+mem_member {z} (Memᴰ.tail {x = x} {xs = l} m) = rw (mem_member m) (or-true (is_equal (order_of z x)))
 
 -- An ascending list with the members of another is that other, sorted.
 pub sorted_is : (l m : List Bytes) → ascends order_of l ≡ true → ((z : Bytes) → Memᴰ z l → Memᴰ z m) → ((z : Bytes) → Memᴰ z m → Memᴰ z l) → l ≡ sorted order_of m

@@ -3,7 +3,7 @@ use mathlib.Core.Path.{◌≡◌, refl, sym, ap, ap₂, ◌∙◌}
 use mathlib.Core.Bool.{Bool, true, false, cond, not, ◌||◌, true≢false}
 use mathlib.Core.Logic.{◌⊎◌, inl, inr}
 use mathlib.Core.List.Memᴰ
-use mathlib.Core.List.{List, [], ◌∷◌, ◌++◌, map, append_assoc, append_nil, Memᴰ}
+use mathlib.Core.List.{List, [], ◌∷◌, ◌++◌, map, append_assoc, append-nil, Memᴰ}
 use lib.Dec.{eqb}
 use borrow.Author.Tests.{eqb-true, eq-eqb, not-true}
 use Rattle.text.specs.Bytes.{Bytes, same, any}
@@ -87,7 +87,7 @@ module _ {A : Type 0} {alike : A → A → Bool} (s : Likeness alike) where
   -- The elements behind those seen are those only in the rest, each once.
   pub behind_union : (seen l : List A) → once_behind alike seen l ≡ union alike seen (once alike l)
   unfolding once_behind only_in any
-  behind_union seen [] = sym (append_nil seen)
+  behind_union seen [] = sym (append-nil seen)
   behind_union seen (x ∷ l) = go (any (alike x) seen) refl (λ k. behind_union k l)
     where
       go : (c : Bool) → any (alike x) seen ≡ c → ((k : List A) → once_behind alike k l ≡ union alike k (once alike l)) → once_behind alike (cond c seen (seen ++ (x ∷ []))) l ≡ seen ++ only_in alike seen (once_behind alike (x ∷ []) l)

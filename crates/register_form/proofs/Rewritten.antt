@@ -2,7 +2,7 @@
 use Prim.Native.Nat.{ℕ, zero, suc, ◌+◌, ◌-◌, ◌*◌, ◌≤◌, ◌<◌}
 use mathlib.Core.Path.{◌≡◌, refl, ap, ap₂, sym, ◌∙◌}
 use mathlib.Core.Bool.{true}
-use mathlib.Core.List.{List, [], ◌∷◌, ◌++◌, map, append_assoc, append_nil}
+use mathlib.Core.List.{List, [], ◌∷◌, ◌++◌, map, append_assoc, append-nil}
 use native.Mathlib.Nat.{zero-add, add-zero, add_assoc, add-suc}
 use native.Mathlib.Omega.{arith}
 use lib.ListN.{length, get_or, take}
@@ -26,7 +26,7 @@ use Rattle.register_form.proofs.Holding.{Holds, bytes_held}
 -- A table cut in two.
 pub tabulate_add : {A : Type 0} (f : ℕ → A) (n m : ℕ) → tabulate (n + m) f ≡ tabulate n f ++ tabulate m (λ j. f (n + j))
 unfolding tabulate
-tabulate_add f n zero = rw add-zero (sym (append_nil (tabulate n f)))
+tabulate_add f n zero = rw add-zero (sym (append-nil (tabulate n f)))
 tabulate_add f n (suc m) = rw (add-suc n m, tabulate_add f n m) (append_assoc (tabulate n f) (tabulate m (λ j. f (n + j))) (f (n + m) ∷ []))
 
 -- A table of numbers of two bytes.

@@ -2,7 +2,7 @@
 use Prim.Native.Nat.{suc, ◌*◌, ◌<◌}
 use mathlib.Core.Path.{◌≡◌, ap, sym, ◌∙◌}
 use mathlib.Core.Bool.{true}
-use mathlib.Core.List.{[], map, flat_map, append_nil}
+use mathlib.Core.List.{[], map, flat_map, append-nil}
 use native.Mathlib.Omega.{arith}
 use lib.ListN.{length, length-map}
 use Rattle.text.specs.Bytes.{Bytes}
@@ -63,4 +63,4 @@ module _ (h : Bytes) (d : Dictionary) (e : Holds h d) (b : Bounded d) where
       }
 
 pub laid : (d : Dictionary) → Bounded d → is_laid (bytes_of d) ≡ true
-laid d b = facts_laid (bytes_of d) (laid_there (bytes_of d) d (rw append_nil at (holds_bytes d [] b)) b (length_bytes d b))
+laid d b = facts_laid (bytes_of d) (laid_there (bytes_of d) d (rw append-nil at (holds_bytes d [] b)) b (length_bytes d b))

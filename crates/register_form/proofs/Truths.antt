@@ -1,7 +1,7 @@
 -- Truth values that tests come to.
 use Prim.Native.Nat.{ℕ, zero, suc}
 use mathlib.Core.Path.{◌≡◌, refl, sym, ap, ap₂, ◌∙◌}
-use mathlib.Core.Bool.{Bool, true, false, not, ◌&&◌, and-eq-true_iff, or_false, and_assoc}
+use mathlib.Core.Bool.{Bool, true, false, not, ◌&&◌, and-eq-true_iff, or-false, and_assoc}
 use mathlib.Core.List.{List, [], ◌∷◌, ◌++◌, map, Memᴰ}
 use lib.Dec.{eqb}
 use lib.ListN.{get_or}
@@ -68,5 +68,5 @@ module _ {A : Type 0} where
   distinct_apart alike [] m h = refl
   distinct_apart alike (x ∷ l) m h =
       let none : any (alike x) m ≡ false = any_none (alike x) m (λ b n. h x b (Memᴰ.head refl) n) in
-      rw (any_append (alike x) l m, none, or_false (any (alike x) l), distinct_apart alike l m (λ a b i n. h a b (Memᴰ.tail i) n))
+      rw (any_append (alike x) l m, none, or-false (any (alike x) l), distinct_apart alike l m (λ a b i n. h a b (Memᴰ.tail i) n))
       (sym (and_assoc (not (any (alike x) l)) (distinct alike l) (distinct alike m)))

@@ -2,7 +2,7 @@
 use Prim.Native.Nat.{ℕ, zero, suc, ◌+◌, ◌-◌, ◌≤◌, ◌<◌, min}
 use mathlib.Core.Path.{◌≡◌, refl, sym, ap, ap₂, ◌∙◌}
 use mathlib.Core.Bool.{Bool, true, false, cond, ◌||◌}
-use mathlib.Core.List.{List, [], ◌∷◌, ◌++◌, map, flat_map, append_assoc, append_nil, map-append}
+use mathlib.Core.List.{List, [], ◌∷◌, ◌++◌, map, flat_map, append_assoc, append-nil, map-append}
 use native.Mathlib.Nat.{le_refl}
 use native.Mathlib.Numerals.{add-one}
 use native.Mathlib.Decide.{ℕ_discrete}
@@ -137,7 +137,7 @@ module _ (first : Bool) (groups numbers : List ℕ) where
       go true =
           ap (once_behind eqb kept) (map-append (λ q. get_or numbers q 0) (passed first groups l) (f ∷ []))
           ∙ once_append eqb kept (map (λ q. get_or numbers q 0) (passed first groups l)) (get_or numbers f 0 ∷ [])
-      go false = rw append_nil
+      go false = rw append-nil
 
   module _ (uses : List ℕ) (page from : ℕ) (used₀ table₀ : List ℕ) (n : ℕ) where
     pub pass_none : PassKept page first groups numbers uses from from used₀ table₀ n used₀ table₀ n
@@ -204,7 +204,7 @@ module _ (groups numbers uses firsts : List ℕ) where
     unfolding any
     ready_page page before used table count r =
         record {
-          listed = rw append_nil r.listed;
+          listed = rw append-nil r.listed;
           room = r.room;
           marks = λ x b. ne_eqb (get_or used x 0) (page + 1) (λ e. omega (arith, r.most x));
           most = λ x. omega (arith, r.most x);

@@ -1,7 +1,7 @@
 -- Regions written over zeros hold their bytes and zeros behind them, and a dictionary's regions are its bytes.
 use Prim.Native.Nat.{ℕ, ◌+◌, ◌-◌, ◌≤◌}
 use mathlib.Core.Path.{◌≡◌, refl, sym, ap, ◌∙◌}
-use mathlib.Core.List.{List, [], ◌∷◌, ◌++◌, append_assoc, append_nil}
+use mathlib.Core.List.{List, [], ◌∷◌, ◌++◌, append_assoc, append-nil}
 use native.Mathlib.Nat.{add-zero}
 use native.Mathlib.Omega.{arith}
 use lib.ListN.{length, take, drop, length-append, replicate-append-replicate, take-append-drop}
@@ -33,7 +33,7 @@ over_zeros size v s h =
     ∙ ap (λ (r : Bytes). r ++ zeros (size - length v)) (written_over v (zeros (length v)) (length_zeros (length v))))
 
 pub region_filled : (size : ℕ) (v : Bytes) → length v ≤ size → written (zeros size) 0 v ≡ padded size v
-region_filled size v h = rw (append_nil, append_nil) at (over_zeros size v [] h)
+region_filled size v h = rw (append-nil, append-nil) at (over_zeros size v [] h)
 
 -- Regions that have room.
 abbrev pub Roomy : List Region → Type 0

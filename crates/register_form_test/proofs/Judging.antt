@@ -1,7 +1,7 @@
 -- What is judged of a term is what is to be tested of it, where the table of classes is right.
 use Prim.Native.Nat.{ℕ, suc, ◌-◌, ◌*◌, ◌≤◌, ◌<◌}
 use mathlib.Core.Path.{◌≡◌, refl, sym}
-use mathlib.Core.Bool.{Bool, true, false, cond, ◌&&◌, or_false, true≢false}
+use mathlib.Core.Bool.{Bool, true, false, cond, ◌&&◌, or-false, true≢false}
 use mathlib.Core.List.{List, [], ◌∷◌}
 use native.Mathlib.Omega.{arith}
 use lib.Dec.{ltb, leb, eqb}
@@ -61,7 +61,7 @@ module _
         rw (right c k, e, ← text_length_lem h laid c k)
         (record {
           is = go b refl;
-          names = λ g x l. sym (or_false (eqb x c));
+          names = λ g x l. sym (or-false (eqb x c));
           bytes = λ g. f (left_of b (leb n 64) g);
         })
       where

@@ -1,7 +1,7 @@
 -- What is known of bytes that are laid out as those of a dictionary; the tests of texts and properties.
 use Prim.Native.Nat.{ℕ, suc, ◌+◌, ◌-◌, ◌<◌}
 use mathlib.Core.Path.{◌≡◌, refl, ap, ap₂, sym, ◌∙◌}
-use mathlib.Core.Bool.{Bool, true, false, not, ◌&&◌, ◌||◌, or_false}
+use mathlib.Core.Bool.{Bool, true, false, not, ◌&&◌, ◌||◌, or-false}
 use mathlib.Core.List.{List, [], map}
 use native.Mathlib.Omega.{arith}
 use lib.Dec.{ltb, eqb}
@@ -39,7 +39,7 @@ module _ (size : ℕ) (at v : ℕ → ℕ) (some : (i : ℕ) → not (eqb (v i) 
   unfolding is_set
   set_written =
       set_more at v some (replicate size 0) x (rw (length-replicate {A = ℕ} size 0) b) n
-      ∙ rw (get_or-replicate {A = ℕ} size x 0 0 b) (or_false (any (eqb x) (tabulate n at)))
+      ∙ rw (get_or-replicate {A = ℕ} size x 0 0 b) (or-false (any (eqb x) (tabulate n at)))
 
   pub unset_written : eqb (get_or (written at v n (replicate size 0)) x 0) 0 ≡ not (any (eqb x) (tabulate n at))
   unfolding is_set

@@ -1,7 +1,7 @@
 -- The tests of pages and their forms, and the terms and texts that are used.
 use Prim.Native.Nat.{ℕ, zero, suc, ◌+◌, ◌-◌, ◌≤◌, ◌<◌}
 use mathlib.Core.Path.{◌≡◌, refl, ap, ap₂, sym, ◌∙◌}
-use mathlib.Core.Bool.{Bool, true, false, not, ◌&&◌, ◌||◌, or_false}
+use mathlib.Core.Bool.{Bool, true, false, not, ◌&&◌, ◌||◌, or-false}
 use mathlib.Core.List.{List, map, flat_map}
 use native.Mathlib.Omega.{arith}
 use lib.Dec.{ltb, leb, eqb}
@@ -92,7 +92,7 @@ module _ (h : Bytes) (laid : Laid h) where
             let m : get_or (lasts h i) f 0 ≡ i + 1 → ⊥ = λ e. let k : get_or (lasts h i) f 0 ≡ i + 1 = e in omega (arith, lasts_most h f c i) in
             let e : eqb (get_or (last_by h (i + 1) i j (lasts h i)) f 0) (i + 1) ≡ any (eqb f) (tabulate j (form_in h i)) =
             written_holds (λ y. eqb y (i + 1)) (form_in h i) (λ j. i + 1) (λ j. eq-eqb (i + 1) (i + 1) refl) (lasts h i) f (lasts_room h i f c) j
-            ∙ rw (ne_eqb (get_or (lasts h i) f 0) (i + 1) m) (or_false (any (eqb f) (tabulate j (form_in h i)))) in
+            ∙ rw (ne_eqb (get_or (lasts h i) f 0) (i + 1) m) (or-false (any (eqb f) (tabulate j (form_in h i)))) in
             ap not e
 
     behind_by : (g : ℕ → Bytes) (j : ℕ) → ((k : ℕ) → suc k ≡ j → term_at h (form_in h i k) ≡ g k) → behind_at h i j ≡ behind_in g j

@@ -1,7 +1,7 @@
 -- Tests of tables by their places, and tables written entry by entry.
 use Prim.Native.Nat.{ℕ, zero, suc, ◌+◌, ◌-◌, ◌≤◌, ◌<◌}
 use mathlib.Core.Path.{◌≡◌, refl, ap, sym, ◌∙◌}
-use mathlib.Core.Bool.{Bool, true, false, not, ◌&&◌, ◌||◌, or_false}
+use mathlib.Core.Bool.{Bool, true, false, not, ◌&&◌, ◌||◌, or-false}
 use mathlib.Core.List.{List, [], ◌∷◌, ◌++◌, append_assoc, flat_map}
 use native.Mathlib.Omega.{arith}
 use native.Mathlib.Nat.{le_refl}
@@ -47,7 +47,7 @@ module _ {A : Type 0} where
 
   pub any_snoc : (p : A → Bool) (n : ℕ) (f : ℕ → A) → any p (tabulate (suc n) f) ≡ (any p (tabulate n f) || p (f n))
   unfolding tabulate any
-  any_snoc p n f = any_append p (tabulate n f) (f n ∷ []) ∙ rw or_false
+  any_snoc p n f = any_append p (tabulate n f) (f n ∷ []) ∙ rw or-false
 
   total_append : (g : A → ℕ) (l m : List A) → total g (l ++ m) ≡ total g l + total g m
   unfolding total
@@ -109,7 +109,7 @@ distinct_snoc : (l : List ℕ) (x : ℕ) → distinct eqb (l ++ (x ∷ [])) ≡ 
 unfolding distinct any
 distinct_snoc [] x = refl
 distinct_snoc (a ∷ l) x =
-    rw (any_append (eqb a) l (x ∷ []), distinct_snoc l x, or_false, eqb_sym a x) (apart (any (eqb a) l) (eqb x a) (distinct eqb l) (any (eqb x) l))
+    rw (any_append (eqb a) l (x ∷ []), distinct_snoc l x, or-false, eqb_sym a x) (apart (any (eqb a) l) (eqb x a) (distinct eqb l) (any (eqb x) l))
 
 pub distinct_tabulate : (n : ℕ) (f : ℕ → ℕ) → distinct eqb (tabulate n f) ≡ all_to n (λ i. not (any (eqb (f i)) (tabulate i f)))
 unfolding tabulate distinct all_to
@@ -167,7 +167,7 @@ module _ (q : ℕ → Bool) (at v : ℕ → ℕ) (good : (i : ℕ) → q (v i) �
           rw (any_snoc (eqb x) n at, eq-eqb x (at n) e, or_true (any (eqb x) (tabulate n at)))
           (ap q (rw e (get_or-set_same (written at v n t) (at n) (v n) 0 (omega (arith, length_written at v t n)))) ∙ good n)
       go (no e) ih =
-          rw (any_snoc (eqb x) n at, ne_eqb x (at n) e, or_false (any (eqb x) (tabulate n at)))
+          rw (any_snoc (eqb x) n at, ne_eqb x (at n) e, or-false (any (eqb x) (tabulate n at)))
           (ap q (get_or-set_other (written at v n t) (at n) x (v n) 0 e) ∙ ih)
 
 pub written_fill : (v : ℕ → ℕ) (t : List ℕ) (x : ℕ) → x < length t → (n : ℕ) → x < n → get_or (written (λ i. i) v n t) x 0 ≡ v x

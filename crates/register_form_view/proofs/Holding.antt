@@ -1,7 +1,7 @@
 -- What a page of an opened register holds, by its terms.
 use Prim.Native.Nat.{ℕ, suc, ◌+◌, ◌*◌, ◌≤◌, ◌<◌}
 use mathlib.Core.Path.{◌≡◌, refl, sym, ap, ap₂, ◌∙◌}
-use mathlib.Core.Bool.{Bool, true, false, ◌&&◌, ◌||◌, or_false, and_true}
+use mathlib.Core.Bool.{Bool, true, false, ◌&&◌, ◌||◌, or-false, and-true}
 use mathlib.Core.List.{List, [], ◌∷◌, ◌++◌, map, Memᴰ}
 use native.Mathlib.Omega.{arith}
 use borrow.Author.Tests.{ltb-true, ltb-false}
@@ -62,7 +62,7 @@ module _ {h : Bytes} {places : List ℕ} {R : Register} (o : Opened h places R) 
       ∙ ap₂ ◌||◌
       (any_same _ (same x) (page_in R i).categories (λ y n. c.categories (page_in R i) y page_member n))
       (any_none _ (page_in R i).values (λ v n. c.values (page_in R i) v page_member n))
-      ∙ or_false (any (same x) (page_in R i).categories)
+      ∙ or-false (any (same x) (page_in R i).categories)
 
   -- where a test of a term of a range is one of its value
   property_held : (x : Bytes) (r : TermRange) → PropertyRange R x r → (p : ℕ → Bool) (test : Value → Bool)
@@ -91,7 +91,7 @@ module _ {h : Bytes} {places : List ℕ} {R : Register} (o : Opened h places R) 
   module _ (x : Bytes) (r : TermRange) (c : PropertyRange R x r) where
     pub property_pages : marks_by h (within r) ≡ marks_in R (holds x (λ v. true))
     property_pages =
-        tabulate_ext 256 _ _ (λ j k. ap (λ (p : Bool). ltb j (page_count h) && p) (any_same _ _ (numbers_in (form_bytes h (form_start h j) (form_start h (suc j)))) (λ f n. sym (and_true (within r f)))))
+        tabulate_ext 256 _ _ (λ j k. ap (λ (p : Bool). ltb j (page_count h) && p) (any_same _ _ (numbers_in (form_bytes h (form_start h j) (form_start h (suc j)))) (λ f n. sym (and-true (within r f)))))
         ∙ marks_are _ (holds x (λ v. true)) (λ i b. property_held o i b x r c (λ f. true) (λ v. true) (λ v n k. refl))
 
     -- by a table that has each term of the range that passes

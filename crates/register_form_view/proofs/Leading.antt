@@ -1,7 +1,7 @@
 -- What the term of a value tells: the value, and the page that it leads to.
 use Prim.Native.Nat.{ℕ, zero, suc, ◌<◌}
 use mathlib.Core.Path.{◌≡◌, refl, sym, ap, ap₂, ◌∙◌}
-use mathlib.Core.Bool.{Bool, true, false, cond, not, ◌&&◌, ◌||◌, or_false, true≢false}
+use mathlib.Core.Bool.{Bool, true, false, cond, not, ◌&&◌, ◌||◌, or-false, true≢false}
 use mathlib.Core.List.{List, [], ◌∷◌, map, Memᴰ}
 use native.Mathlib.Omega.{arith}
 use borrow.Author.Tests.{not-true, eq-eqb, eqb-true}
@@ -176,7 +176,7 @@ module _ (R : Register) (i : Identifier) (there : Memᴰ (identifier_text i) (te
       (leads_among test e l (λ j. f (suc j)) (λ q m. inside q (Memᴰ.tail m)) both.1 (λ j b. agrees (suc j) (omega arith)))
     where
       go : (b : Bool) (among : Bool) (rest : ℕ) → (b ≡ true → among ≡ false) → mark_by (λ j. f (suc j)) rest ≡ among → mark_by f (cond b 1 (next rest)) ≡ ((b && test p) || among)
-      go true among rest alone ih = agrees 0 (omega arith) ∙ sym (rw (alone refl) (or_false (test p)))
+      go true among rest alone ih = agrees 0 (omega arith) ∙ sym (rw (alone refl) (or-false (test p)))
       go false among rest alone ih = mark_next f rest ∙ ih
 
 -- A value leads to a page that is wanted where the page in its place is marked.

@@ -1,7 +1,7 @@
 -- The terms of a page: what is asked of one, and of one after the other.
 use Prim.Native.Nat.{ℕ, zero, suc, ◌+◌, ◌*◌, ◌-◌, ◌/◌, ◌≤◌, ◌<◌}
 use mathlib.Core.Path.{◌≡◌, refl, sym, ap, ap₂, ◌∙◌}
-use mathlib.Core.Bool.{Bool, true, false, cond, not, ◌&&◌, ◌||◌, or_false, and_true}
+use mathlib.Core.Bool.{Bool, true, false, cond, not, ◌&&◌, ◌||◌, or-false, and-true}
 use mathlib.Core.List.{List, [], ◌∷◌}
 use mathlib.Core.Option.{some, none}
 use native.Mathlib.Omega.{arith}
@@ -125,7 +125,7 @@ module _ (h q : Bytes) (rank : Rank) (c : SurfaceComparator) (s : Split) (k : Ki
         go false = refl
 
     pub link_meant : (b : Bool) → r ≡ true → b ≡ namespace_fits c (split_of q s) (space_of (text_at h n)) → b ≡ meant_at h q rank c s k f
-    link_meant b t g = g ∙ sym (and_true (namespace_fits c (split_of q s) (space_of (text_at h n)))) ∙ sym (met ∙ rw t)
+    link_meant b t g = g ∙ sym (and-true (namespace_fits c (split_of q s) (space_of (text_at h n)))) ∙ sym (met ∙ rw t)
 
   pub scalar_unmeant : (j : Scalar) → k ≡ Kind.Scalar j → false ≡ meant_at h q rank c s k f
   scalar_unmeant j e = rw e
@@ -178,7 +178,7 @@ module _ (low high : ℕ) (p : ℕ → Bool) (j : ℕ) where
 
 any_one : (p : ℕ → Bool) (n : ℕ) → any p (n ∷ []) ≡ p n
 unfolding any
-any_one p n = or_false (p n)
+any_one p n = or-false (p n)
 
 -- The loops over the bytes of a page's forms: whether one of the numbers before a place passes.
 module _ (b : Bytes) (p : ℕ → Bool) where

@@ -5,7 +5,7 @@ use Prim.Native.Nat.{ℕ, suc, ◌+◌, ◌*◌, ◌-◌, ◌/◌, ◌≤◌, �
 use mathlib.Core.Path.{◌≡◌, refl, sym, ap, ◌∙◌, subst}
 use mathlib.Core.Bool.{Bool, true, false}
 use mathlib.Core.List.Memᴰ
-use mathlib.Core.List.{List, [], ◌∷◌, ◌++◌, map, flat_map, append_nil, Memᴰ}
+use mathlib.Core.List.{List, [], ◌∷◌, ◌++◌, map, flat_map, append-nil, Memᴰ}
 use native.Mathlib.Omega.{arith}
 use lib.Dec.{eqb}
 use lib.ListN.{length, get_or, length-append, length-map}
@@ -211,7 +211,7 @@ known {h} {places} {R} o =
     let k = register_rules R (subst (λ (S : Register). is_register S ≡ true) o.register t.0) in
     let w = within R k.limits in
     let e : h ≡ bytes_of (encode R) = same_eq h (form_of (register_in h)) t.1 ∙ ap form_of o.register in
-    record { bytes = e; is = ap dictionary_in (e ∙ sym (append_nil (bytes_of (encode R)))) ∙ read_back_lem (encode R) [] (bounded R w); keeps = k; limits = w }
+    record { bytes = e; is = ap dictionary_in (e ∙ sym (append-nil (bytes_of (encode R)))) ∙ read_back_lem (encode R) [] (bounded R w); keeps = k; limits = w }
 
 -- The rows of opened bytes.
 module _ {h : Bytes} {R : Register} (k : Known h R) where
@@ -261,7 +261,7 @@ module _ {h : Bytes} {R : Register} (k : Known h R) where
   starts_there : (i : ℕ) → i < suc (length (map forms_of (encode R).pages)) → form_start h i ≡ get_or (starts_from 0 (map forms_of (encode R).pages)) i 0
   starts_there =
       form_start_lem h (encode R)
-      (subst (λ (b : Bytes). Holds b (encode R)) (append_nil (bytes_of (encode R)) ∙ sym k.bytes) (holds_bytes (encode R) [] (bounded R k.limits)))
+      (subst (λ (b : Bytes). Holds b (encode R)) (append-nil (bytes_of (encode R)) ∙ sym k.bytes) (holds_bytes (encode R) [] (bounded R k.limits)))
       (bounded R k.limits)
 
   -- the numbers in their bytes are its forms

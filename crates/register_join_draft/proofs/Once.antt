@@ -1,7 +1,7 @@
 -- Laws of lists without repeats.
 use mathlib.Core.Path.{◌≡◌, refl, sym, ap, ap₂, ◌∙◌}
 use mathlib.Core.Bool.{Bool, true, false, cond, not, ◌&&◌, ◌||◌}
-use mathlib.Core.List.{List, [], ◌∷◌, ◌++◌, map, append_nil, append_assoc, Memᴰ}
+use mathlib.Core.List.{List, [], ◌∷◌, ◌++◌, map, append-nil, append_assoc, Memᴰ}
 use borrow.Author.Tests.{not-true}
 use Rattle.text.specs.Bytes.{any}
 use Rattle.text.proofs.Laws.{any_append}
@@ -32,7 +32,7 @@ module _ {A : Type 0} {alike : A → A → Bool} (s : Likeness alike) where
   -- Behind elements seen is what is not among them, where no two behind are alike.
   behind_only : (seen l : List A) → distinct alike l ≡ true → once_behind alike seen l ≡ seen ++ only_in alike seen l
   unfolding once_behind only_in distinct
-  behind_only seen [] h = sym (append_nil seen)
+  behind_only seen [] h = sym (append-nil seen)
   behind_only seen (x ∷ l) h =
       let t = and_true (not (any (alike x) l)) (distinct alike l) h in
       go (any (alike x) seen) (behind_only seen l t.1) (behind_only (seen ++ (x ∷ [])) l t.1) (not-true _ t.0)

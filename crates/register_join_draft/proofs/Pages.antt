@@ -5,7 +5,7 @@ use mathlib.Core.Path.{◌≡◌, refl, sym, ap, ap₂, ◌∙◌, subst}
 use mathlib.Core.Bool.{Bool, true, false, cond, not, ◌&&◌}
 use mathlib.Core.Option.{Option, some, none}
 use mathlib.Core.List.Memᴰ
-use mathlib.Core.List.{List, [], ◌∷◌, ◌++◌, map, map-map, map-append, append_nil, Memᴰ}
+use mathlib.Core.List.{List, [], ◌∷◌, ◌++◌, map, map-map, map-append, append-nil, Memᴰ}
 use lib.Dec.{eqb}
 use lib.ListN.{length, get_or, length-map, get_or-append}
 use lib.Seq.{get_or-append-add}
@@ -71,6 +71,7 @@ module _ (e : Dictionary) (item : ℕ → ℕ) where
 
   forms_at_lem : (l : List PageRow) → distinct eqb (map (key_of e item) l) ≡ true → {r : PageRow} → Memᴰ r l → forms_in l (place_in (map (key_of e item) l) (key_of e item r)) ≡ r.forms
   unfolding distinct place_in
+  forms_at_lem [] h {r = r} x' = elim x' [ ]
   forms_at_lem (x ∷ l) h {r} (Memᴰ.head f) = rw (eq-eqb (key_of e item x) (key_of e item r) (ap (key_of e item) (sym f))) (ap (λ (s : PageRow). s.forms) (sym f))
   forms_at_lem (x ∷ l) h {r} (Memᴰ.tail m) =
       let t = and_true (not (any (eqb (key_of e item x)) (map (key_of e item) l))) (distinct eqb (map (key_of e item) l)) h in
@@ -154,8 +155,8 @@ module _ (d e : Dictionary) (item1 item2 : ℕ → ℕ) (texts : List Bytes) (j 
         λ i.
         record {
           identifier = identifier_told d D item1 s1.items s1.canon m i;
-          categories = (ap (λ (l : List Bytes). once same (categories_in D l)) (append_nil own) ∙ ap (once same) (categories1 m) ∙ once_distinct same_likeness (decode_page d r).categories k.categories_once) i;
-          values = (ap (λ (l : List Bytes). once same_held (values_in D l)) (append_nil own) ∙ ap (once same_held) (values1 m) ∙ once_distinct same_held_likeness (decode_page d r).values k.values_once) i;
+          categories = (ap (λ (l : List Bytes). once same (categories_in D l)) (append-nil own) ∙ ap (once same) (categories1 m) ∙ once_distinct same_likeness (decode_page d r).categories k.categories_once) i;
+          values = (ap (λ (l : List Bytes). once same_held (values_in D l)) (append-nil own) ∙ ap (once same_held) (values1 m) ∙ once_distinct same_held_likeness (decode_page d r).values k.values_once) i;
         }
 
     told_some : (q : PageRow) → Memᴰ q e.pages → Told (some (decode_page e q)) q.forms

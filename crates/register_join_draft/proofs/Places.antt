@@ -23,6 +23,7 @@ pub record Stands (l : List PropertyRow) (r : PropertyRow) : Type 0 where
 
 pub stands : (l : List PropertyRow) → distinct same_row l ≡ true → {r : PropertyRow} → Memᴰ r l → Stands l r
 unfolding distinct place_in
+stands [] h {r = r} x' = elim x' [ ]
 stands (x ∷ l) h {r} (Memᴰ.head e) =
     record { place = 0; is = rw (eq-eqb x.name r.name (ap name_in (sym e))); below = omega arith; row = λ z. sym e }
 stands (x ∷ l) h {r} (Memᴰ.tail m) =

@@ -49,6 +49,7 @@ same_row_likeness = by_key (record { equal = eqb-true; itself = λ a. eq-eqb a a
 -- What is like none of the first list is among those only in the second.
 pub only_there : {A : Type 0} (alike : A → A → Bool) (l m : List A) {b : A} → Memᴰ b m → any (alike b) l ≡ false → Memᴰ b (only_in alike l m)
 unfolding only_in
+only_there {A = A} alike l [] {b = b} x' h = elim x' [ ]
 only_there alike l (x ∷ m) {b} (Memᴰ.head e) h = rw (ap (λ y. any (alike y) l) (sym e) ∙ h) (Memᴰ.head e)
 only_there {A} alike l (x ∷ m) {b} (Memᴰ.tail n) h = go (any (alike x) l) (only_there alike l m n h)
   where
@@ -59,6 +60,7 @@ only_there {A} alike l (x ∷ m) {b} (Memᴰ.tail n) h = go (any (alike x) l) (o
 -- A declared property has the kind of its row.
 kind_there : (l : List Property) → distinct same_property l ≡ true → {p : Property} → Memᴰ p l → kind_among l p.name ≡ some p.kind
 unfolding kind_among distinct
+kind_there [] h {p = p} x' = elim x' [ ]
 kind_there (x ∷ l) h {p} (Memᴰ.head e) = rw (e, same_refl x.name)
 kind_there (x ∷ l) h {p} (Memᴰ.tail m) =
     let t = and_true (not (any (same_property x) l)) (distinct same_property l) h in

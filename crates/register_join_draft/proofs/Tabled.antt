@@ -2,7 +2,7 @@
 use Prim.Native.Nat.{ℕ, zero, suc, ◌+◌, ◌-◌, ◌≤◌, ◌<◌}
 use mathlib.Core.Path.{◌≡◌, sym, ap, ◌∙◌, subst}
 use mathlib.Core.Bool.{true}
-use mathlib.Core.List.{List, [], ◌++◌, append_nil, append_assoc}
+use mathlib.Core.List.{List, [], ◌++◌, append-nil, append_assoc}
 use native.Mathlib.Nat.{add-zero}
 use native.Mathlib.Numerals.{add-one}
 use native.Mathlib.Omega.{arith}
@@ -35,7 +35,7 @@ use Rattle.register_join_draft.proofs.Held.{held_canon, properties_few, pages_fe
 module _ (rows : ℕ → PageRow) (m : ℕ) (firsts uses : List ℕ) (o : Ended rows m firsts uses) where
   -- Behind those of the first i pages.
   forms_split : (i k : ℕ) → (rest : List ℕ) × (forms_to rows (i + k) ≡ forms_to rows i ++ rest)
-  forms_split i zero = ([], rw (add-zero i) (sym (append_nil (forms_to rows i))))
+  forms_split i zero = ([], rw (add-zero i) (sym (append-nil (forms_to rows i))))
   forms_split i (suc k) =
       let q = forms_split i k in
       let z : i + suc k ≡ i + k + 1 = omega arith in

@@ -2,7 +2,7 @@
 use Prim.Native.Nat.{ℕ, zero, suc, ◌+◌, ◌-◌, ◌*◌, ◌%◌, ◌≤◌, ◌<◌}
 use mathlib.Core.Path.{◌≡◌, refl, sym, ap, ap₂, ◌∙◌, subst}
 use mathlib.Core.Bool.{Bool, true, false, not, true≢false}
-use mathlib.Core.List.{List, [], ◌∷◌, ◌++◌, map, flat_map, map-append, append_nil, append_assoc}
+use mathlib.Core.List.{List, [], ◌∷◌, ◌++◌, map, flat_map, map-append, append-nil, append_assoc}
 use mathlib.Core.Logic.{◌⊎◌, inl, inr, ⊎_elim}
 use native.Mathlib.Nat.{add-zero, mod-eq_of_lt}
 use native.Mathlib.Omega.{arith}
@@ -37,7 +37,7 @@ set_at l u w n x e p i = ap (λ (v : List ℕ). get_or v i 0) (p ∙ ap (λ (y :
 
 module _ (groups codes : List ℕ) (n : ℕ) where
   pub put_none : TermsPut groups codes n [] groups codes n
-  put_none = record { groups_size = refl; codes_size = refl; written = λ l w a b s. rw append_nil w }
+  put_none = record { groups_size = refl; codes_size = refl; written = λ l w a b s. rw append-nil w }
 
   -- One term.
   pub put_one : (gs cs : List ℕ) (r w v g c : ℕ) → w ≡ n → gs ≡ set groups w g → v ≡ n → cs ≡ set codes v c → r ≡ (n + 1) % 65536 → TermsPut groups codes n (term_of g c ∷ []) gs cs r
@@ -95,7 +95,7 @@ module _ (h : Bytes) (items table : List ℕ) where
 -- Numbers in a table: none, one, some and then some.
 module _ (table : List ℕ) (n : ℕ) where
   pub numbers_none : NumbersPut table n [] table n
-  numbers_none = record { size = refl; written = λ l w a s. rw append_nil w }
+  numbers_none = record { size = refl; written = λ l w a s. rw append-nil w }
 
   pub numbers_one : (u : List ℕ) (w r x : ℕ) → w ≡ n → u ≡ set table w x → r ≡ (n + 1) % 65536 → NumbersPut table n (x ∷ []) u r
   numbers_one u w r x e p step =

@@ -2,7 +2,7 @@
 use Prim.Native.Nat.{ℕ, zero, suc, ◌+◌, ◌≤◌, ◌<◌}
 use mathlib.Core.Path.{◌≡◌, refl, sym, ap, ap₂, ◌∙◌, subst}
 use mathlib.Core.Bool.{Bool, true, false, cond, ◌||◌}
-use mathlib.Core.List.{List, [], ◌∷◌, ◌++◌, flat_map, append_nil}
+use mathlib.Core.List.{List, [], ◌∷◌, ◌++◌, flat_map, append-nil}
 use mathlib.Core.Option.{Option, some, none}
 use native.Mathlib.Omega.{arith}
 use lib.Dec.{ltb, eqb}
@@ -55,7 +55,7 @@ length_labelled n x = ap suc (length-append n x)
 
 pub joined_more : (l : List Bytes) (t : Bytes) → joined (l ++ (t ∷ [])) ≡ joined l ++ t
 unfolding flat_map
-joined_more l t = flat_append (λ t. t) l (t ∷ []) ∙ ap (λ (r : Bytes). joined l ++ r) (append_nil t)
+joined_more l t = flat_append (λ t. t) l (t ∷ []) ∙ ap (λ (r : Bytes). joined l ++ r) (append-nil t)
 
 -- One text more.
 text_more : (l : List Bytes) (t : Bytes) (b w : ℕ) → length (joined l) ≤ b + length l → length t ≤ suc w → length (joined (l ++ (t ∷ []))) ≤ b + w + length (l ++ (t ∷ []))
@@ -77,7 +77,7 @@ pub record Short (w : ℕ) (l : List Bytes) : Type 0 where
 
 short_one : (w : ℕ) (t : Bytes) → length t ≤ suc w → Short w (t ∷ [])
 unfolding flat_map
-short_one w t h = record { count = omega arith; bytes = rw (append_nil t) (omega arith) }
+short_one w t h = record { count = omega arith; bytes = rw (append-nil t) (omega arith) }
 
 short_none : (w : ℕ) → Short w []
 unfolding flat_map

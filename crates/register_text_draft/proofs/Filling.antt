@@ -2,7 +2,7 @@
 use Prim.Native.Nat.{ℕ, zero, suc, ◌+◌, ◌-◌, ◌%◌, ◌≤◌, ◌<◌}
 use mathlib.Core.Path.{◌≡◌, refl, sym, ap, ap₂, ◌∙◌, subst}
 use mathlib.Core.Bool.{Bool, true, false, ◌&&◌, and-eq-true_iff}
-use mathlib.Core.List.{List, [], ◌∷◌, ◌++◌, append_assoc, append_nil}
+use mathlib.Core.List.{List, [], ◌∷◌, ◌++◌, append_assoc, append-nil}
 use mathlib.Core.Option.{Option, some, none}
 use native.Mathlib.Nat.{le_refl, mod-eq_of_lt, sub_self}
 use native.Mathlib.Numerals.{add-one}
@@ -208,7 +208,7 @@ no_texts f (some a) w n h = let is : plain (f a) ≡ w = cc in ap value_texts (s
 
 module _ (heap starts lens : List ℕ) (m at : ℕ) (k : Kind) (v : Bytes) (w : Value) (e : read_value k v ≡ some w) where
   none_pushed : value_texts w ≡ [] → Pushed heap starts lens m at (value_texts w) heap starts lens (record { texts = m; bytes = at })
-  none_pushed n = record { texts = λ l t few fit. rw (n, append_nil l) t }
+  none_pushed n = record { texts = λ l t few fit. rw (n, append-nil l) t }
 
   pub value_scalar : (j : Scalar) → k ≡ Kind.Scalar j → Pushed heap starts lens m at (value_texts w) heap starts lens (record { texts = m; bytes = at })
   unfolding value_texts

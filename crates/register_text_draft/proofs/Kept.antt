@@ -5,7 +5,7 @@ use mathlib.Core.Bool.{Bool, true, false, ◌&&◌}
 use mathlib.Core.Option.{Option, some, none}
 use mathlib.Core.Logic.{◌⊎◌, inl, inr, ⊎_elim}
 use mathlib.Core.List.Memᴰ
-use mathlib.Core.List.{List, [], ◌∷◌, ◌++◌, map, flat_map, append_nil, append_assoc, map-append, map-map, Memᴰ}
+use mathlib.Core.List.{List, [], ◌∷◌, ◌++◌, map, flat_map, append-nil, append_assoc, map-append, map-map, Memᴰ}
 use native.Mathlib.Omega.{arith}
 use lib.Dec.{ltb}
 use lib.ListN.{length, get_or, length-append}
@@ -41,7 +41,7 @@ module _ (ps : List Property) (D : Dictionary) where
   declared_from : (l : List Entry) (d : Dictionary) → Grows (draft_from ps d l) D
       → map (decode_property D) (draft_from ps d l).properties ≡ map (decode_property D) d.properties ++ properties l
   unfolding draft_from properties added decode_property
-  declared_from [] d g = sym (append_nil (map (decode_property D) d.properties))
+  declared_from [] d g = sym (append-nil (map (decode_property D) d.properties))
   declared_from (prop x k ∷ l) d g =
       let c = added ps d (prop x k) in
       let name : text_in D (length d.texts) ≡ plain_text x = front_at d.texts [] (plain_text x) (grows_trans (grows_from ps c l) g).texts in
@@ -165,8 +165,8 @@ module _ (D : Dictionary) where
           terms = all_more (is_term D) c.terms (term ∷ []) h.terms (all_one (is_term D) term t.fits);
           uses =
               used_all c (with_value g v c) [] [] (term_texts D term ++ [])
-              (sym (append_nil (map name_of_row c.properties)))
-              (pages ∙ sym (append_nil (map identifier_of_row c.pages)))
+              (sym (append-nil (map name_of_row c.properties)))
+              (pages ∙ sym (append-nil (map identifier_of_row c.pages)))
               (flat_append (term_texts D) c.terms (term ∷ []))
               (value_texts v) refl h.uses (λ i a b. inr (inr (Memᴰ.append_left [] (t.uses i a b))));
           shaped = mem_more (λ t. term_of (group_of t) (term_code t) ≡ t) c.terms term h.shaped (ap (term_of g) t.code);
@@ -186,8 +186,8 @@ module _ (D : Dictionary) where
             uses =
                 used_all c (added ps c (prop x k)) (length c.texts ∷ []) [] []
                 (map-append name_of_row c.properties (row ∷ []))
-                (sym (append_nil (map identifier_of_row c.pages)))
-                (sym (append_nil (flat_map (term_texts D) c.terms)))
+                (sym (append-nil (map identifier_of_row c.pages)))
+                (sym (append-nil (flat_map (term_texts D) c.terms)))
                 (plain_text x ∷ []) refl h.uses (λ i a b. inl (last_one (plain_text x) i a b));
             shaped = h.shaped;
           }
@@ -203,9 +203,9 @@ module _ (D : Dictionary) where
             terms = h.terms;
             uses =
                 used_all c (added ps c (page n x)) [] (length c.texts ∷ []) []
-                (sym (append_nil (map name_of_row c.properties)))
+                (sym (append-nil (map name_of_row c.properties)))
                 pages
-                (sym (append_nil (flat_map (term_texts D) c.terms)))
+                (sym (append-nil (flat_map (term_texts D) c.terms)))
                 (labelled n x ∷ []) refl h.uses (λ i a b. inr (inl (last_one (labelled n x) i a b)));
             shaped = h.shaped;
           }
@@ -233,7 +233,7 @@ module _ (s : Bytes) (k l : List Entry) (t : Passed s k l) where
   D = draft_of (properties l) l
 
   pub draft_fits : Fits D
-  draft_fits = passed_fits s k l [] (rw (append_nil l) t) (properties l)
+  draft_fits = passed_fits s k l [] (rw (append-nil l) t) (properties l)
 
   few : length D.texts ≤ 2368
   few = omega (arith, draft_fits.texts)

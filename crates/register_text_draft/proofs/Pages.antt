@@ -2,11 +2,11 @@
 use Prim.Native.Nat.{ℕ, zero, suc, ◌+◌, ◌≤◌, ◌<◌}
 use mathlib.Core.Path.{◌≡◌, refl, sym, ap, ap₂, ◌∙◌, subst}
 use mathlib.Core.Bool.{Bool, true, false, cond}
-use mathlib.Core.List.{List, [], ◌∷◌, ◌++◌, map, flat_map, append_nil, append_assoc, map-append, Memᴰ}
+use mathlib.Core.List.{List, [], ◌∷◌, ◌++◌, map, flat_map, append-nil, append_assoc, map-append, Memᴰ}
 use native.Mathlib.Numerals.{add-one}
 use native.Mathlib.Omega.{arith}
 use lib.ListN.{length, get_or, length-append}
-use Rattle.text.specs.Bytes.{Bytes, same}
+use Rattle.text.specs.Bytes.{Bytes, same, any}
 use Rattle.text.specs.Table.{tabulate}
 use Rattle.values.specs.Values.{Value, plain, string}
 use Rattle.language.specs.Answer.{found}
@@ -29,7 +29,7 @@ use Rattle.register_text_draft.proofs.Terms.{no_category, category_is, value_is}
 once_more : {A : Type 0} (alike : A → A → Bool) (seen l : List A) (x : A) → once_behind alike seen (l ++ (x ∷ [])) ≡ set_added alike x (once_behind alike seen l)
 unfolding once_behind set_added
 once_more alike seen [] x = refl
-once_more alike seen (y ∷ l) x = once_more alike _ l x
+once_more alike seen (y ∷ l) x = once_more alike (cond (any (alike y) seen) seen (seen ++ (y ∷ []))) l x
 
 -- One form more on the last page.
 pub on_last_lem : (f : ℕ) (l : List PageRow) (r : PageRow) → on_last f (l ++ (r ∷ [])) ≡ l ++ (with_form f r ∷ [])
@@ -41,7 +41,7 @@ on_last_lem f (q ∷ p ∷ l) r = ap (λ (z : List PageRow). q ∷ z) (on_last_l
 forms_last : (f : ℕ) (l : List PageRow) (r : PageRow) → flat_map forms_of (l ++ (with_form f r ∷ [])) ≡ flat_map forms_of (l ++ (r ∷ [])) ++ (f ∷ [])
 unfolding flat_map
 forms_last f l r =
-    rw (flat_append forms_of l (with_form f r ∷ []), flat_append forms_of l (r ∷ []), append_nil (r.forms ++ (f ∷ [])), append_nil r.forms)
+    rw (flat_append forms_of l (with_form f r ∷ []), flat_append forms_of l (r ∷ []), append-nil (r.forms ++ (f ∷ [])), append-nil r.forms)
     (sym (append_assoc (flat_map forms_of l) r.forms (f ∷ [])))
 
 -- The numbers below one.
@@ -93,7 +93,7 @@ module _ (D : Dictionary) where
         ∙ sym (category_added x (once same (categories_in D l))) in
         let vs : once same_held (values_in D (map (term_in D) (r.forms ++ (f ∷ [])))) ≡ once same_held (values_in D l) =
         ap (λ (z : List Bytes). once same_held (values_in D z)) terms_more
-        ∙ ap (once same_held) (values_append l (term_in D f ∷ []) ∙ rw (c, append_nil (values_in D l))) in
+        ∙ ap (once same_held) (values_append l (term_in D f ∷ []) ∙ rw (c, append-nil (values_in D l))) in
         λ i. record { identifier = identifier_of (text_in D r.identifier); categories = cs i; values = vs i }
 
     with_value_lem : (h : Held) → is_category (term_in D f) ≡ false → held_of D (term_in D f) ≡ h → page_in (with_form f r) ≡ holding h.property h.value (page_in r)
@@ -102,7 +102,7 @@ module _ (D : Dictionary) where
         let l = map (term_in D) r.forms in
         let cs : once same (categories_in D (map (term_in D) (r.forms ++ (f ∷ [])))) ≡ once same (categories_in D l) =
         ap (λ (z : List Bytes). once same (categories_in D z)) terms_more
-        ∙ ap (once same) (categories_append l (term_in D f ∷ []) ∙ rw (c, append_nil (categories_in D l))) in
+        ∙ ap (once same) (categories_append l (term_in D f ∷ []) ∙ rw (c, append-nil (categories_in D l))) in
         let vs : once same_held (values_in D (map (term_in D) (r.forms ++ (f ∷ [])))) ≡ add_held h (once same_held (values_in D l)) =
         ap (λ (z : List Bytes). once same_held (values_in D z)) terms_more
         ∙ ap (once same_held) (values_append l (term_in D f ∷ []) ∙ rw (c, e))
@@ -142,13 +142,13 @@ module _ (D : Dictionary) where
     pub pages_go : {p : Place} {l : List Entry} → Placed p l → (d : Dictionary) → Grows (draft_from ps d l) D → ((e : Entry) → Memᴰ e l → Good ps e)
         → flat_map forms_of d.pages ≡ up_to (length d.terms) → Goes p l d
     unfolding draft_from pages_of filled added flat_map
-    pages_go done d g h k = record { pages = sym (append_nil (pages_in d.pages)); forms = k }
+    pages_go done d g h k = record { pages = sym (append-nil (pages_in d.pages)); forms = k }
     pages_go (a_prop {x = x} {k = j} {l = l} m) d g h k = pages_go m (added ps d (prop x j)) g (λ e n. h e (Memᴰ.tail n)) k
     pages_go (a_page {n = n} {x = x} {l = l} m) d g h k =
         let b = added ps d (page n x) in
         let r : PageRow = record { identifier = length d.texts; forms = [] } in
         let text : text_in D (length d.texts) ≡ labelled n x = front_at d.texts [] (labelled n x) (grows_trans (grows_from ps b l) g).texts in
-        let forms : flat_map forms_of (d.pages ++ (r ∷ [])) ≡ up_to (length d.terms) = flat_append forms_of d.pages (r ∷ []) ∙ append_nil (flat_map forms_of d.pages) ∙ k in
+        let forms : flat_map forms_of (d.pages ++ (r ∷ [])) ≡ up_to (length d.terms) = flat_append forms_of d.pages (r ∷ []) ∙ append-nil (flat_map forms_of d.pages) ∙ k in
         rw (← empty_page_lem n x (length d.texts) text) (pages_go m b g (λ e n. h e (Memᴰ.tail n)) forms d.pages r refl)
     pages_go (a_cat {x = x} {l = l} m) d g h k = λ front r e.
         let b = added ps d (cat x) in

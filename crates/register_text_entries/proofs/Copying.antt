@@ -1,7 +1,7 @@
 -- Laws of entries copied with their names composed.
 use Prim.Native.Nat.{ℕ, zero, suc, ◌+◌, ◌*◌, ◌%◌, ◌≤◌, ◌<◌}
 use mathlib.Core.Path.{◌≡◌, refl, sym, ap, ap₂, subst, ◌∙◌}
-use mathlib.Core.Bool.{Bool, true, false, cond, not, ◌&&◌, ◌||◌, false≢true, and-eq-true_iff, or_true, or_false}
+use mathlib.Core.Bool.{Bool, true, false, cond, not, ◌&&◌, ◌||◌, false≢true, and-eq-true_iff, or-true, or-false}
 use mathlib.Core.List.{List, [], ◌∷◌, ◌++◌, append_assoc}
 use native.Mathlib.Nat.{add-zero}
 use native.Mathlib.Numerals.{add-one}
@@ -165,7 +165,7 @@ broken_is Tag.Broken k n m a b e f = refl
 -- Else its names are names.
 name_namespace : (s : Bytes) → is_name s ≡ true → is_namespace s ≡ true
 unfolding is_namespace
-name_namespace s h = rw h (or_true (eqb (length s) 0))
+name_namespace s h = rw h (or-true (eqb (length s) 0))
 
 property_namespace : (s : Bytes) → is_property_name s ≡ true → is_namespace s ≡ true
 unfolding is_property_name
@@ -296,7 +296,7 @@ composed_append (a ∷ l) e = ap (λ (k : List Entry). composed_entry a ∷ k) (
 
 any_last : (p : Entry → Bool) (l : List Entry) (e : Entry) → any p (l ++ (e ∷ [])) ≡ (any p l || p e)
 unfolding any
-any_last p l e = any_append p l (e ∷ []) ∙ ap (λ (b : Bool). any p l || b) (or_false (p e))
+any_last p l e = any_append p l (e ∷ []) ∙ ap (λ (b : Bool). any p l || b) (or-false (p e))
 
 none_last : (p : Entry → Bool) (l : List Entry) (e : Entry) → any p (l ++ (e ∷ [])) ≡ false → (any p l ≡ false) × (p e ≡ false)
 none_last p l e h = go (any p l) (p e) refl refl (sym (any_last p l e) ∙ h)

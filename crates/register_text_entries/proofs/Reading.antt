@@ -2,7 +2,7 @@
 use Prim.Native.Nat.{ℕ, ◌+◌, ◌-◌, ◌*◌, ◌≤◌, ◌<◌}
 use mathlib.Core.Path.{◌≡◌, refl, sym, ap, ◌∙◌}
 use mathlib.Core.Bool.{Bool, true, false, ◌||◌, true≢false}
-use mathlib.Core.List.{List, [], ◌∷◌, ◌++◌, append_nil}
+use mathlib.Core.List.{List, [], ◌∷◌, ◌++◌, append-nil}
 use mathlib.Core.Option.{Option, some, none}
 use native.Mathlib.Omega.{arith}
 use lib.Dec.{ltb}
@@ -91,7 +91,7 @@ module _ (s : Bytes) (t u : List ℕ) (at n : ℕ) (inside : Bool) (g : Going s 
       go false e h =
           let d : drop at s ≡ [] = drop_of_length-le s (ltb-false at (length s) h) in
           let o : some (g.past ++ []) ≡ entries s = rw (e, d, entries_end) at g.ahead in
-          let o' : some g.past ≡ entries s = rw append_nil at o in
+          let o' : some g.past ≡ entries s = rw append-nil at o in
           record {
             is = rw (← g.count) (ap rows_of o');
             rows = rw (← o') (λ short room. rw g.count (g.held short (omega (arith, g.count))));

@@ -1,7 +1,7 @@
 -- Sorting leaves fewer exactly where two are alike.
 use Prim.Native.Nat.{ℕ, zero, suc, ◌≤◌}
 use mathlib.Core.Path.{◌≡◌, refl, sym, ap, ap₂, ◌∙◌}
-use mathlib.Core.Bool.{Bool, true, false, ◌||◌, true≢false, or_comm, or_true, or_false}
+use mathlib.Core.Bool.{Bool, true, false, ◌||◌, true≢false, or_comm, or-true, or-false}
 use mathlib.Core.List.{List, [], ◌∷◌}
 use native.Mathlib.Omega.{arith}
 use borrow.Author.Tests.{lt-ltb, ltb-true}
@@ -64,11 +64,11 @@ module _ {A : Type 0} (o : A → A → Order) (w : Total o) where
         go true e ih =
             let same : length (sorted o (tabulate (suc n) f)) ≡ k = next ∙ ap length (insert_there o w (f n) (sorted o (tabulate n f)) (sorted_ascends o w (tabulate n f)) e) in
             let most = ih.0 in
-            (omega arith, rw (← found, e, same) (lt-ltb k (suc n) (omega arith) ∙ sym (or_true (twice_to n (λ a b. is_equal (o (f b) (f a)))))))
+            (omega arith, rw (← found, e, same) (lt-ltb k (suc n) (omega arith) ∙ sym (or-true (twice_to n (λ a b. is_equal (o (f b) (f a)))))))
         go false e ih =
             let more : length (sorted o (tabulate (suc n) f)) ≡ suc k = next ∙ insert_length (f n) (sorted o (tabulate n f)) e in
             let most = ih.0 in
-            (omega arith, rw (← found, e, more) (step k n ∙ ih.1 ∙ sym (or_false (twice_to n (λ a b. is_equal (o (f b) (f a)))))))
+            (omega arith, rw (← found, e, more) (step k n ∙ ih.1 ∙ sym (or-false (twice_to n (λ a b. is_equal (o (f b) (f a)))))))
 
 -- Two of the first m of a list of rows are alike where sorting what they declare leaves fewer than m.
 pub twice_sorted : (s : Bytes) (t rows : List ℕ) (m : ℕ) (starts lens l rs refs reps : List ℕ) (n : ℕ) → Names s t rows m starts lens → Built order_of (text_at s starts lens) l rs m m refs n reps

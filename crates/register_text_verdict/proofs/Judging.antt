@@ -1,7 +1,7 @@
 -- The ways through judging: a text that is too long, one that is not lines of the two forms, and one that is.
 use Prim.Native.Nat.{ℕ, zero, suc, ◌≤◌, ◌<◌}
 use mathlib.Core.Path.{◌≡◌, refl, sym, ◌∙◌}
-use mathlib.Core.Bool.{Bool, true, false, not, ◌&&◌, ◌||◌, or_true, and-false, false≢true}
+use mathlib.Core.Bool.{Bool, true, false, not, ◌&&◌, ◌||◌, or-true, and-false, false≢true}
 use mathlib.Core.List.{List, []}
 use mathlib.Core.Option.{Option, some, none}
 use native.Mathlib.Omega.{arith}
@@ -45,7 +45,7 @@ any_to_lem (suc n) f g h e = go (any_to n f) (f n) refl refl e (any_to_lem n f g
   where
     go : (a b : Bool) → any_to n f ≡ a → f n ≡ b → (a || b) ≡ true → (any_to n f ≡ true → any_to n g ≡ true) → (any_to n g || g n) ≡ true
     go true b p q r ih = rw (ih p)
-    go false true p q r ih = rw (h n q) (or_true (any_to n g))
+    go false true p q r ih = rw (h n q) (or-true (any_to n g))
     go false false p q r ih = absurd (false≢true r)
 
 -- So 5 is looked for only where 6 holds.

@@ -2,7 +2,7 @@
 use Prim.Native.Nat.{ℕ, ◌+◌, ◌%◌, ◌≤◌, ◌<◌}
 use mathlib.Core.Path.{◌≡◌, refl, sym, ap, ap₂, ◌∙◌}
 use mathlib.Core.Bool.{Bool, true, false, cond, ◌||◌}
-use mathlib.Core.List.{List, [], ◌∷◌, ◌++◌, append_nil}
+use mathlib.Core.List.{List, [], ◌∷◌, ◌++◌, append-nil}
 use native.Mathlib.Nat.{mod-eq_of_lt, add-zero}
 use native.Mathlib.Numerals.{add-one}
 use native.Mathlib.Omega.{arith}
@@ -136,7 +136,7 @@ module _ (what : Declared) (t : List ℕ) (n : ℕ) (o u : List ℕ) (m i : ℕ)
     put_row short room true =
         let z : i % 65536 ≡ i = mod-eq_of_lt (omega arith) in
         rw (add-one m, z) (take-suc-set u m i (omega (arith, most, h.size)))
-    put_row short room false = rw (add-zero m, append_nil (take m u)) (take-set-le m u m (i % 65536) (omega arith))
+    put_row short room false = rw (add-zero m, append-nil (take m u)) (take-set-le m u m (i % 65536) (omega arith))
 
     pub collect_more : (v : List ℕ) → v ≡ set u m (i % 65536) → Collecting what t n o v (m + d) (i + 1)
     collect_more v g =

@@ -1,8 +1,8 @@
 -- The published definitions over the rows of a table.
 use Prim.Native.Nat.{ℕ, zero, suc, ◌+◌, ◌<◌}
 use mathlib.Core.Path.{◌≡◌, refl, sym, ap, ap₂, ◌∙◌}
-use mathlib.Core.Bool.{Bool, true, false, cond, ◌&&◌, ◌||◌, or_false}
-use mathlib.Core.List.{List, [], ◌∷◌, ◌++◌, append_nil}
+use mathlib.Core.Bool.{Bool, true, false, cond, ◌&&◌, ◌||◌, or-false}
+use mathlib.Core.List.{List, [], ◌∷◌, ◌++◌, append-nil}
 use mathlib.Core.Option.{Option, some, none}
 use native.Mathlib.Omega.{arith}
 use native.Mathlib.Numerals.{add-one}
@@ -23,7 +23,7 @@ use Rattle.register_text_verdict.specs.Rows.{any_to, places_to, twice_to, twice_
 pub any_rows : {A : Type 0} (p : A → Bool) (n : ℕ) (f : ℕ → A) → any p (tabulate n f) ≡ any_to n (λ i. p (f i))
 unfolding tabulate any_to any
 any_rows p zero f = refl
-any_rows p (suc n) f = any_append p (tabulate n f) (f n ∷ []) ∙ rw (any_rows p n f, or_false (p (f n)))
+any_rows p (suc n) f = any_append p (tabulate n f) (f n ∷ []) ∙ rw (any_rows p n f, or-false (p (f n)))
 
 count_append : (p : Entry → Bool) (l : List Entry) (e : Entry) → count_of p (l ++ (e ∷ [])) ≡ count_of p l + cond (p e) 1 0
 unfolding count_of
@@ -141,7 +141,7 @@ any_places g h zero = refl
 any_places g h (suc n) = any_append h (places_to n g) (cond (g n) (n ∷ []) []) ∙ ap₂ ◌||◌ (any_places g h n) (one (g n))
   where
     one : (b : Bool) → any h (cond b (n ∷ []) []) ≡ b && h n
-    one true = or_false (h n)
+    one true = or-false (h n)
     one false = refl
 
 -- which entries can be alike
@@ -218,13 +218,13 @@ twice_rows (suc n) f = twice_append (tabulate n f) (f n) ∙ ap (λ b. b || any 
     last false b c = refl
 
     neither : (e : Entry) → ((d : Entry) → same_declared d e ≡ false) → twice_at r P || twice_at r G || any (λ d. same_declared d e) (tabulate n f) ≡ twice_at r (P ++ []) || twice_at r (G ++ [])
-    neither e h = rw (append_nil P, append_nil G, none_alike e h (tabulate n f)) (or_false (twice_at r P || twice_at r G))
+    neither e h = rw (append-nil P, append-nil G, none_alike e h (tabulate n f)) (or-false (twice_at r P || twice_at r G))
 
     go : (e : Entry) → f n ≡ e → twice_at r P || twice_at r G || any (λ d. same_declared d e) (tabulate n f) ≡ twice_at r (P ++ cond (is_prop e) (n ∷ []) []) || twice_at r (G ++ cond (is_page e) (n ∷ []) [])
     go (prop x k) q =
-        rw (append_nil G, twice_at_append r P n, ← alike is_prop (prop x k) q (prop_alike x k)) (first (twice_at r P) (twice_at r G) _)
+        rw (append-nil G, twice_at_append r P n, ← alike is_prop (prop x k) q (prop_alike x k)) (first (twice_at r P) (twice_at r G) _)
     go (page m x) q =
-        rw (append_nil P, twice_at_append r G n, ← alike is_page (page m x) q (page_alike m x)) (last (twice_at r P) (twice_at r G) _)
+        rw (append-nil P, twice_at_append r G n, ← alike is_page (page m x) q (page_alike m x)) (last (twice_at r P) (twice_at r G) _)
     go (cat x) q = neither (cat x) (cat_alike x)
     go (val x v) q = neither (val x v) (val_alike x v)
     go close q = neither close close_alike

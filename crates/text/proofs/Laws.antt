@@ -2,7 +2,7 @@
 use Prim.Native.Nat.{ℕ, zero, suc, ◌+◌, ◌≤◌, ◌<◌}
 use mathlib.Core.Path.{◌≡◌, refl, ap, sym, ◌∙◌}
 use mathlib.Core.List.{List, [], ◌∷◌, ◌++◌}
-use mathlib.Core.Bool.{Bool, true, false, cond, ◌&&◌, ◌||◌, false≢true, and-eq-true_iff, and-false, and_assoc, or_assoc, or_false}
+use mathlib.Core.Bool.{Bool, true, false, cond, ◌&&◌, ◌||◌, false≢true, and-eq-true_iff, and-false, and_assoc, or_assoc, or-false}
 use native.Mathlib.Omega.{arith}
 use native.Mathlib.Numerals.{add-one}
 use lib.Dec.{ltb, eqb, eqb-suc-suc, eqb-zero-suc, eqb-suc-zero}
@@ -262,7 +262,7 @@ module _ {A : Type 0} (p : A → Bool) where
 
   pub any_three : (x y z : A) → any p (x ∷ y ∷ z ∷ []) ≡ (p x || p y || p z)
   unfolding any
-  any_three x y z = rw or_false (sym (or_assoc (p x) (p y) (p z)))
+  any_three x y z = rw or-false (sym (or_assoc (p x) (p y) (p z)))
 
   -- At a place of a list.
   module _ (s : List A) (i : ℕ) (d : A) where

@@ -5,7 +5,7 @@ use mathlib.Core.List.{[], ◌∷◌, ◌++◌}
 use mathlib.Core.Bool.{Bool, true, false, cond}
 use native.Mathlib.Omega.{arith}
 use lib.ListN.{length, take, drop, get_or, length-drop, length-take, take-append-drop, drop_of_length-le}
-use lib.Seq.{take-nil, take_all, drop-drop, take_suc, take-append-le, drop-append-le, length-take-le}
+use lib.Seq.{take-nil, take_all, drop-drop, take-suc, take-append-le, drop-append-le, length-take-le}
 use Rattle.text.specs.Parts.{Trimmed}
 use Rattle.text.specs.Bytes.{Bytes, part, is_blank, span, trim_end, unless_last, trim}
 use Rattle.text.proofs.Laws.{span_le}
@@ -50,7 +50,7 @@ module _ (s : Bytes) (e : ℕ) (h : 0 < e) (k : e ≤ length s) where
   split : take e s ≡ take (e - 1) s ++ (get_or s (e - 1) 0 ∷ [])
   split =
       let q : e ≡ suc (e - 1) = omega arith in
-      ap (λ (n : ℕ). take n s) q ∙ take_suc s (e - 1) 0 (omega arith)
+      ap (λ (n : ℕ). take n s) q ∙ take-suc s (e - 1) 0 (omega arith)
 
   pub end_blank : is_blank (get_or s (e - 1) 0) ≡ true → trim_end (take e s) ≡ trim_end (take (e - 1) s)
   end_blank p = ap trim_end split ∙ trim_end_blank (get_or s (e - 1) 0) (take (e - 1) s) p

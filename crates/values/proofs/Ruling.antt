@@ -1,7 +1,7 @@
 -- Laws of the table of rules: what the bits of its digits tell of a text, and its class by them.
 use Prim.Native.Nat.{ℕ, suc, ◌+◌, ◌%◌, ◌^◌, ◌≤◌, ◌<◌}
 use mathlib.Core.Path.{◌≡◌, refl, sym, ap, ap₂, ◌∙◌}
-use mathlib.Core.Bool.{Bool, true, false, cond, not, ◌&&◌, ◌||◌, and_assoc, and_true, and-false, and-eq-true_iff, false≢true}
+use mathlib.Core.Bool.{Bool, true, false, cond, not, ◌&&◌, ◌||◌, and_assoc, and-true, and-false, and-eq-true_iff, false≢true}
 use mathlib.Core.List.{List, [], ◌∷◌}
 use native.Mathlib.Numerals.{add-one}
 use native.Mathlib.Omega.{arith}
@@ -66,7 +66,7 @@ module _ (t : List ℕ) (s : Bytes) where
 
     pub ruled_all : (out : ℕ) → length s ≤ i → Ruling out i → RuledOut t s (out % 16)
     ruled_all out l h =
-        record { below = λ k. sym (and_true (ltb (out % 16) (2 ^ k))) ∙ ap (λ (b : Bool). ltb (out % 16) (2 ^ k) && b) (sym (below_end l k)) ∙ h k }
+        record { below = λ k. sym (and-true (ltb (out % 16) (2 ^ k))) ∙ ap (λ (b : Bool). ltb (out % 16) (2 ^ k) && b) (sym (below_end l k)) ∙ h k }
 
 -- What the table has for a byte.
 digit_is : (b : ℕ) → b < 256 → get_or rule_table b 0 % 16 ≡ rule_of b
@@ -150,13 +150,13 @@ begun_value false true c h = absurd (false≢true h)
 begun_value false false c h = refl
 
 named : (z n o p q : Bool) → ((z && o && p && q) && n) ≡ ((z && (p && q)) && (n && o))
-named true true true p q = rw (and_true (p && q))
+named true true true p q = rw (and-true (p && q))
 named true true false p q = sym (and-false (p && q))
 named true false o p q = rw (and-false (o && p && q), and-false (p && q))
 named false n o p q = refl
 
 sorted : (z n o p q : Bool) → (z && n && o && p && q) ≡ ((z && (p && q)) && (n && o))
-sorted true true true p q = sym (and_true (p && q))
+sorted true true true p q = sym (and-true (p && q))
 sorted true true false p q = sym (and-false (p && q))
 sorted true false o p q = sym (and-false (p && q))
 sorted false n o p q = refl

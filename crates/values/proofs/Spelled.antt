@@ -2,7 +2,7 @@
 use Prim.Native.Nat.{ℕ, zero, suc, ◌+◌, ◌-◌, ◌*◌, ◌/◌, ◌%◌, ◌^◌, ◌≤◌, ◌<◌}
 use mathlib.Core.Path.{◌≡◌, refl, ap, ap₂, sym, ◌∙◌, subst}
 use mathlib.Core.List.{[], ◌∷◌, ◌++◌}
-use mathlib.Core.Bool.{Bool, true, false, cond, not, ◌&&◌, ◌||◌, true≢false, and-eq-true_iff, and_true}
+use mathlib.Core.Bool.{Bool, true, false, cond, not, ◌&&◌, ◌||◌, true≢false, and-eq-true_iff, and-true}
 use mathlib.Core.Option.{Option, some, none}
 use native.Mathlib.Omega.{arith}
 use native.Mathlib.Nat.{pow-succ', zero-add, div-lt_iff_lt-mul}
@@ -265,7 +265,7 @@ unfolding is_composed_namespace
 reference_keeps (bare x) h = composed_is_name x h
 reference_keeps (qualified n x) h =
     let t = (and-eq-true_iff (is_namespace n) (is_name x)).0 h in
-    rw (composed_is_name x t.1, and_true) (composed_is_namespace n t.0)
+    rw (composed_is_name x t.1, and-true) (composed_is_namespace n t.0)
 
 -- A reference that is one, composed; and one that is composed.
 pub composed_is_reference : (r : Reference) → is_reference r ≡ true → is_composed_reference (composed_reference r) ≡ true

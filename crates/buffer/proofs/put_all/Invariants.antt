@@ -1,0 +1,12 @@
+use Prim.Native.Nat.{◌-◌}
+use lib.ListN.{length}
+use Rattle.buffer.proofs.Looping.{Stored}
+use Rattle.buffer.proofs.put_all.Reads as reads
+use Rattle.buffer.proofs.put_all.Lts as lts
+use Rattle.buffer.proofs.put_all.Given as goal
+
+abbrev pub invariant-loop-i : goal.invariant-loop-i
+invariant-loop-i l = Stored l.initial.h l.at l.v l.h l.i
+
+abbrev pub decreases-loop-i : goal.decreases-loop-i
+decreases-loop-i l = length l.v - l.i

@@ -1,0 +1,5 @@
+use Rattle.call_join.proofs.Calls.{join_written}
+use Rattle.call_join.proofs.write_join.Goals as goal
+
+pub returns : goal.returns
+returns c = join_written _ _ _ _ _ _ _ _ _ _ _ _ _ _ _ _ _ _ _ _ _ c.draft_join-c.ensures c.write_ordered.ensures

@@ -1,0 +1,14 @@
+use Rattle.names.proofs.Walking.{told_past, told_here}
+use Rattle.names.proofs.letter_at.Reads as reads
+use Rattle.names.proofs.letter_at.Lts as lts
+use Rattle.names.proofs.letter_of.Reads as letter-of-reads
+use Rattle.text.proofs.byte_at.Reads as byte-at-reads
+use Rattle.names.proofs.letter_at.Goals as goal
+
+-- src/lib.rt:95:9
+pub returns-then-s-i : goal.returns-then-s-i
+returns-then-s-i c = told_past _ c.args.s.now c.args.i c.if-s-i.true
+
+-- src/lib.rt:83:1
+pub returns : goal.returns
+returns c = told_here _ c.args.s.now c.args.i _ _ _ _ c.byte_at-a.ensures c.byte_at-b.ensures c.byte_at-c.ensures c.letter_of.ensures

@@ -1,0 +1,20 @@
+use Rattle.names.proofs.NamePutting.{put_own, put_typed, put_some}
+use Rattle.names.proofs.put_composed.Reads as reads
+use Rattle.names.proofs.put_composed.Lts as lts
+use Rattle.buffer.proofs.least.Reads as least-reads
+use Rattle.buffer.proofs.put_bytes.Reads as put-bytes-reads
+use Rattle.names.proofs.compose_rest.Reads as compose-rest-reads
+use Rattle.names.proofs.own_form.own_front.Reads as own-front-reads
+use Rattle.names.proofs.put_composed.Goals as goal
+
+-- src/lib.rt:246:9
+pub returns-then-front-s : goal.returns-then-front-s
+returns-then-front-s c = put_own _ _ _ _ c.own_front-front.ensures c.if-front-s.true _ c.put_bytes.ensures
+
+-- src/lib.rt:252:9
+pub returns-then-n-eq0 : goal.returns-then-n-eq0
+returns-then-n-eq0 c = put_typed _ _ _ _ c.least-start.ensures _ _ c.compose_rest-n.ensures c.if-n-eq0.true _ c.put_bytes-then-n-eq0.ensures
+
+-- src/lib.rt:240:1
+pub returns : goal.returns
+returns c = put_some _ _ _ _ c.least-start.ensures _ _ c.compose_rest-n.ensures c.if-n-eq0.false

@@ -1,0 +1,18 @@
+use Rattle.query_text_heads.proofs.Bodies.{plain_categories, plain_identifiers}
+use Rattle.query_text_heads.proofs.plain.plain.Reads as reads
+use Rattle.query_text_heads.proofs.plain.plain.Lts as lts
+use Rattle.query_text_heads.proofs.adding.flag.Reads as flag-reads
+use Rattle.query_text_heads.proofs.again.Reads as again-reads
+use Rattle.query_text_heads.proofs.plain.category.Reads as category_reads
+use Rattle.query_text_heads.proofs.plain.identifier.Reads as identifier-reads
+use Rattle.query_text_heads.proofs.plain.more_pieces.Reads as more-pieces-reads
+use Rattle.query_text_pieces.proofs.category_of.Reads as category-of-reads
+use Rattle.query_text_pieces.proofs.piece_at.Reads as piece-at-reads
+use Rattle.query_text_pieces.proofs.split_at.Reads as split-at-reads
+use Rattle.query_text_heads.proofs.plain.plain.Goals as goal
+
+pub returns-in-Category : goal.returns-in-Category
+returns-in-Category c = rw c.again.ensures (plain_categories c.args.s.now c.args.at c.args.depth _ _ _ _ _ _ _ c.piece_at-p.result _ c.piece_at-p.ensures c.flag-flagged.ensures (c.category_of.ensures c.split_at-split.ensures) _ c.in-Category.is c.category-put.ensures c.more_pieces.ensures)
+
+pub returns-in-Other : goal.returns-in-Other
+returns-in-Other c = rw c.again-in-Other.ensures (plain_identifiers c.args.s.now c.args.at c.args.depth _ _ _ _ _ _ _ c.piece_at-p.result _ c.piece_at-p.ensures c.flag-flagged.ensures (c.category_of.ensures c.split_at-split.ensures) c.in-Other.is c.identifier-put.ensures c.more_pieces-in-Other.ensures)

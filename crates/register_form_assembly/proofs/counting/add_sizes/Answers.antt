@@ -1,0 +1,13 @@
+use Prim.Native.Nat.{◌-◌}
+use borrow.Author.Rules.{rules}
+use Rattle.register_form_assembly.proofs.Counts.{sized_none, sized_more, sized_all}
+use Rattle.register_form_assembly.proofs.counting.add_sizes.Goals as goal
+
+pub loop-i-init : goal.loop-i-init
+loop-i-init c = (search rules, sized_none _ _ _ _ _ _ _ c.widen-sum.ensures)
+
+pub loop-i-preserved : goal.loop-i-preserved
+loop-i-preserved c = (search rules, sized_more _ _ _ _ _ _ _ _ _ _ _ _ _ _ c.loop-i.invariant.1 c.loop-i-test.true c.widen.ensures c.get-t.ensures c.has_size-all.ensures c.widen-in-loop-i.ensures c.get.ensures c.widen-sum-in-loop-i.ensures)
+
+pub returns : goal.returns
+returns c = sized_all _ _ _ _ _ _ _ _ c.loop-i.invariant.1 c.loop-i-test.false

@@ -1,0 +1,13 @@
+use Prim.Native.Nat.{◌-◌}
+use native.Mathlib.Omega.{arith}
+use Rattle.register_form_assembly.proofs.Keepings.{paging_none, paging_more, paging_all}
+use Rattle.register_form_assembly.proofs.keeping.keep_forms.Goals as goal
+
+pub loop-page-init : goal.loop-page-init
+loop-page-init c = (omega arith, paging_none _ _ _ _ _ _ _)
+
+pub loop-page-preserved : goal.loop-page-preserved
+loop-page-preserved c = (omega arith, paging_more _ _ _ _ _ _ _ _ _ _ _ _ c.loop-page.invariant.1 _ _ _ _ _ _ _ _ _ _ _ _ c.loop-page-test.true c.widen.ensures c.get-from.ensures c.widen-in-loop-page.ensures c.get-to.ensures c.keep_pass-some.ensures c.keep_pass-count.ensures c.widen-in-loop-page-2.ensures c.put.ensures)
+
+pub returns : goal.returns
+returns c = paging_all _ _ _ _ _ _ _ _ _ _ _ _ c.loop-page.invariant.1 c.loop-page.invariant.0 c.loop-page-test.false

@@ -1,0 +1,12 @@
+use Prim.Native.Nat.{◌-◌}
+use Rattle.register_form_assembly.proofs.Coding.{terms_none, terms_more, terms_all}
+use Rattle.register_form_assembly.proofs.terms.put_terms.Goals as goal
+
+pub loop-f-init : goal.loop-f-init
+loop-f-init c = terms_none _ _ _ _ _ _
+
+pub loop-f-preserved : goal.loop-f-preserved
+loop-f-preserved c = terms_more _ _ _ _ _ _ _ _ c.loop-f.invariant _ _ _ _ _ c.loop-f-test.true c.widen-k.ensures c.byte_at-group.ensures c.code_at.ensures c.code_by.ensures c.put_term.ensures
+
+pub returns : goal.returns
+returns c = terms_all _ _ _ _ _ _ _ _ c.loop-f.invariant c.loop-f-test.false

@@ -1,0 +1,14 @@
+use Rattle.register_text_draft.proofs.Filling.{names_pushed}
+use Rattle.register_text_draft.proofs.texts.push_names.Reads as reads
+use Rattle.register_text_draft.proofs.texts.push_names.Lts as lts
+use Rattle.names.proofs.put_composed.Reads as put-composed-reads
+use Rattle.register_text_draft.proofs.texts.byte.Reads as byte-Reads
+use Rattle.register_text_draft.proofs.texts.end_text.Reads as end-text-reads
+use Rattle.tables.proofs.narrow.Reads as narrow-reads
+use Rattle.tables.proofs.put_byte.Reads as put-byte-reads
+use Rattle.tables.proofs.widen.Reads as widen-reads
+use Rattle.register_text_draft.proofs.texts.push_names.Goals as goal
+
+-- src/texts.rt:96:1
+pub returns : goal.returns
+returns c = names_pushed c.args.heap.now c.args.starts.now c.args.lens.now c.args.m c.args.at c.args.space.now c.args.name.now _ c.widen-first.ensures _ _ c.put_composed.ensures _ _ c.narrow.ensures c.widen-a.ensures _ c.byte.ensures _ c.put_byte.ensures _ _ c.put_composed-2.ensures _ _ c.narrow-2.ensures c.widen-b.ensures _ _ _ c.end_text.ensures

@@ -1,0 +1,14 @@
+use Rattle.register_text_draft.proofs.Filling.{text_pushed}
+use Rattle.register_text_draft.proofs.texts.push_text.Reads as reads
+use Rattle.register_text_draft.proofs.texts.push_text.Lts as lts
+use Rattle.register_text_draft.proofs.texts.byte.Reads as byte-Reads
+use Rattle.register_text_draft.proofs.texts.copy.Reads as copy-reads
+use Rattle.register_text_draft.proofs.texts.end_text.Reads as end-text-reads
+use Rattle.tables.proofs.narrow.Reads as narrow-reads
+use Rattle.tables.proofs.put_byte.Reads as put-byte-reads
+use Rattle.tables.proofs.widen.Reads as widen-reads
+use Rattle.register_text_draft.proofs.texts.push_text.Goals as goal
+
+-- src/texts.rt:75:1
+pub returns : goal.returns
+returns c = text_pushed c.args.heap.now c.args.starts.now c.args.lens.now c.args.m c.args.at c.args.space.now c.args.name.now _ c.widen-first.ensures _ _ _ _ c.narrow.ensures c.widen-a.ensures c.narrow-2.ensures c.widen-b.ensures _ c.byte.ensures _ _ _ c.put_byte.ensures c.copy.ensures c.copy-2.ensures _ _ _ c.end_text.ensures

@@ -1,0 +1,16 @@
+use Rattle.register_text_entries.proofs.Copying.{named_put, typed_put}
+use Rattle.register_text_entries.proofs.composing.put_second.Reads as reads
+use Rattle.register_text_entries.proofs.composing.put_second.Lts as lts
+use Rattle.buffer.proofs.put_bytes.Reads as put-bytes-reads
+use Rattle.names.proofs.putting.put_name.Reads as put-name-reads
+use Rattle.register_text_entries.proofs.composing.is_named.Reads as is-named-reads
+use Rattle.tables.proofs.widen.Reads as widen-reads
+use Rattle.register_text_entries.proofs.composing.put_second.Goals as goal
+
+-- src/composing.rt:127:1
+pub returns-then-is_named : goal.returns-then-is_named
+returns-then-is_named c = λ t. named_put _ _ _ _ _ _ c.is_named.ensures c.if-is_named.true _ (c.put_name.ensures t)
+
+-- src/composing.rt:127:1
+pub returns-else-is_named : goal.returns-else-is_named
+returns-else-is_named c = λ t. typed_put _ _ _ _ _ _ c.is_named.ensures c.if-is_named.false _ c.widen.ensures c.put_bytes.ensures

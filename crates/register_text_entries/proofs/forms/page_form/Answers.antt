@@ -1,0 +1,18 @@
+use Rattle.register_text_entries.proofs.Ways.{forms}
+use borrow.Author.Rules.{rules}
+use Rattle.register_text_entries.proofs.forms.page_form.Goals as goal
+
+-- lost: slice-aggregate-framed-at : tie.Need-slice-aggregate-framed-at
+-- slice-aggregate-framed-at c = search rules
+
+-- lost: slice-aggregate-framed-at-2 : tie.Need-slice-aggregate-framed-at-2
+-- slice-aggregate-framed-at-2 c = search rules
+
+pub returns-in_default : goal.returns-in_default
+returns-in_default c = search forms
+
+pub returns-in_default-quoted_at : goal.returns-in_default-quoted_at
+returns-in_default-quoted_at c = search forms
+
+pub returns : goal.returns
+returns c = search forms

@@ -1,0 +1,28 @@
+use Prim.Native.Nat.{◌-◌}
+use native.Mathlib.Omega.{arith}
+use Rattle.register_text_entries.proofs.Reading.{going_start, goings}
+use Rattle.register_text_entries.proofs.read_all.Goals as goal
+
+pub loop-inner-init : goal.loop-inner-init
+loop-inner-init c = going_start _ _
+
+pub shape_of-t-then-is_broken : goal.shape_of-t-then-is_broken
+shape_of-t-then-is_broken c = c.loop-inner.invariant.size
+
+pub returns-then-is_broken : goal.returns-then-is_broken
+returns-then-is_broken c = search goings
+
+pub overflow_add-n : goal.overflow_add-n
+overflow_add-n c = omega arith
+
+pub loop-inner-smaller : goal.loop-inner-smaller
+loop-inner-smaller c = search goings
+
+pub loop-inner-preserved : goal.loop-inner-preserved
+loop-inner-preserved c = search goings
+
+pub shape_of-t : goal.shape_of-t
+shape_of-t c = c.loop-inner.invariant.size
+
+pub returns : goal.returns
+returns c = search goings

@@ -1,0 +1,11 @@
+use mathlib.Core.Path.{◌∙◌}
+use Rattle.register_text_entries.specs.Table.{entry_at}
+use Rattle.register_text_entries.proofs.Cells.{row_past}
+use Rattle.register_text_entries.proofs.table.item_at.Goals as goal
+
+pub returns-then-t-i : goal.returns-then-t-i
+returns-then-t-i c s = c.item_from.ensures s ∙ row_past _ _ s c.if-t-i.true
+
+pub returns : goal.returns
+unfolding entry_at
+returns c s = c.item_from-2.ensures s ∙ rw (c.num_at.ensures, c.num_at-2.ensures, c.num_at-3.ensures, c.num_at-4.ensures, c.num_at-5.ensures)

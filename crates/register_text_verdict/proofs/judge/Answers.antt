@@ -1,0 +1,5 @@
+use Rattle.register_text_verdict.proofs.Judging.{judge_read}
+use Rattle.register_text_verdict.proofs.judge.Goals as goal
+
+pub returns : goal.returns
+returns c room typed p = judge_read _ _ _ _ _ _ _ _ _ c.collect-np.ensures c.collect-ng.ensures room typed p _ c.judge_rows.ensures

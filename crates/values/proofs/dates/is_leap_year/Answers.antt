@@ -1,0 +1,6 @@
+use borrow.Author.Rules.{rules}
+use Rattle.values.proofs.Days.{calendar}
+use Rattle.values.proofs.dates.is_leap_year.Goals as goal
+
+pub returns : goal.returns
+returns c = search (calendar, rules)
