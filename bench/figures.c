@@ -80,7 +80,7 @@ void print_figures(const struct stacks *stacks) {
     figure_of_stacks(stacks);
     figures_before();
     printf("\n%d figures missed", missed);
-    if (!is_built(FIRST)) printf("; the first handover is not in this run (FIRST=1)");
-    if (!is_before_built()) printf("; the library before it composed names is not in this run (BEFORE=1)");
+    if (!is_built(FIRST)) printf("; the first handover is not in this run (FIRST=PATH)");
+    if (!is_before_built()) printf("; the library before it composed names is not in this run (BEFORE=PATH)");
     puts(".");
 }

@@ -1,34 +1,27 @@
 -- The first demand of the calls, from their contracts: what is refused, and what is left.
-use Prim.Native.Nat.{ℕ, zero, suc, ◌≤◌, ◌<◌}
+use Prim.Native.Nat.{ℕ, zero, suc, ◌<◌}
 use mathlib.Core.Path.{◌≡◌, refl, sym, ap, ◌∙◌, subst}
 use mathlib.Core.Bool.{Bool, true, false, cond, not}
-use mathlib.Core.List.{List, [], ◌∷◌, ◌++◌, map}
+use mathlib.Core.List.{List, ◌++◌, map}
 use mathlib.Core.Option.{Option, some, none}
 use native.Mathlib.Omega.{arith}
-use borrow.Author.Tests.{le-ltb}
 use lib.Dec.{ltb}
-use lib.IntN.{ℤ, pos, neg_ℤ, pos-ne-negsuc}
-use lib.ListN.{length, get_or, drop, length-map, length-append, length-drop, get_or-append, get_or-map}
-use lib.Seq.{drop_at}
+use lib.IntN.{ℤ, pos, pos-ne-negsuc}
+use lib.ListN.{length, drop, length-map}
 use Rattle.text.specs.Bytes.{Bytes}
 use Rattle.text.specs.Table.{bit}
-use Rattle.language.specs.Answer.{Answer, refused, accepted, accepted_of, or_refuse, left_in, Check, and_then}
-use Rattle.language.specs.Register.{Page, Register, Typing, kinds_of}
-use Rattle.language.specs.RegisterText.{empty_page, read_register}
+use Rattle.language.specs.Answer.{Answer, refused, accepted, or_refuse, left_in, Check, and_then}
+use Rattle.language.specs.Register.{Register, Typing, kinds_of}
+use Rattle.language.specs.RegisterText.{read_register}
 use Rattle.language.specs.Surface.{Query}
 use Rattle.language.specs.QueryText.{read_text}
 use Rattle.language.specs.Core.{Core}
-use Rattle.language.specs.Elaboration.{elaborate, fit}
-use Rattle.language.specs.Semantics.{Mixed, Q, mismatch, selects, run}
-use Rattle.language.specs.Direct.{meaning, direct_marks}
-use Rattle.language.specs.Agreement.{answer_agrees, text_agrees}
+use Rattle.language.specs.Elaboration.{fit}
+use Rattle.language.specs.Semantics.{mismatch, selects, run}
 use Rattle.language.specs.Calls.{core_of}
-use Rattle.language.proofs.Demand.{fitted_is, own_kinds, text_agreement}
-use Rattle.language.proofs.Mixing.{mixed_free}
 use Rattle.language.specs.Rules.{is_within_limits, is_register}
 use Rattle.language.specs.Joining.{join, kinds_clash}
 use Rattle.language.proofs.Accepted.{accepted_register}
-use Rattle.language.proofs.Rules.{register_rules}
 use Rattle.language.proofs.Joined.{join_register}
 use Rattle.register_form.specs.Form.{register_size, form_of, placed, stored, held_register}
 use Rattle.register_form.proofs.Forms.{reads_back, held_is}
@@ -42,8 +35,8 @@ use Rattle.query_core.proofs.Forms.{form_held}
 use Rattle.query_core.proofs.Elaborated.{fitted_core}
 use Rattle.language.proofs.Members.{and_true}
 use Rattle.call_answers.specs.Calls.{register_call, joined, join_call, written_in, query_call, read_call, fit_call, ask_call, marked, marks_in, returned, RegisterCall, JoinCall, QueryCall, ReadCall, FitCall, AskCall}
-use Rattle.call_answers.specs.Demands.{lowest, rises, register_table, join_table, query_table, read_table, fit_call_table, ask_table, Judged, FirstDemand, LeftForm, LeftRegister, LeftJoin, LeftCore, LeftQuery, LeftTree, LeftFit, LeftMarks, SecondDemand, ThirdDemand}
-use Rattle.call_answers.proofs.Tables.{refusal_of, register_refuses, join_refuses, query_refuses, read_refuses, fit_refuses, ask_refuses, register_rises, query_rises, ask_rises, lowest_between, join_few, fit_few}
+use Rattle.call_answers.specs.Demands.{lowest, rises, register_table, join_table, query_table, read_table, fit_call_table, ask_table, Judged, FirstDemand, LeftForm, LeftRegister, LeftJoin, LeftCore, LeftQuery, LeftTree, LeftFit, LeftMarks}
+use Rattle.call_answers.proofs.Tables.{refusal_of, register_refuses, join_refuses, query_refuses, read_refuses, fit_refuses, ask_refuses, register_rises, query_rises, lowest_between, join_few, fit_few}
 
 -- the first demand, by what a call answers
 module _ {A : Type 0} (f : A → ℕ) (table : List Check) (Left : ℕ → Bytes → Type 0) where

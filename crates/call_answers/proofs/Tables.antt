@@ -1,8 +1,8 @@
 -- Each call refuses by the first of its table whose condition holds; of the three calls of document 01 the tables are in the order of
 -- their numbers.
-use Prim.Native.Nat.{ℕ, zero, suc, ◌≤◌, ◌<◌}
+use Prim.Native.Nat.{ℕ, ◌≤◌, ◌<◌}
 use mathlib.Core.Path.{◌≡◌, refl, sym, ap, ◌∙◌}
-use mathlib.Core.Bool.{Bool, true, false, cond, ◌&&◌, not}
+use mathlib.Core.Bool.{Bool, true, false, cond, not}
 use mathlib.Core.List.{List, [], ◌∷◌, ◌++◌, map}
 use mathlib.Core.Option.{Option, some, none}
 use native.Mathlib.Omega.{arith}
@@ -11,7 +11,7 @@ use lib.Dec.{ltb}
 use lib.ListN.{length, drop}
 use Rattle.text.specs.Bytes.{Bytes, any}
 use Rattle.language.specs.Answer.{Answer, refused, accepted, accepted_of, or_refuse, Check, ◌if◌, judge, found, and_then}
-use Rattle.language.specs.Register.{Register, Typing, kinds_of}
+use Rattle.language.specs.Register.{Register, kinds_of}
 use Rattle.language.specs.RegisterText.{Entry, entries, composed_entries, register_of, read_register}
 use Rattle.language.specs.RegisterText as RegisterText
 use Rattle.language.specs.Surface.{Query, properties_of, composed_query}
@@ -26,7 +26,7 @@ use Rattle.language.proofs.Members.{and_true}
 use Rattle.language.specs.Rules.{is_within_limits}
 use Rattle.language.specs.Joining.{join, kinds_clash}
 use Rattle.register_form.specs.Form.{register_size, placed, stored, held_register}
-use Rattle.query_tree.specs.Form.{tree_size, tree_of, held_tree}
+use Rattle.query_tree.specs.Form.{tree_size, held_tree}
 use Rattle.query_core.specs.Held.{query_size, held_query}
 use Rattle.query_core.specs.Form.{query_of}
 use Rattle.call_answers.specs.Calls.{register_call, joined, join_call, written_in, query_call, read_call, fit_call, ask_call}

@@ -4,7 +4,7 @@ use Rattle.std.proofs.Math.Option.{Option, some, none}
 use Rattle.text.specs.Bytes.{Bytes, any}
 use Rattle.text.specs.Table.{bit}
 use Rattle.values.specs.Names.{Identifier}
-use Rattle.language.specs.Answer.{Answer, accepted, accepted_of, or_refuse, and_then, Check, ◌if◌, ◌>>=◌, found}
+use Rattle.language.specs.Answer.{accepted, accepted_of, or_refuse, and_then, Check, ◌if◌, found}
 use Rattle.language.specs.Register.{Page, Register, Typing, kinds_of}
 use Rattle.language.specs.RegisterText.{entries, empty_page, read_register}
 use Rattle.language.specs.RegisterText as RegisterText

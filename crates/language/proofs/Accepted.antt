@@ -1,5 +1,5 @@
 -- What an accepted text gives is a register.
-use Prim.Native.Nat.{ℕ, suc, ◌+◌, ◌≤◌}
+use Prim.Native.Nat.{ℕ, ◌+◌, ◌≤◌}
 use mathlib.Core.Path.{◌≡◌, refl, subst}
 use mathlib.Core.Bool.{Bool, true, false, cond, not, ◌&&◌, ◌||◌}
 use mathlib.Core.List.{List, [], ◌∷◌}
@@ -7,7 +7,7 @@ use mathlib.Core.Option.{Option, some, none}
 use native.Mathlib.Omega.{arith}
 use lib.Dec.{ltb}
 use lib.ListN.{length}
-use borrow.Author.Tests.{ltb-false, lt-ltb, le-leb, not-false}
+use borrow.Author.Tests.{ltb-false, le-leb, not-false}
 use Rattle.text.specs.Bytes.{Bytes, same, any, all}
 use Rattle.text.proofs.Laws.{same_eq, same_refl}
 use Rattle.values.specs.declared.Kind.{Kind}

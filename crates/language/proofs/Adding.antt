@@ -7,13 +7,11 @@ use native.Mathlib.Omega.{arith}
 use lib.ListN.{length, length-append}
 use borrow.Author.Tests.{not-true}
 use Rattle.text.specs.Bytes.{Bytes, same, any, all}
-use Rattle.text.proofs.Laws.{any_append, all_append, same_eq, same_refl}
-use Rattle.values.specs.Values.{same_value}
-use Rattle.values.proofs.Sameness.{value_eq, value_refl}
+use Rattle.text.proofs.Laws.{any_append, all_append}
 use Rattle.language.specs.Register.{Held, distinct}
 use Rattle.language.specs.RegisterText.{add_category, same_held, add_held}
 use Rattle.language.specs.Rules.{total}
-use Rattle.language.proofs.Members.{and_true, or_false, both_true, by_test}
+use Rattle.language.proofs.Members.{and_true, or_false, by_test}
 
 -- An element behind a list that has none like it.
 unfoldable pub added : {A : Type 0} → (A → A → Bool) → A → List A → List A

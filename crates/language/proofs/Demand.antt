@@ -1,7 +1,7 @@
 -- The third demand, as far as it is about definitions: texts, registers and marks.
 use Prim.Native.Nat.{ℕ}
-use mathlib.Core.Path.{◌≡◌, refl, sym, ap, ◌∙◌, subst}
-use mathlib.Core.Bool.{Bool, true, false, cond, ◌&&◌}
+use mathlib.Core.Path.{◌≡◌, refl, ap}
+use mathlib.Core.Bool.{Bool, true, false, cond}
 use mathlib.Core.List.{List, [], ◌∷◌, map}
 use mathlib.Core.Option.{Option, some, none}
 use native.Mathlib.Omega.{arith}
@@ -14,14 +14,13 @@ use Rattle.language.specs.Surface.{Query, properties_of}
 use Rattle.language.specs.QueryText.{read_text}
 use Rattle.language.specs.Core.{Core, nodes}
 use Rattle.language.specs.Elaboration.{elaborate, is_undeclared, fit}
-use Rattle.language.specs.Semantics.{run, well_typed}
-use Rattle.language.specs.Direct.{means, means_answer, meaning, direct_marks}
+use Rattle.language.specs.Semantics.{run}
+use Rattle.language.specs.Direct.{means_answer, meaning, direct_marks}
 use Rattle.language.specs.Agreement.{agree, kinds_agree, answer_agrees, text_agrees}
 use Rattle.language.specs.Calls.{core_of}
 use Rattle.language.proofs.Members.{both_true}
 use Rattle.values.proofs.Sameness.{kind_refl}
 use Rattle.language.proofs.Agreement.{agreement}
-use Rattle.language.proofs.Typed.{elaborated_typed}
 
 -- an accepted query was elaborated
 pub fitted_is : (Γ : Typing) (q : Query) (c : Core) → fit Γ q ≡ accepted c → elaborate q Γ ≡ some c

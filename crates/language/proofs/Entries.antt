@@ -5,7 +5,7 @@ use mathlib.Core.List.{List, [], ◌∷◌}
 use mathlib.Core.Option.{Option, some, none}
 use native.Mathlib.Omega.{arith}
 use lib.ListN.{length, drop, length-take, length-drop}
-use Rattle.text.specs.Bytes.{Bytes, bytes, span, front, behind, starts, after}
+use Rattle.text.specs.Bytes.{Bytes, bytes, span, behind, starts, after}
 use Rattle.text.specs.Class.{is_quotable}
 use Rattle.values.specs.declared.Kind.{Kind}
 use Rattle.values.specs.Values.{kind_word}

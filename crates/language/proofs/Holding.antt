@@ -1,14 +1,14 @@
 -- Laws of `holds` and `leads`.
-use mathlib.Core.Path.{◌≡◌, refl, sym, ap, ap₂, ◌∙◌, subst}
-use mathlib.Core.Bool.{Bool, true, false, cond, not, ◌&&◌, ◌||◌}
-use mathlib.Core.List.{List, [], ◌∷◌, Memᴰ}
-use Rattle.text.specs.Bytes.{Bytes, same, any}
+use mathlib.Core.Path.{◌≡◌, refl, sym, ap, ◌∙◌}
+use mathlib.Core.Bool.{Bool, true, false, not, ◌&&◌, ◌||◌}
+use mathlib.Core.List.{Memᴰ}
+use Rattle.text.specs.Bytes.{Bytes, same}
 use Rattle.values.specs.declared.Kind.{Kind}
-use Rattle.values.specs.Names.{Identifier, same_identifier}
+use Rattle.values.specs.Names.{same_identifier}
 use Rattle.values.specs.Values.{Value, plain, link, kind_of, same_kind}
 use Rattle.language.specs.Register.{Held, Page, Register, holds, leads}
 use Rattle.language.specs.Semantics.{some_other}
-use Rattle.language.proofs.Members.{any_at, any_same, any_none, any_or, by_test}
+use Rattle.language.proofs.Members.{any_at, any_same, any_none, any_or}
 
 -- two tests that answer alike on the values that a page holds under x
 pub holds_same : (x : Bytes) (f g : Value → Bool) (p : Page)

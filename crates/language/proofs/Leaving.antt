@@ -1,21 +1,20 @@
 -- Every reader of the query text leaves less of it, or no more.
-use Prim.Native.Nat.{ℕ, zero, suc, ◌+◌, ◌*◌, ◌≤◌, ◌<◌}
-use mathlib.Core.Path.{◌≡◌, refl, sym, ap, ◌∙◌}
-use mathlib.Core.Bool.{Bool, true, false, cond}
+use Prim.Native.Nat.{ℕ, zero, suc, ◌+◌, ◌≤◌, ◌<◌}
+use mathlib.Core.Path.{◌≡◌, refl}
+use mathlib.Core.Bool.{Bool, true, false}
 use mathlib.Core.List.{List, [], ◌∷◌}
 use mathlib.Core.Option.{Option, some, none}
 use native.Mathlib.Omega.{arith}
-use native.Mathlib.Nat.{add-suc}
 use lib.ListN.{length, take, drop, length-drop}
-use Rattle.text.specs.Bytes.{Bytes, bytes, all, is_blank, front, behind, trim, starts, after}
+use Rattle.text.specs.Bytes.{Bytes, bytes, all, is_blank, behind, starts, after}
 use Rattle.text.specs.Class.{is_free}
 use Rattle.text.proofs.Laws.{starts_fits}
 use Rattle.values.specs.Values.{map_option}
-use Rattle.language.specs.Answer.{◌>>=◌, found, only_if}
+use Rattle.language.specs.Answer.{found, only_if}
 use Rattle.language.specs.Comparators.{word, typed, first_typed}
 use Rattle.language.specs.Surface.{Chain}
-use Rattle.language.specs.RawQuery.{Piece, RawQuery, RawAlternatives, token, comparator, piece_at, ends_head, head_length, split_dots, trim_names, pieces_within, read_pieces, bracket_of, plain_body, closed_inner, closed_group, closed_body, next_term, query_within, or_within, conjunction_within, and_within, term_within, body_within, alternatives_within, more_within, alternative_within, enough, read_query, read_or, read_conjunction, read_and, read_term, read_body, read_alternatives, read_more, read_alternative}
-use Rattle.language.proofs.Options.{OnSome, on_bind, on_found, same_bind, same_found, on_weaker, settled}
+use Rattle.language.specs.RawQuery.{Piece, RawQuery, RawAlternatives, token, comparator, piece_at, ends_head, head_length, split_dots, trim_names, pieces_within, read_pieces, bracket_of, plain_body, closed_inner, closed_group, closed_body, next_term, query_within, or_within, conjunction_within, and_within, term_within, body_within, alternatives_within, more_within, alternative_within}
+use Rattle.language.proofs.Options.{OnSome, on_bind, on_found, on_weaker}
 use Rattle.language.proofs.Shorter.{Less, NoMore, after_leaves, behind_leaves}
 
 abbrev pub Behind : Bytes → Bytes → Type 0

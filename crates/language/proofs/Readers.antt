@@ -1,23 +1,19 @@
 -- The readers of the query text without their bounds: with enough, more changes nothing, and each reader has the equation
 -- that its definition writes.
-use Prim.Native.Nat.{ℕ, zero, suc, ◌+◌, ◌*◌, ◌≤◌, ◌<◌}
-use mathlib.Core.Path.{◌≡◌, refl, sym, ap, ◌∙◌}
-use mathlib.Core.Bool.{Bool, true, false, cond}
-use mathlib.Core.List.{List, [], ◌∷◌}
-use mathlib.Core.Option.{Option, some, none}
+use Prim.Native.Nat.{ℕ, zero, suc, ◌+◌, ◌*◌, ◌<◌}
+use mathlib.Core.Path.{◌≡◌, ap, ◌∙◌}
+use mathlib.Core.List.{[], ◌∷◌}
+use mathlib.Core.Option.{some}
 use native.Mathlib.Omega.{arith}
 use native.Mathlib.Nat.{add-suc}
-use lib.ListN.{length, take, drop, length-drop}
-use Rattle.text.specs.Bytes.{Bytes, bytes, all, is_blank, front, behind, trim, starts, after}
+use lib.ListN.{length, take, drop}
+use Rattle.text.specs.Bytes.{Bytes, bytes, all, after}
 use Rattle.text.specs.Class.{is_free}
-use Rattle.values.specs.Values.{map_option}
 use Rattle.language.specs.Answer.{◌>>=◌, found, only_if}
-use Rattle.language.specs.Surface.{Chain}
-use Rattle.language.specs.RawQuery.{Piece, RawQuery, RawAlternatives, token, comparator, piece_at, ends_head, head_length, split_dots, trim_names, pieces_within, read_pieces, bracket_of, plain_body, closed_inner, closed_group, closed_body, next_term, query_within, or_within, conjunction_within, and_within, term_within, body_within, alternatives_within, more_within, alternative_within, enough, read_query, read_or, read_conjunction, read_and, read_term, read_body, read_alternatives, read_more, read_alternative}
-use Rattle.language.specs.declared.SurfaceComparator.{SurfaceComparator}
-use Rattle.language.proofs.Options.{OnSome, on_bind, on_found, same_bind, same_found, on_weaker, settled}
-use Rattle.language.proofs.Leaving.{Behind, token_leaves, piece_leaves, head_leaves, drop_leaves, next_leaves, query_leaves, or_leaves, conjunction_leaves, and_leaves, term_leaves, bracket_leaves, alternatives_leave, more_leaves, alternative_leaves}
-use Rattle.language.proofs.Shorter.{Less, NoMore, after_leaves, behind_leaves, of_found}
+use Rattle.language.specs.RawQuery.{RawQuery, RawAlternatives, token, piece_at, head_length, split_dots, trim_names, pieces_within, read_pieces, plain_body, closed_inner, closed_group, closed_body, next_term, query_within, or_within, conjunction_within, and_within, term_within, body_within, alternatives_within, more_within, alternative_within, read_query, read_or, read_conjunction, read_and, read_term, read_body, read_alternatives, read_more, read_alternative}
+use Rattle.language.proofs.Options.{OnSome, same_bind, same_found, settled}
+use Rattle.language.proofs.Leaving.{Behind, token_leaves, piece_leaves, head_leaves, drop_leaves, next_leaves, query_leaves, conjunction_leaves, term_leaves, alternative_leaves}
+use Rattle.language.proofs.Shorter.{Less, NoMore, after_leaves}
 
 pieces_step : (n : ℕ) (s : Bytes) → length s < n → pieces_within (suc n) s ≡ pieces_within n s
 unfolding pieces_within

@@ -1,12 +1,10 @@
 -- Every reader of a text leaves less of it.
-use Prim.Native.Nat.{ℕ, zero, suc, ◌+◌, ◌≤◌, ◌<◌}
-use mathlib.Core.Path.{◌≡◌, refl, sym, ap, ◌∙◌}
+use Prim.Native.Nat.{ℕ, ◌+◌, ◌≤◌, ◌<◌}
+use mathlib.Core.Path.{◌≡◌, refl}
 use mathlib.Core.Bool.{Bool, true, false, cond}
-use mathlib.Core.List.{List, [], ◌∷◌}
 use mathlib.Core.Option.{Option, some, none}
 use native.Mathlib.Omega.{arith}
-use lib.ListN.{length, take, drop, length-drop}
-use lib.Dec.{eqb}
+use lib.ListN.{length, drop, length-drop}
 use Rattle.text.specs.Bytes.{Bytes, span, behind, starts, after}
 use Rattle.text.proofs.Laws.{starts_fits}
 use Rattle.language.specs.Answer.{found}

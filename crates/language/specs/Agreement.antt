@@ -1,6 +1,6 @@
 -- When a query that was fitted to one register may be run on another. The third demand's grant: "each property it names has
 -- the same kind in both, or isn't declared in the second".
-use Rattle.std.specs.Prelude.{Bool, true, false, List}
+use Rattle.std.specs.Prelude.{Bool, true}
 use Rattle.std.proofs.Math.Option.{Option, some, none}
 use Rattle.text.specs.Bytes.{Bytes, all}
 use Rattle.values.specs.declared.Kind.{Kind}

@@ -1,11 +1,11 @@
 -- Two registers as one. Request 9, "Two regions join".
-use Rattle.std.specs.Prelude.{Bool, true, false, cond, not, List, [], ◌∷◌, ◌++◌, map}
+use Rattle.std.specs.Prelude.{Bool, false, cond, not, List, [], ◌∷◌, ◌++◌, map}
 use Rattle.std.proofs.Math.Option.{Option, some, none}
-use Rattle.text.specs.Bytes.{Bytes, same, any}
+use Rattle.text.specs.Bytes.{same, any}
 use Rattle.values.specs.declared.Kind.{Kind}
 use Rattle.language.specs.Answer.{found}
 use Rattle.values.specs.Values.{same_kind}
-use Rattle.language.specs.Register.{Property, Page, Register, kinds_of, same_property, same_page}
+use Rattle.language.specs.Register.{Page, Register, kinds_of, same_property, same_page}
 use Rattle.language.specs.RegisterText.{same_held}
 
 -- The register with no properties and no pages.

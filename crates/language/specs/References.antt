@@ -1,7 +1,7 @@
 -- How an identifier stands to a reference with a comparator: thesis 5.3.1, with document 01's decisions. It is asked of a page's own
 -- identifier and of the links that a page holds.
 use Rattle.std.specs.Prelude.{Bool, true, false, not, ◌&&◌, []}
-use Rattle.std.proofs.Math.Option.{Option, some, none}
+use Rattle.std.proofs.Math.Option.{Option, some}
 use Rattle.text.specs.Bytes.{Bytes, bytes, order_of, same}
 use Rattle.text.specs.declared.Order.{Order}
 use Rattle.values.specs.Names.{Identifier, Reference, bare, qualified}

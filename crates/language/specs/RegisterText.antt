@@ -1,14 +1,14 @@
 -- The register text: bytes to a register, or the lowest of 1 to 7. Document 01, "The register text".
-use Rattle.std.specs.Prelude.{ℕ, zero, suc, ◌+◌, Bool, true, false, cond, not, ◌&&◌, ◌||◌, List, [], ◌∷◌, ◌++◌, map, ltb, length, drop}
+use Rattle.std.specs.Prelude.{ℕ, zero, suc, ◌+◌, Bool, true, false, cond, not, ◌&&◌, ◌||◌, List, [], ◌∷◌, map, ltb, length, drop}
 use Rattle.std.proofs.Math.Option.{Option, some, none}
 use Rattle.text.specs.Bytes.{Bytes, bytes, same, any, front, behind, after}
 use Rattle.text.specs.Class.{is_quotable}
 use Rattle.values.specs.declared.Kind.{Kind}
 use Rattle.names.specs.Names.{composed_name, is_name, is_property_name, is_namespace}
-use Rattle.values.specs.Names.{Identifier, same_identifier, is_value}
+use Rattle.values.specs.Names.{is_value}
 use Rattle.values.specs.Answers.{kind_at}
-use Rattle.values.specs.Values.{Value, kind_word, map_option, read_value, same_value}
-use Rattle.language.specs.Answer.{Answer, refused, accepted, Check, ◌if◌, judge, ◌>>=◌, found}
+use Rattle.values.specs.Values.{Value, kind_word, read_value, same_value}
+use Rattle.language.specs.Answer.{Answer, refused, Check, ◌if◌, judge, ◌>>=◌, found}
 use Rattle.language.specs.Register.{Property, Held, Page, Register, kind_among}
 
 -- The parts of the text in their order. A page form is `page`, its inner forms, `close`.

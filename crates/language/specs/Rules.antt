@@ -1,12 +1,12 @@
 -- What a register is; its names are composed. Request 9: "From now on a register is anything that keeps the rules behind 3 to 6 and is within the limits,
 -- whether or not one text gives it, and counts as accepted".
-use Rattle.std.specs.Prelude.{ℕ, ◌+◌, Bool, true, false, ◌&&◌, List, [], ◌∷◌, leb, length}
-use Rattle.text.specs.Bytes.{Bytes, same, all}
+use Rattle.std.specs.Prelude.{ℕ, ◌+◌, Bool, ◌&&◌, List, [], ◌∷◌, leb, length}
+use Rattle.text.specs.Bytes.{same, all}
 use Rattle.names.specs.Names.{is_composed_name, is_composed_property_name, is_composed_namespace}
 use Rattle.values.specs.Names.{Identifier, is_value}
-use Rattle.values.specs.Values.{Constant, scalar, string, Value, plain, link, in_range}
+use Rattle.values.specs.Values.{scalar, string, Value, plain, link, in_range}
 use Rattle.values.specs.Spelling.{spelling}
-use Rattle.language.specs.Register.{Property, Held, Page, Register, kinds_hold, distinct, same_property, same_page}
+use Rattle.language.specs.Register.{Page, Register, kinds_hold, distinct, same_property, same_page}
 use Rattle.language.specs.RegisterText.{same_held}
 
 unfoldable pub is_identifier : Identifier → Bool

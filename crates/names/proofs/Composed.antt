@@ -1,7 +1,7 @@
 -- The composed form of a name, as readers and writers of names use it.
-use Prim.Native.Nat.{ℕ, suc, ◌+◌, ◌≤◌, ◌<◌}
+use Prim.Native.Nat.{ℕ, suc, ◌≤◌, ◌<◌}
 use mathlib.Core.Path.{◌≡◌, refl, sym, ap, ◌∙◌}
-use mathlib.Core.Bool.{Bool, true, false, cond, not, ◌&&◌, ◌||◌, false≢true, and-eq-true_iff}
+use mathlib.Core.Bool.{Bool, true, false, cond, ◌||◌, false≢true, and-eq-true_iff}
 use mathlib.Core.List.{List, [], ◌∷◌}
 use mathlib.Core.Option.{Option, some, none}
 use native.Mathlib.Nat.{zero-add}
@@ -18,7 +18,7 @@ use Rattle.names.proofs.OwnForm.{letter_high}
 use Rattle.names.specs.Steps.{is_letter_byte, length_after}
 use Rattle.names.proofs.Reading.{Reading, end, plain, pair, reading, paired}
 use Rattle.names.proofs.Composing.{composed_twice, equivalent_composed, form}
-use Rattle.names.proofs.Naming.{Shaped, shaped, composed_long}
+use Rattle.names.proofs.Naming.{shaped, composed_long}
 use Rattle.names.proofs.Keeping.{Kept, nothing, same, fewer, composed_keeps, kept_length, composed_name_lem, composed_property_name}
 use Rattle.names.proofs.Ascii.{is_ascii, plain_composed, ascii_composed}
 

@@ -1,19 +1,16 @@
 -- What composing keeps: a composed name keeps the name rule and is no longer than the typed one.
-use Prim.Native.Nat.{ℕ, zero, suc, ◌+◌, ◌-◌, ◌/◌, ◌%◌, ◌≤◌}
+use Prim.Native.Nat.{ℕ, suc, ◌+◌, ◌-◌, ◌/◌, ◌%◌, ◌≤◌}
 use mathlib.Core.Path.{◌≡◌, refl, sym, ap, ◌∙◌}
-use mathlib.Core.Bool.{Bool, true, false, cond, not, ◌&&◌, false≢true, and-eq-true_iff, and-false}
+use mathlib.Core.Bool.{Bool, true, not, ◌&&◌, and-eq-true_iff}
 use mathlib.Core.List.{List, [], ◌∷◌, ◌++◌}
-use mathlib.Core.Option.{Option, some, none}
+use mathlib.Core.Option.{some}
 use native.Mathlib.Omega.{arith}
-use lib.Dec.{eqb, ltb}
 use lib.ListN.{length, get_or}
-use borrow.Author.Tests.{eq-eqb, ne_eqb, lt-ltb}
-use Rattle.text.specs.Bytes.{Bytes, same as same_bytes, any, all, is_blank}
-use Rattle.text.proofs.Laws.{same_eq, same_refl}
+use borrow.Author.Tests.{ne_eqb}
+use Rattle.text.specs.Bytes.{Bytes, any, all, is_blank}
 use Rattle.text.specs.Class.{one_of, is_other}
 use Rattle.names.specs.Codes.{pair_code, encode, write}
-use Rattle.names.specs.Names.{composed, is_some, has_name_shape, is_name, is_property_name, is_form, is_composed_name, first, last}
-use Rattle.names.specs.Steps.{length_after, name_length}
+use Rattle.names.specs.Names.{composed, is_some, has_name_shape, is_name, is_property_name, first, last}
 use Rattle.names.proofs.Entries.{composition_is, ranges}
 use Rattle.names.proofs.Reading.{Reading, end, plain, pair, reading, plain_range, mark_range, wide_range, paired, wide_letter_lem, encode_plain, encode_pair, encode_wide}
 use Rattle.names.proofs.Composing.{Composing, composing, form, composed_twice}

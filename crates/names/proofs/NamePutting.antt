@@ -1,13 +1,13 @@
 -- Judging a name and writing its composed form.
 use Prim.Native.Nat.{ℕ, ◌+◌, ◌≤◌, ◌<◌}
 use mathlib.Core.Path.{◌≡◌, refl, sym, ap, ◌∙◌}
-use mathlib.Core.Bool.{Bool, true, false, cond, not, false≢true}
+use mathlib.Core.Bool.{Bool, true, false, cond, not}
 use mathlib.Core.List.{[], ◌∷◌, ◌++◌, append-nil, append_assoc}
 use mathlib.Core.Logic.{◌⊎◌, inl, inr}
-use mathlib.Core.Option.{Option, some, none}
+use mathlib.Core.Option.{some, none}
 use native.Mathlib.Nat.{add-zero, zero-add}
 use native.Mathlib.Omega.{arith}
-use lib.Dec.{eqb, ltb}
+use lib.Dec.{ltb}
 use lib.ListN.{length, take, drop, length-append, length-drop, drop_of_length-le}
 use lib.Seq.{drop-drop, length-take-le}
 use borrow.Author.Tests.{lt-ltb, eq-eqb, ne_eqb, not-false}
@@ -15,7 +15,7 @@ use Rattle.text.specs.Bytes.{Bytes}
 use Rattle.buffer.specs.Writing.{written}
 use Rattle.buffer.proofs.Written.{length_written, written_none, written_past, written_then, written_longer, next}
 use Rattle.names.specs.Codes.{encode}
-use Rattle.names.specs.Names.{composed, composed_name, is_form, is_some, has_name_shape, is_name, is_namespace}
+use Rattle.names.specs.Names.{composed, composed_name, is_form, has_name_shape, is_name, is_namespace}
 use Rattle.names.specs.Steps.{letter_at, length_after, name_length, prepend, LetterTold, Front, OwnFront, FormPut, NamePut}
 use Rattle.names.specs.declared.Letter.{Letter}
 use Rattle.names.proofs.Walking.{composed_nothing, composed_none, composed_more}

@@ -1,5 +1,5 @@
 -- A text that is its own composed form, and its bytes.
-use Prim.Native.Nat.{ℕ, suc, ◌+◌, ◌*◌, ◌-◌, ◌/◌, ◌%◌, ◌≤◌, ◌<◌}
+use Prim.Native.Nat.{ℕ, ◌+◌, ◌-◌, ◌≤◌, ◌<◌}
 use mathlib.Core.Path.{◌≡◌, refl, sym, ap, ◌∙◌}
 use mathlib.Core.Bool.{Bool, true, false, cond, not, ◌&&◌, ◌||◌, false≢true, and-eq-true_iff, and_assoc, and-false}
 use mathlib.Core.List.{[], ◌∷◌, ◌++◌}
@@ -9,10 +9,10 @@ use native.Mathlib.Omega.{arith}
 use lib.Dec.{eqb, leb}
 use lib.ListN.{length, get_or, drop, drop_of_length-le}
 use lib.Seq.{drop-cons}
-use borrow.Author.Tests.{eqb-true, eqb-false, ne_eqb, leb-true, lt-leb, le-leb, le-ltb, not-true, not-false}
+use borrow.Author.Tests.{eqb-true, eqb-false, ne_eqb, leb-true, lt-leb, le-leb, le-ltb, not-true}
 use Rattle.text.specs.Bytes.{Bytes, all, same}
 use Rattle.text.proofs.Laws.{same_refl, same_eq}
-use Rattle.names.specs.Codes.{within, is_plain, is_pair, is_wide, is_mark, pair_code, encode}
+use Rattle.names.specs.Codes.{is_plain, is_pair, is_mark, pair_code, encode}
 use Rattle.names.specs.Names.{composed, is_form}
 use Rattle.names.specs.Steps.{is_lead, is_tail, is_letter_byte, follows, paired_from, pair_of, letter, letter_of, composed_letter, prepend}
 use Rattle.names.proofs.Entries.{composition_is, ranges}

@@ -12,7 +12,7 @@ use Rattle.buffer.proofs.Written.{length_written}
 use Rattle.buffer.proofs.Joined.{part_below, part_there}
 use Rattle.names.specs.Names.{composed_name, is_name, is_namespace}
 use Rattle.names.proofs.Composed.{composed_le, name_keeps, namespace_short}
-use Rattle.values.specs.Names.{qualified, is_reference, composed_reference}
+use Rattle.values.specs.Names.{is_reference, composed_reference}
 use Rattle.values.specs.Answers.{split_of}
 use Rattle.values.specs.declared.Split.{Split}
 use Rattle.language.proofs.Members.{and_true}

@@ -1,8 +1,8 @@
 -- What fitting a tree answers, by what was called.
 use Prim.Native.Nat.{ℕ, ◌+◌, ◌≤◌, ◌<◌, min}
-use mathlib.Core.Path.{◌≡◌, refl, sym, ap, subst, ◌∙◌}
+use mathlib.Core.Path.{◌≡◌, sym, ap, subst, ◌∙◌}
 use mathlib.Core.Bool.{Bool, true, false, cond}
-use mathlib.Core.List.{List, [], ◌++◌, append-nil}
+use mathlib.Core.List.{[], append-nil}
 use mathlib.Core.Option.{Option, some, none}
 use native.Mathlib.Omega.{arith}
 use borrow.Author.Tests.{lt-ltb, le-ltb}
@@ -12,7 +12,7 @@ use Rattle.text.specs.Bytes.{Bytes, any}
 use Rattle.text.specs.Table.{tabulate}
 use Rattle.text.proofs.Tables.{length_tabulate}
 use Rattle.buffer.specs.Numbers.{zeros, two_at}
-use Rattle.language.specs.Answer.{Answer, refused, accepted, number_of, found}
+use Rattle.language.specs.Answer.{Answer, refused, accepted, found}
 use Rattle.language.specs.Register.{Typing, kinds_of}
 use Rattle.language.specs.Surface.{Query, properties_of}
 use Rattle.language.specs.Core.{Core, nodes}
@@ -29,10 +29,10 @@ use Rattle.query_core.proofs.Laying.{laid_none}
 use Rattle.query_core_emit.specs.Emission.{Emits}
 use Rattle.query_core_emit.specs.declared.Emitted.{Emitted}
 use Rattle.query_tree_spelling.specs.Spelled.{is_spelled}
-use Rattle.query_tree.specs.Nodes.{Node, tree}
+use Rattle.query_tree.specs.Nodes.{tree}
 use Rattle.query_tree.specs.Form.{node_count, node_in, nodes_in}
 use Rattle.query_core_fit.specs.declared.Fit.{Fit}
-use Rattle.query_core_fit.specs.Answers.{fit_number, FitsTree}
+use Rattle.query_core_fit.specs.Answers.{FitsTree}
 use Rattle.query_core_fit.specs.Fitting.{node_undeclared, Fits, core_of_query}
 use Rattle.query_core_fit.proofs.Undeclared.{query17}
 use Rattle.query_core.proofs.Elaborated.{elaborated_keeps}

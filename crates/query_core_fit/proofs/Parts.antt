@@ -1,7 +1,6 @@
 -- A part is fitted by its last node.
 use Prim.Native.Nat.{ℕ, suc, ◌+◌}
-use mathlib.Core.Path.{◌≡◌, refl, sym, ap, subst, ◌∙◌}
-use mathlib.Core.Bool.{true, false}
+use mathlib.Core.Path.{◌≡◌, refl, sym, subst, ◌∙◌}
 use mathlib.Core.List.{List, [], ◌∷◌, ◌++◌}
 use lib.ListN.{length}
 use Rattle.text.specs.Bytes.{Bytes}
@@ -13,7 +12,7 @@ use Rattle.query_core_emit.specs.Emission.{Emits}
 use Rattle.query_core_emit.specs.declared.Emitted.{Emitted}
 use Rattle.query_tree.specs.Nodes.{Node, tree_categories, tree_identifiers, tree_chain, tree_in, tree}
 use Rattle.query_tree.specs.Form.{node_in, nodes_in}
-use Rattle.query_core_fit.specs.Fitting.{Fits, FitsTwo, core_of_query, in_core, chain_tree, chain_core, AtNode, InNode, ChainNode}
+use Rattle.query_core_fit.specs.Fitting.{Fits, core_of_query, in_core, chain_tree, chain_core, AtNode, InNode, ChainNode}
 use Rattle.query_core_fit.proofs.Places.{Last, last_there, sides_there, sides_number}
 
 module _ (t : Bytes) (Γ : Typing) (x : Node) (i j : ℕ) (is : x ≡ node_in t j) (next : i ≡ suc j) (h : Bytes) (p : Place) (r : Emitted) (h' : Bytes) where

@@ -22,7 +22,7 @@ use Rattle.language.specs.Surface.{Chain, single, chain, Categories, Identifiers
 use Rattle.language.specs.Elaboration.{is_undeclared}
 use Rattle.register_form.specs.Form.{register_in}
 use Rattle.register_form_view.specs.View.{kind_of}
-use Rattle.query_tree.specs.Nodes.{Node, join_by, tree_categories, tree_identifiers, tree_chain, tree_in, tree}
+use Rattle.query_tree.specs.Nodes.{Node, tree_categories, tree_identifiers, tree_chain, tree_in, tree}
 use Rattle.query_tree.specs.Form.{strings_in, node_in}
 use Rattle.query_tree.specs.Reading.{node_by}
 use Rattle.query_tree.specs.declared.TreeNode.{TreeNode}

@@ -4,10 +4,7 @@ use mathlib.Core.Path.{◌≡◌, refl, sym, ◌∙◌}
 use mathlib.Core.Bool.{Bool, true, false, cond, not, ◌&&◌, ◌||◌, or-false}
 use mathlib.Core.List.{List, [], ◌∷◌, ◌++◌, append_assoc, append-nil}
 use mathlib.Core.Option.{Option, some, none}
-use mathlib.Core.Logic.{⊎_elim}
 use native.Mathlib.Omega.{arith}
-use denote.Enum.Declared.{tag_of}
-use types.Run.{OneOf}
 use lib.Dec.{ltb, leb, eqb}
 use lib.ListN.{length}
 use borrow.Author.Tests.{lt-ltb, le-ltb, leb-true, leb-false}
@@ -35,7 +32,6 @@ use Rattle.query_text_pieces.specs.declared.First.{First}
 use Rattle.query_text_pieces.specs.declared.Placed.{Placed}
 use Rattle.query_text_pieces.specs.declared.Read.{Read}
 use Rattle.query_text_pieces.proofs.Laws.{head_last, head_dot}
-use Rattle.query_text_pieces.specs.contracts.Read.{the_type}
 use Rattle.query_tree.specs.Nodes.{Node, tree, tree_in, tree_categories, tree_identifiers}
 use Rattle.query_tree.specs.Reading.{node_by}
 use Rattle.query_tree.specs.declared.TreeNode.{TreeNode}

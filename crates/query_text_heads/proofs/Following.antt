@@ -5,7 +5,7 @@ use mathlib.Core.Bool.{Bool, ◌||◌, false, or_assoc, or-false}
 use mathlib.Core.List.{List, [], ◌∷◌, map-append}
 use lib.ListN.{length}
 use Rattle.text.specs.Bytes.{Bytes}
-use Rattle.query_tree.specs.Nodes.{Node, join_by, composed_node, composed_nodes}
+use Rattle.query_tree.specs.Nodes.{Node, composed_node, composed_nodes}
 use Rattle.query_tree.specs.Reading.{node_by}
 use Rattle.query_tree.specs.declared.TreeNode.{TreeNode}
 use Rattle.query_tree.proofs.Composing.{joined_composed}

@@ -2,27 +2,27 @@
 use Prim.Native.Nat.{ℕ, zero, suc, ◌+◌, ◌-◌, ◌≤◌, ◌<◌}
 use mathlib.Core.Path.{◌≡◌, refl, ap, sym, ◌∙◌}
 use mathlib.Core.Bool.{Bool, true, false, cond, not, ◌&&◌, ◌||◌, false≢true}
-use mathlib.Core.List.{List, [], ◌∷◌, ◌++◌}
+use mathlib.Core.List.{List, [], ◌∷◌}
 use mathlib.Core.Option.{Option, some, none}
 use native.Mathlib.Omega.{arith}
 use native.Mathlib.Numerals.{add-one}
 use lib.Dec.{eqb}
 use lib.ListN.{length, take, drop, length-take, length-drop, drop_of_length-le}
-use lib.Seq.{drop-drop, drop-cons, drop-nil, take-take, take-nil}
+use lib.Seq.{drop-drop, drop-cons, take-take, take-nil}
 use Rattle.text.specs.Bytes.{Bytes, bytes, same, is_blank, span, starts, after, trim, part}
 use Rattle.text.specs.Class.{is_free, is_other}
 use Rattle.text.specs.Parts.{part_of, Trimmed}
 use Rattle.text.specs.declared.Span.{Span}
-use Rattle.text.proofs.Laws.{starts_fits, span_le}
+use Rattle.text.proofs.Laws.{starts_fits}
 use Rattle.names.specs.Names.{is_name, is_namespace}
 use Rattle.values.specs.Names.{reference, qualified, bare, is_reference}
 use Rattle.values.specs.Values.{map_option}
 use Rattle.values.specs.Answers.{split_of, Splits}
 use Rattle.values.specs.declared.Split.{Split}
-use Rattle.language.specs.Answer.{found, only_if}
+use Rattle.language.specs.Answer.{only_if}
 use Rattle.language.specs.Comparators.{word, typed, first_typed, is_equal}
-use Rattle.language.specs.Surface.{Chain, single, chain}
-use Rattle.language.specs.RawQuery.{Piece, token, next_term, comparator, piece_at, ends_head, head_length, prefixed, split_dots, trim_names}
+use Rattle.language.specs.Surface.{single, chain}
+use Rattle.language.specs.RawQuery.{token, next_term, comparator, piece_at, ends_head, head_length, split_dots, trim_names}
 use Rattle.language.specs.QueryText.{is_category, is_category_of, article_of, is_namespace_piece, is_plus_of, namespace_of, breaks_reference, identifier_of}
 use Rattle.language.specs.declared.SurfaceComparator.{SurfaceComparator}
 use Rattle.language.proofs.AllComparators.{typed_fits}

@@ -1,7 +1,7 @@
 -- A tree of an accepted text has at most 681 nodes, and at most 1,024 bytes of names and values.
-use Prim.Native.Nat.{ℕ, suc, ◌+◌, ◌*◌, ◌≤◌}
+use Prim.Native.Nat.{ℕ, ◌+◌, ◌*◌, ◌≤◌}
 use mathlib.Core.Path.{◌≡◌, refl, sym, ap, ◌∙◌}
-use mathlib.Core.Bool.{Bool, true, false, not, ◌&&◌, ◌||◌, false≢true}
+use mathlib.Core.Bool.{Bool, true, false, ◌&&◌, false≢true}
 use mathlib.Core.List.{List, [], ◌∷◌, ◌++◌, append_assoc}
 use native.Mathlib.Omega.{arith}
 use lib.Dec.{leb}
@@ -13,7 +13,7 @@ use Rattle.names.proofs.Composed.{composed_named, property_composed}
 use Rattle.values.specs.Names.{Reference, bare, qualified, is_composed_reference, is_value}
 use Rattle.language.specs.Surface.{Chain, single, chain, Categories, Identifiers, Alternatives, Query}
 use Rattle.language.specs.QueryText.{names_in}
-use Rattle.language.proofs.Members.{and_true, or_false}
+use Rattle.language.proofs.Members.{and_true}
 use Rattle.language.specs.declared.SurfaceComparator.{SurfaceComparator}
 use Rattle.query_tree_spelling.specs.Spelled.{is_one_category, is_one_identifier, is_one_alternative, is_disjunction, is_joined, spelled_categories, spelled_identifiers, spelled_value, spelled_names, spelled_chain, spelled_in, is_spelled, cost_categories, cost_reference, cost_identifiers, cost_chain, wrapped, cost_in, cost, deep, has_text}
 use Rattle.query_tree.specs.Nodes.{Node, join_by, tree_categories, tree_identifiers, tree_chain, tree_in, tree, string_of, strings}

@@ -1,5 +1,5 @@
 -- Bytes are those of the nodes that they hold, exactly where the test of each row says so.
-use Prim.Native.Nat.{ℕ, zero, suc, ◌+◌, ◌-◌, ◌≤◌}
+use Prim.Native.Nat.{ℕ, zero, suc, ◌+◌, ◌≤◌}
 use mathlib.Core.Path.{◌≡◌, refl, sym, ap, ap₂, ◌∙◌}
 use mathlib.Core.Bool.{true, cond, ◌||◌}
 use mathlib.Core.List.{[]}

@@ -1,15 +1,13 @@
 -- The pass over a tree of an accepted text needs at most 28 entries, and every tree builds its query.
 use Prim.Native.Nat.{ℕ, suc, ◌+◌, ◌*◌, ◌≤◌, max}
-use mathlib.Core.Path.{◌≡◌, refl, sym, ap, ◌∙◌}
-use mathlib.Core.Bool.{Bool, true, false, ◌&&◌, false≢true}
-use mathlib.Core.List.{List, [], ◌∷◌, ◌++◌, map}
-use mathlib.Core.Option.{Option, some, none}
+use mathlib.Core.Path.{◌≡◌, refl, ap, ◌∙◌}
+use mathlib.Core.Bool.{true, false, false≢true}
+use mathlib.Core.List.{List, [], ◌∷◌, ◌++◌}
+use mathlib.Core.Option.{Option, some}
 use native.Mathlib.Omega.{arith}
-use lib.Dec.{leb, eqb}
 use lib.ListN.{length}
 use borrow.Author.Tests.{le-leb, eq-eqb}
-use Rattle.text.specs.Bytes.{Bytes}
-use Rattle.language.specs.Answer.{◌>>=◌, only_if}
+use Rattle.language.specs.Answer.{◌>>=◌}
 use Rattle.language.specs.Surface.{Chain, single, chain, Categories, Identifiers, Alternatives, Query}
 use Rattle.language.proofs.Members.{and_true}
 use Rattle.query_tree_spelling.specs.Spelled.{is_one_identifier, is_one_alternative, is_disjunction, is_joined, spelled_categories, spelled_identifiers, spelled_chain, spelled_in, is_spelled, under, deep_in, deep}

@@ -1,7 +1,7 @@
 -- What the pass keeps of each part goes with the building of the parts.
-use Prim.Native.Nat.{ℕ, suc, ◌+◌, ◌-◌, max, min}
+use Prim.Native.Nat.{ℕ, suc, ◌+◌, ◌-◌, max}
 use mathlib.Core.Path.{◌≡◌, refl, sym, ap, ap₂, ◌∙◌}
-use mathlib.Core.Bool.{Bool, true, false, not, ◌&&◌, ◌||◌}
+use mathlib.Core.Bool.{Bool, true, false, ◌&&◌}
 use mathlib.Core.List.{List, [], ◌∷◌, ◌++◌}
 use mathlib.Core.Option.{Option, some, none}
 use native.Mathlib.Omega.{arith}
@@ -12,14 +12,14 @@ use Rattle.text.specs.Bytes.{Bytes}
 use Rattle.names.specs.Names.{is_composed_property_name}
 use Rattle.values.specs.Values.{map_option}
 use Rattle.language.specs.Answer.{◌>>=◌, only_if}
-use Rattle.language.specs.Surface.{Chain, single, chain, Categories, Identifiers, Alternatives, Query}
+use Rattle.language.specs.Surface.{single, Categories, Identifiers, Alternatives, Query}
 use Rattle.language.specs.QueryText.{names_in}
 use Rattle.query_tree_spelling.specs.Spelled.{is_one_category, is_one_identifier, is_one_alternative, is_disjunction, is_joined, spelled_categories, spelled_identifiers, reads_as_category, spelled_names, spelled_chain, spelled_in, is_spelled, cost_categories, cost_identifiers, cost_chain, wrapped, under, cost_in, cost, deep_in, deep, has_text}
-use Rattle.query_tree.specs.Nodes.{Node, join_by, tree_categories, tree_identifiers, tree_chain, tree_in, tree}
+use Rattle.query_tree.specs.Nodes.{Node, join_by, tree_categories, tree_identifiers, tree_in, tree}
 use Rattle.query_tree.specs.Pass.{is_query, is_or, is_two, full_bytes, is_good, up_to_bytes, up_to_levels, item_of, leaf_item, subquery_item, property_item, link_item, bar_item, or_item, and_item, on_one, on_two, item_step, is_whole}
 use Rattle.query_tree.specs.declared.Shape.{Shape}
 use Rattle.query_tree.specs.declared.Item.{Item}
-use Rattle.query_tree.specs.Building.{Part, sized, bar_categories, bar_identifiers, bar_alternatives, bar_parts, join_parts, subquery_part, property_part, link_part, step}
+use Rattle.query_tree.specs.Building.{Part, bar_categories, bar_identifiers, bar_alternatives, bar_parts, join_parts, subquery_part, property_part, link_part, step}
 use Rattle.query_tree.proofs.Builds.{nodes_of, all_nodes}
 
 -- What is kept of a part that begins at a node, and of a stack of parts.

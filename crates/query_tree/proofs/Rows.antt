@@ -1,11 +1,10 @@
 -- The bytes of nodes hold those nodes: rows and strings come back.
-use Prim.Native.Nat.{ℕ, zero, suc, ◌+◌, ◌*◌, ◌-◌, ◌≤◌, ◌<◌}
+use Prim.Native.Nat.{ℕ, suc, ◌+◌, ◌*◌, ◌≤◌, ◌<◌}
 use mathlib.Core.Path.{◌≡◌, refl, sym, ap, ap₂, subst, ◌∙◌}
-use mathlib.Core.Bool.{Bool, true, ◌&&◌}
+use mathlib.Core.Bool.{true}
 use mathlib.Core.List.{List, [], ◌∷◌, ◌++◌, append_assoc}
 use native.Mathlib.Nat.{add-zero}
 use native.Mathlib.Omega.{arith}
-use lib.Dec.{leb}
 use lib.ListN.{length, get_or, take, drop, length-append, take-append-drop}
 use lib.Seq.{drop-cons, length-take-le, take_all}
 use borrow.Author.Tests.{leb-true}
@@ -13,19 +12,19 @@ use Rattle.text.specs.Bytes.{Bytes, part, all}
 use Rattle.text.specs.Table.{tabulate}
 use Rattle.text.proofs.Laws.{all_append}
 use Rattle.text.proofs.Tables.{is_tabulate}
-use Rattle.buffer.specs.Numbers.{two_bytes, two_at, padded}
+use Rattle.buffer.specs.Numbers.{two_at, padded}
 use Rattle.buffer.proofs.Numbers.{two_there}
-use Rattle.buffer.proofs.Parts.{get_d_part, part_part, part_before, part_behind, part_add}
+use Rattle.buffer.proofs.Parts.{get_d_part, part_part, part_before, part_behind}
 use Rattle.buffer.proofs.Regions.{part_region}
-use Rattle.values.specs.Names.{Reference, bare, qualified}
+use Rattle.values.specs.Names.{bare, qualified}
 use Rattle.language.proofs.Members.{and_true}
 use Rattle.language.specs.declared.SurfaceComparator.{SurfaceComparator}
 use Rattle.language.proofs.EachComparator.{comparator_coded}
 use Rattle.query_tree.specs.Nodes.{Node, string_of, strings}
 use Rattle.query_tree.specs.declared.Row.{Row}
-use Rattle.query_tree.specs.Form.{row_of, reference_row, row_at, row_bytes, rows_from, node_from, row_in, node_in, nodes_in, strings_in}
+use Rattle.query_tree.specs.Form.{row_of, row_at, row_bytes, rows_from, node_from, row_in, node_in, nodes_in, strings_in}
 use Rattle.query_tree.proofs.Counts.{strings_append}
-use Rattle.query_tree.proofs.Small.{is_short, is_small, AllSmall}
+use Rattle.query_tree.proofs.Small.{is_small, AllSmall}
 
 -- Rows one behind the other.
 pub length_rows : (at : ℕ) (l : List Node) → length (rows_from at l) ≡ 6 * length l

@@ -1,14 +1,13 @@
 -- The definitions on samples: texts with their shortest spellings, and nodes that are no tree.
-use Prim.Native.Nat.{ℕ}
 use mathlib.Core.Path.{◌≡◌, refl}
-use mathlib.Core.Bool.{Bool, true, false, not, ◌&&◌}
+use mathlib.Core.Bool.{Bool, true, false, ◌&&◌}
 use mathlib.Core.List.{List, [], ◌∷◌}
 use Rattle.text.specs.Bytes.{Bytes, bytes, any, all, same, span, trim_end, trim, starts, after}
 use Rattle.text.specs.Class.{is_free, is_name_byte, is_value_byte}
 use Rattle.names.specs.Table.{table, find, composition}
 use Rattle.names.specs.Codes.{is_mark, is_plain, is_wide, pair_code, is_pair, read, encode, write}
 use Rattle.names.specs.Names.{compose, composed, composed_name, has_name_shape, is_name, is_property_name, is_namespace, is_composed_name, is_composed_property_name, is_composed_namespace}
-use Rattle.values.specs.Names.{Reference, bare, qualified, is_value, reference}
+use Rattle.values.specs.Names.{bare, qualified, is_value, reference}
 use Rattle.language.specs.Answer.{Answer, refused, accepted, judge}
 use Rattle.language.specs.Surface.{Query, composed_chain, composed_categories, composed_identifiers, composed_query}
 use Rattle.language.specs.Comparators.{first_typed}

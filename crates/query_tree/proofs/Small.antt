@@ -1,7 +1,7 @@
 -- The nodes of an accepted text's tree have numbers that their bytes can hold.
-use Prim.Native.Nat.{ℕ, suc, ◌+◌, ◌≤◌}
-use mathlib.Core.Path.{◌≡◌, refl, sym, ◌∙◌}
-use mathlib.Core.Bool.{Bool, true, false, not, ◌&&◌, ◌||◌, false≢true}
+use Prim.Native.Nat.{ℕ, ◌≤◌}
+use mathlib.Core.Path.{◌≡◌, refl, ◌∙◌}
+use mathlib.Core.Bool.{Bool, true, false, ◌&&◌, ◌||◌, false≢true}
 use mathlib.Core.List.{List, [], ◌∷◌, ◌++◌}
 use native.Mathlib.Omega.{arith}
 use lib.Dec.{leb, eqb}
@@ -13,11 +13,8 @@ use Rattle.names.specs.Names.{is_composed_name, is_composed_property_name, is_co
 use Rattle.names.proofs.Composed.{composed_named, property_composed}
 use Rattle.values.specs.Names.{Reference, bare, qualified, is_composed_reference, is_value}
 use Rattle.language.specs.Surface.{Chain, single, chain, Categories, Identifiers, Alternatives, Query}
-use Rattle.language.specs.QueryText.{names_in}
-use Rattle.language.proofs.Members.{and_true, both_true, or_false}
-use Rattle.language.specs.declared.SurfaceComparator.{SurfaceComparator}
+use Rattle.language.proofs.Members.{and_true, both_true}
 use Rattle.query_tree_spelling.specs.Spelled.{is_one_category, is_one_identifier, is_one_alternative, spelled_categories, spelled_identifiers, spelled_value, spelled_names, spelled_chain, spelled_in, is_spelled}
-use Rattle.query_tree_spelling.proofs.Texts.{not_not}
 use Rattle.query_tree.specs.Nodes.{Node, join_by, tree_categories, tree_identifiers, tree_chain, tree_in, tree}
 use Rattle.query_tree.proofs.Items.{joined_count}
 

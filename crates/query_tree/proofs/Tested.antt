@@ -1,9 +1,8 @@
 -- The exact test: bytes that pass are those of the nodes that they hold, and the bytes of nodes that fit pass.
 use Prim.Native.Nat.{ℕ, zero, suc, ◌+◌, ◌*◌, ◌-◌, ◌≤◌, ◌<◌}
-use mathlib.Core.Path.{◌≡◌, refl, sym, ap, ap₂, subst, ◌∙◌}
-use mathlib.Core.Bool.{Bool, true, false, cond, ◌&&◌, ◌||◌}
+use mathlib.Core.Path.{◌≡◌, refl, sym, ap, subst, ◌∙◌}
+use mathlib.Core.Bool.{true}
 use mathlib.Core.List.{List, [], ◌∷◌, ◌++◌, append-nil}
-use native.Mathlib.Nat.{add-zero}
 use native.Mathlib.Omega.{arith}
 use lib.Dec.{eqb, leb}
 use lib.ListN.{length, get_or, take, drop, length-append, take-append-drop}
@@ -12,22 +11,20 @@ use borrow.Author.Tests.{leb-true, le-leb, eq-eqb}
 use Rattle.text.specs.Bytes.{Bytes, part}
 use Rattle.text.specs.Table.{tabulate}
 use Rattle.text.proofs.Tables.{length_tabulate}
-use Rattle.buffer.specs.Numbers.{two_bytes, two_at, padded}
+use Rattle.buffer.specs.Numbers.{two_bytes, padded}
 use Rattle.buffer.specs.Tests.{zeros_at}
 use Rattle.buffer.proofs.Numbers.{two_here}
 use Rattle.buffer.proofs.Parts.{both, length_part, part_add, part_part}
 use Rattle.buffer.proofs.Regions.{region, zeros_region}
-use Rattle.values.specs.Names.{Reference, bare, qualified}
+use Rattle.values.specs.Names.{bare, qualified}
 use Rattle.language.proofs.Members.{and_true, both_true}
 use Rattle.language.proofs.EachComparator.{comparator_few}
 use Rattle.query_tree.specs.Nodes.{Node, string_of, strings}
-use Rattle.query_tree.specs.declared.Row.{Row}
-use Rattle.query_tree.specs.Form.{row_of, row_at, row_bytes, rows_from, node_bytes, node_from, row_in, node_in, nodes_in, node_count, strings_in, tree_size}
+use Rattle.query_tree.specs.Form.{row_at, row_bytes, rows_from, node_bytes, row_in, node_in, nodes_in, node_count, strings_in, tree_size}
 use Rattle.query_tree.specs.Testing.{row_fits, string_at, rows_fit, is_exact}
 use Rattle.query_tree.proofs.Counts.{strings_append}
-use Rattle.query_tree.proofs.Rows.{length_rows, rows_append, Holds, Fits, texts_long, small_there, row_there}
-use Rattle.query_tree.proofs.Small.{is_small}
-use Rattle.query_tree.proofs.Exact.{Same, fits_same}
+use Rattle.query_tree.proofs.Rows.{length_rows, rows_append, Holds, Fits, texts_long, row_there}
+use Rattle.query_tree.proofs.Exact.{fits_same}
 
 -- A row's bytes are those that it was read from.
 row_here : (h : Bytes) (i : ℕ) → 2 + 6 * i + 6 ≤ length h → ((j : ℕ) → get_or h j 0 < 256) → row_bytes (row_in h i) ≡ part h (2 + 6 * i) 6

@@ -2,7 +2,7 @@
 use Prim.Native.Nat.{ℕ, suc}
 use mathlib.Core.Path.{◌≡◌, refl, sym, ap, ◌∙◌}
 use mathlib.Core.Logic.{◌↔◌}
-use mathlib.Core.Bool.{Bool, true, false, ◌&&◌, false≢true}
+use mathlib.Core.Bool.{Bool, true, false, false≢true}
 use mathlib.Core.List.{List, [], ◌∷◌, ◌++◌}
 use mathlib.Core.Option.{Option, some, none}
 use native.Mathlib.Omega.{arith}
@@ -11,7 +11,7 @@ use lib.ListN.{length, length-append}
 use borrow.Author.Tests.{leb-true}
 use Rattle.text.specs.Bytes.{Bytes}
 use Rattle.values.specs.Values.{map_option}
-use Rattle.language.specs.Answer.{Answer, accepted, ◌>>=◌, found, only_if}
+use Rattle.language.specs.Answer.{accepted, ◌>>=◌, found, only_if}
 use Rattle.language.specs.Surface.{Query}
 use Rattle.language.specs.QueryText.{read_text}
 use Rattle.language.proofs.Members.{and_true}
@@ -20,7 +20,7 @@ use Rattle.query_tree_spelling.specs.Spelling.{spell}
 use Rattle.query_tree_spelling.proofs.Spells.{round_trip}
 use Rattle.query_tree_spelling.proofs.Some.{accepted_has_text}
 use Rattle.query_tree.specs.Nodes.{Node, tree}
-use Rattle.query_tree.specs.Pass.{item_step, within, item_run, is_whole, is_tree}
+use Rattle.query_tree.specs.Pass.{within, item_run, is_whole, is_tree}
 use Rattle.query_tree.specs.declared.Item.{Item}
 use Rattle.query_tree.specs.Building.{Part, step, run, only_query, built}
 use Rattle.query_tree.proofs.Builds.{nodes_of, all_nodes, step_built, run_built}

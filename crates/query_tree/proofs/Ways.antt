@@ -1,12 +1,10 @@
 -- What the readers of nodes answer, by what they called.
 use Prim.Native.Nat.{ℕ, ◌+◌, ◌*◌, ◌/◌, ◌≤◌, ◌<◌}
-use mathlib.Core.Path.{◌≡◌, refl, sym, ap, ap₂, ◌∙◌}
-use mathlib.Core.List.{List}
+use mathlib.Core.Path.{◌≡◌, refl, sym, ap, ◌∙◌}
 use native.Mathlib.Omega.{arith}
 use borrow.Author.Tests.{ne_eqb}
 use lib.ListN.{length, get_or, get_or-eq_default}
 use Rattle.text.specs.Bytes.{Bytes, part}
-use Rattle.text.specs.Parts.{part_of}
 use Rattle.text.specs.declared.Span.{Span}
 use Rattle.buffer.specs.Numbers.{two_at}
 use Rattle.values.specs.Names.{bare, qualified}

@@ -3,7 +3,7 @@ use Rattle.std.specs.Prelude.{ℕ, List, [], ◌∷◌, eqb, length}
 use Rattle.std.proofs.Math.Option.{Option, some, none}
 use Rattle.text.specs.Bytes.{Bytes}
 use Rattle.language.specs.Answer.{◌>>=◌, only_if}
-use Rattle.language.specs.Surface.{Chain, single, chain, Categories, Identifiers, Alternatives, Query}
+use Rattle.language.specs.Surface.{single, chain, Categories, Identifiers, Alternatives, Query}
 use Rattle.query_tree.specs.Nodes.{Node, tree_categories, tree_identifiers, tree_in, tree}
 use Rattle.query_tree.specs.Pass.{on_one, on_two}
 

@@ -1,6 +1,6 @@
 -- The held tree: a surface query in 5,112 bytes. docs/LAYOUT.md has the table.
 use Rattle.std.specs.Prelude.{ℕ, ◌+◌, ◌*◌, cond, ◌&&◌, List, [], ◌∷◌, ◌++◌, eqb, length, get_or, take}
-use Rattle.std.proofs.Math.Option.{Option, some, none}
+use Rattle.std.proofs.Math.Option.{Option, some}
 use Rattle.text.specs.Bytes.{Bytes, part, same}
 use Rattle.text.specs.Table.{tabulate}
 use Rattle.buffer.specs.Numbers.{two_bytes, two_at, padded}

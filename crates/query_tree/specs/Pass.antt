@@ -1,15 +1,14 @@
 -- Working definitions: one pass over nodes that says whether they are the tree of a text that reading accepts (34). By `is_tree_lem` it says so
 -- exactly. It keeps of each part a few numbers and truth values: what its shortest spelling costs, how deep that is, whether the rules are
 -- kept.
-use Rattle.std.specs.Prelude.{ℕ, suc, ◌+◌, ◌-◌, max, min, Bool, true, false, not, ◌&&◌, ◌||◌, List, [], ◌∷◌, leb, eqb, length}
+use Rattle.std.specs.Prelude.{ℕ, suc, ◌+◌, ◌-◌, max, min, Bool, true, false, not, ◌&&◌, List, [], ◌∷◌, leb, eqb, length}
 use Rattle.std.proofs.Math.Option.{Option, some, none}
 use Rattle.text.specs.Bytes.{Bytes, bytes, same}
 use Rattle.names.specs.Names.{is_composed_name, is_composed_property_name, is_composed_namespace}
-use Rattle.values.specs.Names.{Reference, is_composed_reference}
+use Rattle.values.specs.Names.{is_composed_reference}
 use Rattle.language.specs.Comparators.{word, is_equal}
 use Rattle.language.specs.Answer.{◌>>=◌, found, only_if}
 use Rattle.language.specs.QueryText.{is_category_of}
-use Rattle.language.specs.declared.SurfaceComparator.{SurfaceComparator}
 use Rattle.query_tree_spelling.specs.Spelled.{spelled_value, cost_reference, wrapped, under}
 use Rattle.query_tree.specs.Nodes.{Node}
 use Rattle.query_tree.specs.declared.Shape.{Shape}

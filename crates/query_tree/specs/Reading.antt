@@ -1,5 +1,4 @@
 -- Working definitions: nodes whose strings are places in the bytes of all strings.
-use Rattle.std.specs.Prelude.{List}
 use Rattle.text.specs.Bytes.{Bytes}
 use Rattle.text.specs.Parts.{part_of}
 use Rattle.values.specs.Names.{bare, qualified}

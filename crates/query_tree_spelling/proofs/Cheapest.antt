@@ -1,13 +1,12 @@
 -- The surface query of what was read is spelled, and its shortest text is no longer and no deeper.
-use Prim.Native.Nat.{ℕ, zero, suc, ◌+◌, ◌-◌, ◌≤◌, ◌<◌, max}
-use mathlib.Core.Path.{◌≡◌, refl, sym, ap, ap₂, subst, ◌∙◌}
+use Prim.Native.Nat.{ℕ, suc, ◌+◌, ◌≤◌, max}
+use mathlib.Core.Path.{◌≡◌, refl, sym, ap, ◌∙◌}
 use mathlib.Core.Bool.{Bool, true, false, cond, not, ◌&&◌, ◌||◌, true≢false, false≢true}
-use mathlib.Core.List.{List, [], ◌∷◌, ◌++◌}
-use mathlib.Core.Option.{Option, some, none}
+use mathlib.Core.List.{List, [], ◌∷◌}
 use native.Mathlib.Omega.{arith}
-use lib.Dec.{eqb, leb, ltb}
+use lib.Dec.{eqb, ltb}
 use lib.ListN.{length, take, drop, length-drop, length-take}
-use borrow.Author.Tests.{le-leb, leb-true, ltb-true, ltb-false, not-false}
+use borrow.Author.Tests.{le-leb, ltb-true}
 use Rattle.text.specs.Bytes.{Bytes, bytes, any, same, span, trim}
 use Rattle.text.specs.Class.{is_other}
 use Rattle.text.proofs.Laws.{same_eq}
@@ -16,18 +15,15 @@ use Rattle.names.specs.Names.{composed_name, is_name, is_namespace, first}
 use Rattle.names.proofs.Composed.{composed_le, composed_is_name, composed_is_namespace}
 use Rattle.values.specs.Names.{Reference, bare, qualified, reference, is_reference, composed_reference, is_value}
 use Rattle.values.proofs.Spelled.{composed_is_reference}
-use Rattle.language.specs.Answer.{Answer, refused, accepted, judge, found}
-use Rattle.language.specs.Surface.{Chain, single, chain, Categories, Identifiers, Alternatives, Query, composed_chain, composed_categories, composed_identifiers, composed_in, composed_query}
-use Rattle.language.specs.RawQuery.{Piece, RawQuery, RawAlternatives, read_whole}
-use Rattle.language.specs.QueryText.{is_plain, is_category, is_category_of, article_of, is_plus_of, is_namespace_piece, namespace_of, is_existence, names_in, depth_in, depth, longest_in, longest, breaks_names, breaks_category, breaks_reference, breaks_pieces, breaks_in, breaks, breaks_value_in, breaks_value, categories_from, identifier_of, identifiers_from, pieces_query, surface_in, surface, checks, read_text}
+use Rattle.language.specs.Surface.{Chain, Categories, Identifiers, Alternatives, Query, composed_chain, composed_categories, composed_identifiers, composed_in, composed_query}
+use Rattle.language.specs.RawQuery.{Piece, RawQuery, RawAlternatives}
+use Rattle.language.specs.QueryText.{is_plain, is_category, is_category_of, article_of, is_plus_of, is_namespace_piece, namespace_of, is_existence, names_in, depth_in, depth, longest_in, longest, breaks_names, breaks_category, breaks_reference, breaks_pieces, breaks_in, breaks, breaks_value_in, breaks_value, categories_from, identifier_of, identifiers_from, pieces_query, surface_in, surface}
 use Rattle.language.proofs.Members.{and_true, or_false, both_true, both_false}
-use Rattle.language.proofs.Options.{OnSome}
-use Rattle.query_tree_spelling.specs.Spelled.{is_one_category, is_one_identifier, is_one_alternative, is_disjunction, is_joined, spelled_categories, spelled_identifiers, reads_as_category, spelled_value, spelled_chain, spelled_in, is_spelled, cost_categories, cost_reference, cost_identifiers, cost_chain, wrapped, under, cost_in, cost, deep_in, deep, has_text}
-use Rattle.query_tree_spelling.proofs.Texts.{not_not}
+use Rattle.query_tree_spelling.specs.Spelled.{is_one_identifier, is_one_alternative, is_disjunction, is_joined, spelled_categories, spelled_identifiers, reads_as_category, spelled_value, spelled_chain, spelled_in, is_spelled, cost_categories, cost_reference, cost_identifiers, wrapped, under, cost_in, cost, deep_in, deep}
 use Rattle.query_tree_spelling.proofs.Reading.{is_raw_disjunction, is_raw_joined, is_raw_either}
 use Rattle.query_tree_spelling.proofs.Composed.{names_composed, names_count, chain_cost, reference_cost, category_kept}
 use Rattle.query_tree_spelling.proofs.Spells.{size_piece, size_pieces}
-use Rattle.query_tree_spelling.proofs.Laying.{size_in, size, LaidIn, Laid, whole_takes}
+use Rattle.query_tree_spelling.proofs.Laying.{size_in, size, LaidIn, Laid}
 
 -- Truth values.
 not_yes : (a : Bool) → not a ≡ false → a ≡ true

@@ -1,29 +1,28 @@
 -- Names, references, values and heads as they are written are clean, and read back as what they are.
-use Prim.Native.Nat.{ℕ, zero, suc, ◌+◌, ◌-◌, ◌≤◌, ◌<◌}
-use mathlib.Core.Path.{◌≡◌, refl, sym, ap, ap₂, ◌∙◌}
-use mathlib.Core.Bool.{Bool, true, false, cond, not, ◌&&◌, ◌||◌, true≢false, false≢true}
-use mathlib.Core.List.{List, [], ◌∷◌, ◌++◌, append_assoc}
-use mathlib.Core.Option.{Option, some, none}
+use Prim.Native.Nat.{ℕ, suc, ◌+◌, ◌<◌}
+use mathlib.Core.Path.{◌≡◌, refl, ap, ap₂, ◌∙◌}
+use mathlib.Core.Bool.{Bool, true, false, not, ◌&&◌, ◌||◌, true≢false, false≢true}
+use mathlib.Core.List.{[], ◌∷◌, ◌++◌, append_assoc}
 use native.Mathlib.Omega.{arith}
-use lib.Dec.{eqb, leb, ltb, eqb-suc-zero}
-use lib.ListN.{length, take, drop, get_or, length-append}
-use lib.Seq.{take-append_seam, drop-append-add, drop-append_seam}
-use borrow.Author.Tests.{eqb-true, lt-ltb, le-ltb}
-use Rattle.text.specs.Bytes.{Bytes, bytes, any, all, same, is_blank, span, front, behind, trim_end, trim, starts}
+use lib.Dec.{eqb, eqb-suc-zero}
+use lib.ListN.{length, length-append}
+use lib.Seq.{take-append_seam, drop-append-add}
+use borrow.Author.Tests.{lt-ltb, le-ltb}
+use Rattle.text.specs.Bytes.{Bytes, bytes, any, all, same, is_blank, span, trim_end, trim}
 use Rattle.text.specs.Class.{one_of, is_free, is_name_byte, is_value_byte, is_other}
 use Rattle.text.proofs.Laws.{all_append, all_span}
-use Rattle.names.specs.Names.{is_sized, first, last, is_name, is_property_name, is_namespace}
+use Rattle.names.specs.Names.{is_sized, last, is_name, is_property_name, is_namespace}
 use Rattle.names.proofs.Composed.{name_keeps}
 use Rattle.values.specs.Names.{Reference, bare, qualified, reference, is_reference, is_value}
 use Rattle.language.specs.Comparators.{word, is_equal}
 use Rattle.language.specs.Surface.{Chain, single, chain}
-use Rattle.language.specs.RawQuery.{Piece, head_length, split_dots, trim_names, prefixed}
+use Rattle.language.specs.RawQuery.{split_dots, trim_names}
 use Rattle.language.specs.QueryText.{breaks_names}
 use Rattle.language.proofs.EachComparator.{word_no_colon}
 use Rattle.language.proofs.Members.{and_true, or_false, both_true}
 use Rattle.language.specs.declared.SurfaceComparator.{SurfaceComparator}
 use Rattle.query_tree_spelling.specs.Spelled.{spelled_value}
-use Rattle.query_tree_spelling.specs.Spelling.{plain, compared, reference_text, unread_piece, unread_chain}
+use Rattle.query_tree_spelling.specs.Spelling.{compared, reference_text, unread_piece, unread_chain}
 use Rattle.query_tree_spelling.proofs.Texts.{all_in, not_not, name_free, value_free, name_colon, span_part, trim_end_none, trim_end_behind, trim_none, no_head, no_head_colon, head_reads}
 use Rattle.query_tree_spelling.proofs.Reading.{CleanText, CleanHead, CleanFirst}
 

@@ -1,10 +1,8 @@
 -- Names as typed and composed: what is spelled is composed, and what is read is spelled once it is composed.
-use Prim.Native.Nat.{ℕ, suc, ◌+◌, ◌≤◌}
+use Prim.Native.Nat.{suc, ◌≤◌}
 use mathlib.Core.Path.{◌≡◌, refl, sym, ap, ap₂, ◌∙◌}
-use mathlib.Core.Bool.{Bool, true, false, not, ◌&&◌, ◌||◌, false≢true}
+use mathlib.Core.Bool.{Bool, true, false, not, ◌&&◌}
 use native.Mathlib.Omega.{arith}
-use lib.ListN.{length}
-use lib.Dec.{ltb}
 use borrow.Author.Tests.{not-false}
 use Rattle.text.specs.Bytes.{Bytes, bytes, same, all}
 use Rattle.text.proofs.Laws.{same_eq, same_refl}
@@ -14,7 +12,7 @@ use Rattle.names.proofs.Composed.{composed_le, composed_is_property, property_ty
 use Rattle.values.specs.Names.{Reference, bare, qualified, composed_reference}
 use Rattle.values.proofs.Spelled.{reference_fixed}
 use Rattle.language.specs.Surface.{Chain, single, chain, Categories, Identifiers, Alternatives, Query, composed_chain, composed_categories, composed_identifiers, composed_in, composed_query}
-use Rattle.language.specs.QueryText.{names_in, breaks_names, is_category_of}
+use Rattle.language.specs.QueryText.{names_in, breaks_names}
 use Rattle.language.proofs.Members.{and_true, or_false, both_true}
 use Rattle.query_tree_spelling.specs.Spelled.{is_one_category, is_one_identifier, is_one_alternative, spelled_categories, spelled_identifiers, reads_as_category, spelled_names, spelled_chain, spelled_in, is_spelled, cost_reference, cost_chain}
 

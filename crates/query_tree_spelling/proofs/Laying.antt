@@ -1,8 +1,8 @@
 -- What is read of a text: its groups stand where the grammar wants them, and it costs no more bytes than were read.
-use Prim.Native.Nat.{ℕ, zero, suc, ◌+◌, ◌-◌, ◌≤◌, ◌<◌}
-use mathlib.Core.Path.{◌≡◌, refl, sym, ap, ap₂, subst, ◌∙◌}
-use mathlib.Core.Bool.{Bool, true, false, cond, not, ◌&&◌, ◌||◌, true≢false, false≢true}
-use mathlib.Core.List.{List, [], ◌∷◌, ◌++◌}
+use Prim.Native.Nat.{ℕ, zero, suc, ◌+◌, ◌≤◌}
+use mathlib.Core.Path.{◌≡◌, refl, ap, ◌∙◌}
+use mathlib.Core.Bool.{Bool, true, false, cond, ◌&&◌}
+use mathlib.Core.List.{List, [], ◌∷◌}
 use mathlib.Core.Option.{Option, some}
 use native.Mathlib.Omega.{arith}
 use lib.Dec.{eqb}
@@ -25,7 +25,7 @@ use Rattle.language.proofs.Options.{OnSome, on_bind, on_found, on_weaker}
 use Rattle.language.proofs.Shorter.{after_leaves, behind_leaves}
 use Rattle.language.proofs.Leaving.{head_leaves, next_leaves}
 use Rattle.query_tree_spelling.specs.Spelled.{cost_chain}
-use Rattle.query_tree_spelling.proofs.Texts.{behind_none, span_not}
+use Rattle.query_tree_spelling.proofs.Texts.{span_not}
 use Rattle.query_tree_spelling.proofs.Reading.{is_raw_disjunction, is_raw_joined, is_raw_either}
 use Rattle.query_tree_spelling.proofs.Spells.{size_piece, size_pieces}
 

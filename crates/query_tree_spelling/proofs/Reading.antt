@@ -1,11 +1,10 @@
 -- A raw query whose pieces are clean and whose groups stand where they are needed is read back from its text.
-use Prim.Native.Nat.{ℕ, zero, suc, ◌+◌, ◌≤◌, ◌<◌}
-use mathlib.Core.Path.{◌≡◌, refl, sym, ap, ap₂, ◌∙◌}
-use mathlib.Core.Bool.{Bool, true, false, cond, not, ◌&&◌, ◌||◌, true≢false, false≢true}
+use Prim.Native.Nat.{ℕ, ◌+◌}
+use mathlib.Core.Path.{◌≡◌, refl, ap, ap₂, ◌∙◌}
+use mathlib.Core.Bool.{Bool, true, false, cond, ◌&&◌, true≢false}
 use mathlib.Core.List.{List, [], ◌∷◌, ◌++◌}
 use mathlib.Core.Option.{Option, some, none}
 use native.Mathlib.Omega.{arith}
-use native.Mathlib.Nat.{add_comm}
 use lib.Dec.{eqb}
 use lib.ListN.{length, take, drop}
 use lib.Seq.{take-append_seam, drop-append-add}
@@ -14,7 +13,7 @@ use Rattle.text.specs.Class.{is_free}
 use Rattle.language.specs.Answer.{◌>>=◌, found, only_if}
 use Rattle.language.specs.Comparators.{word, is_equal}
 use Rattle.language.specs.Surface.{Chain}
-use Rattle.language.specs.RawQuery.{Piece, RawQuery, RawAlternatives, token, comparator, piece_at, ends_head, head_length, split_dots, trim_names, read_pieces, bracket_of, plain_body, closed_inner, closed_group, closed_body, next_term, read_query, read_or, read_conjunction, read_and, read_term, read_body, read_alternatives, read_more, read_alternative, read_whole}
+use Rattle.language.specs.RawQuery.{Piece, RawQuery, RawAlternatives, token, comparator, piece_at, head_length, split_dots, trim_names, read_pieces, bracket_of, plain_body, closed_inner, closed_group, closed_body, next_term, read_query, read_or, read_conjunction, read_and, read_term, read_body, read_alternatives, read_more, read_alternative, read_whole}
 use Rattle.language.proofs.EachComparator.{word_no_blank, word_no_subquery}
 use Rattle.language.proofs.Readers.{query_eq, or_eq, conjunction_eq, and_eq, term_eq, body_eq, alternatives_eq, more_eq, alternative_eq, pieces_eq}
 use Rattle.language.proofs.Members.{and_true}

@@ -1,19 +1,19 @@
 -- Some text is accepted as a surface query where the query passes one test; its shortest text is then one.
 use Prim.Native.Nat.{ℕ, ◌≤◌, max}
-use mathlib.Core.Path.{◌≡◌, refl, sym, ap, subst, ◌∙◌}
-use mathlib.Core.Bool.{Bool, true, false, cond, ◌&&◌, false≢true}
+use mathlib.Core.Path.{◌≡◌, refl, subst}
+use mathlib.Core.Bool.{Bool, true, false, cond, false≢true}
 use mathlib.Core.Logic.{◌↔◌}
-use mathlib.Core.List.{List, [], ◌∷◌}
+use mathlib.Core.List.{[], ◌∷◌}
 use mathlib.Core.Option.{Option, some, none}
 use native.Mathlib.Omega.{arith}
-use lib.Dec.{leb, ltb}
+use lib.Dec.{ltb}
 use lib.ListN.{length}
 use borrow.Author.Tests.{le-leb, ltb-false}
 use Rattle.text.specs.Bytes.{Bytes}
-use Rattle.language.specs.Answer.{Answer, refused, accepted, ◌if◌, judge, found}
+use Rattle.language.specs.Answer.{refused, accepted, ◌if◌, judge, found}
 use Rattle.language.specs.Surface.{Query}
 use Rattle.language.specs.RawQuery.{RawQuery, read_whole}
-use Rattle.language.specs.QueryText.{depth, longest, breaks, breaks_value, surface, checks, read_text}
+use Rattle.language.specs.QueryText.{depth, longest, breaks, breaks_value, checks, read_text}
 use Rattle.language.proofs.Members.{both_true}
 use Rattle.language.proofs.Options.{OnSome}
 use Rattle.query_tree_spelling.specs.Spelled.{is_spelled, cost, deep, has_text}

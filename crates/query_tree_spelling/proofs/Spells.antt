@@ -1,35 +1,33 @@
 -- The raw query of a surface query that is spelled: it is read back, judged good, and has the cost and depth that are said.
-use Prim.Native.Nat.{ℕ, zero, suc, ◌+◌, ◌-◌, ◌≤◌, ◌<◌, max}
-use mathlib.Core.Path.{◌≡◌, refl, sym, ap, ap₂, subst, ◌∙◌}
-use mathlib.Core.Bool.{Bool, true, false, cond, not, ◌&&◌, ◌||◌, true≢false, false≢true}
-use mathlib.Core.List.{List, [], ◌∷◌, ◌++◌, append_assoc}
-use mathlib.Core.Option.{Option, some, none}
+use Prim.Native.Nat.{ℕ, suc, ◌+◌, ◌≤◌, max}
+use mathlib.Core.Path.{◌≡◌, refl, ap, ap₂, subst, ◌∙◌}
+use mathlib.Core.Bool.{Bool, true, false, cond, not, ◌&&◌, ◌||◌, false≢true}
+use mathlib.Core.List.{List, [], ◌∷◌, ◌++◌}
 use native.Mathlib.Omega.{arith}
-use lib.Dec.{eqb, leb, ltb}
+use lib.Dec.{eqb, leb}
 use lib.ListN.{length, length-append}
 use borrow.Author.Tests.{leb-true, le-ltb}
 use Rattle.text.specs.Bytes.{Bytes, bytes, any, all, same, trim_end}
 use Rattle.text.specs.Class.{one_of, is_free, is_name_byte, is_other}
-use Rattle.text.proofs.Laws.{same_refl}
 use Rattle.names.specs.Codes.{is_plain as is_plain_code}
-use Rattle.names.specs.Names.{has_name_shape, first, is_name, is_namespace, is_composed_name, is_composed_namespace}
+use Rattle.names.specs.Names.{has_name_shape, first, is_name, is_namespace, is_composed_name}
 use Rattle.names.proofs.Ascii.{plain_composed}
 use Rattle.names.proofs.Composed.{composed_typed, namespace_typed}
 use Rattle.values.specs.Names.{Reference, bare, qualified, reference, is_reference, is_value}
 use Rattle.values.proofs.Spelled.{reference_typed}
-use Rattle.language.specs.Answer.{Answer, refused, accepted, judge, found}
+use Rattle.language.specs.Answer.{accepted, judge}
 use Rattle.language.specs.Comparators.{word, is_equal}
 use Rattle.language.specs.Surface.{Chain, single, chain, Categories, Identifiers, Alternatives, Query}
-use Rattle.language.specs.RawQuery.{Piece, RawQuery, RawAlternatives, read_whole}
-use Rattle.language.specs.QueryText.{is_plain, is_category, is_category_of, article_of, is_plus_of, is_namespace_piece, namespace_of, is_existence, names_in, depth_in, depth, longest_in, longest, breaks_names, breaks_category, breaks_reference, breaks_pieces, breaks_in, breaks, breaks_value_in, breaks_value, categories_from, identifier_of, identifiers_from, pieces_query, surface_in, surface, checks, read_text}
+use Rattle.language.specs.RawQuery.{Piece, RawQuery, RawAlternatives}
+use Rattle.language.specs.QueryText.{is_plain, is_category, is_category_of, article_of, is_plus_of, is_namespace_piece, is_existence, names_in, depth_in, depth, longest_in, longest, breaks_names, breaks_category, breaks_reference, breaks_pieces, breaks_in, breaks, breaks_value_in, breaks_value, categories_from, identifier_of, identifiers_from, pieces_query, surface_in, surface, read_text}
 use Rattle.language.proofs.Members.{and_true, or_false, both_true, both_false}
 use Rattle.language.specs.declared.SurfaceComparator.{SurfaceComparator}
-use Rattle.query_tree_spelling.specs.Spelled.{is_one_category, is_one_identifier, is_one_alternative, is_disjunction, is_joined, spelled_categories, spelled_identifiers, reads_as_category, spelled_value, spelled_names, spelled_chain, spelled_in, is_spelled, cost_categories, cost_reference, cost_identifiers, cost_chain, wrapped, under, cost_in, cost, deep_in, deep, has_text}
+use Rattle.query_tree_spelling.specs.Spelled.{is_one_identifier, is_one_alternative, is_disjunction, is_joined, spelled_categories, spelled_identifiers, reads_as_category, spelled_value, spelled_names, spelled_chain, spelled_in, is_spelled, cost_categories, cost_reference, cost_identifiers, cost_chain, wrapped, under, cost_in, cost, deep_in, deep, has_text}
 use Rattle.query_tree_spelling.specs.Spelling.{plain, compared, reference_text, category_piece, identifier_piece, raw_categories, raw_identifiers, group_if, raw_in, raw, unread_piece, unread_pieces, unread_chain, unread_in, unread, spell}
-use Rattle.query_tree_spelling.proofs.Texts.{not_not, name_free}
-use Rattle.query_tree_spelling.proofs.Reading.{CleanText, Clean, AllClean, CleanHead, CleanFirst, is_raw_disjunction, is_raw_joined, is_raw_either, ProperIn, Proper, whole_reads}
+use Rattle.query_tree_spelling.proofs.Texts.{not_not}
+use Rattle.query_tree_spelling.proofs.Reading.{Clean, AllClean, CleanFirst, is_raw_disjunction, is_raw_joined, is_raw_either, ProperIn, Proper, whole_reads}
 use Rattle.query_tree_spelling.proofs.Composed.{names_typed, query_fixed}
-use Rattle.query_tree_spelling.proofs.Cleaning.{no_name, named, name_clean, name_trims, name_no_colon, name_no_plus, namespace_no_colon, colon_clean, plain_first, colon_first, reads_qualified, reads_bare, reads_reference, reads_plus, value_clean, head_clean}
+use Rattle.query_tree_spelling.proofs.Cleaning.{no_name, name_clean, name_no_colon, name_no_plus, namespace_no_colon, colon_clean, plain_first, colon_first, reads_reference, reads_plus, value_clean, head_clean}
 
 -- What is said of a raw query: the surface query that it is, its depth d, its length n.
 pub record Spells (q : Query) (r : RawQuery) (d n : ℕ) : Type 0 where

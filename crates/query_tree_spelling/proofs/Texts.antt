@@ -1,19 +1,17 @@
 -- Laws of texts that are written together: byte classes, scans, trimming, comparators, heads.
-use Prim.Native.Nat.{ℕ, zero, suc, ◌+◌, ◌-◌, ◌≤◌, ◌<◌}
+use Prim.Native.Nat.{ℕ, suc, ◌-◌}
 use mathlib.Core.Path.{◌≡◌, refl, sym, ap, ◌∙◌}
-use mathlib.Core.Bool.{Bool, true, false, cond, not, ◌&&◌, ◌||◌, true≢false, false≢true}
-use mathlib.Core.List.{List, [], ◌∷◌, ◌++◌}
+use mathlib.Core.Bool.{Bool, true, false, not, ◌&&◌, false≢true}
+use mathlib.Core.List.{[], ◌∷◌, ◌++◌}
 use mathlib.Core.Option.{Option, some, none}
 use native.Mathlib.Omega.{arith}
-use lib.Dec.{eqb, leb, ltb}
-use lib.ListN.{length, take, drop, get_or, length-append}
+use lib.Dec.{eqb, leb}
+use lib.ListN.{length, take, drop, get_or}
 use lib.Seq.{take-append_seam, drop-append_seam}
-use borrow.Author.Tests.{eqb-true, not-true, leb-true}
-use Rattle.text.specs.Bytes.{Bytes, bytes, any, all, same, is_blank, span, front, behind, trim_end, unless_last, trim, starts}
-use Rattle.text.specs.Class.{one_of, is_free, is_name_byte, is_value_byte, is_other}
-use Rattle.text.proofs.Laws.{any_append, all_append}
-use Rattle.names.specs.Names.{is_sized, first, last, is_name, is_property_name}
-use Rattle.values.specs.Names.{is_value}
+use Rattle.text.specs.Bytes.{Bytes, bytes, any, all, is_blank, span, front, behind, trim_end, trim, starts}
+use Rattle.text.specs.Class.{is_free, is_name_byte, is_value_byte, is_other}
+use Rattle.text.proofs.Laws.{any_append}
+use Rattle.names.specs.Names.{last}
 use Rattle.values.specs.Values.{map_option}
 use Rattle.language.specs.Comparators.{word, is_equal}
 use Rattle.language.specs.RawQuery.{comparator, head_length, ends_head}

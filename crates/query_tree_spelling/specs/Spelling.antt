@@ -1,5 +1,5 @@
 -- The shortest text of a surface query, by the raw query that it is read as.
-use Rattle.std.specs.Prelude.{ℕ, suc, ◌+◌, max, Bool, true, false, cond, not, ◌&&◌, ◌||◌, List, [], ◌∷◌, ◌++◌, length}
+use Rattle.std.specs.Prelude.{Bool, cond, List, [], ◌∷◌, ◌++◌}
 use Rattle.text.specs.Bytes.{Bytes, bytes}
 use Rattle.values.specs.Names.{Reference, bare, qualified}
 use Rattle.language.specs.Comparators.{word}

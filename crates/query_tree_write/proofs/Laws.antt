@@ -8,7 +8,7 @@ use native.Mathlib.Nat.{zero-add}
 use lib.Dec.{ltb, leb, eqb}
 use lib.ListN.{length, set, length-append}
 use borrow.Author.Tests.{lt-ltb, le-leb, ltb-true, leb-true, not-false, not-true}
-use Rattle.text.specs.Bytes.{Bytes, all, part}
+use Rattle.text.specs.Bytes.{Bytes, all}
 use Rattle.text.specs.Parts.{part_of}
 use Rattle.text.proofs.Laws.{all_append}
 use Rattle.buffer.specs.Numbers.{zeros, padded, two_bytes}

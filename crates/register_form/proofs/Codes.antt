@@ -1,17 +1,14 @@
 -- Texts, terms and codes come back from what they are made of.
-use Prim.Native.Nat.{ℕ, suc, ◌+◌, ◌-◌, ◌<◌, ◌^◌}
+use Prim.Native.Nat.{ℕ, suc, ◌<◌, ◌^◌}
 use mathlib.Core.Path.{◌≡◌, refl, sym, ap, ap₂}
-use mathlib.Core.Bool.{Bool, true, false, cond}
+use mathlib.Core.Bool.{true}
 use mathlib.Core.List.{List, [], ◌∷◌, ◌++◌, Memᴰ}
 use native.Mathlib.Omega.{arith}
-use lib.Dec.{ltb, eqb}
-use lib.IntN.{ℤ, pos, negsuc}
 use lib.ListN.{length, take, drop, take-append-drop}
 use lib.Seq.{take-append_seam, drop-append_seam, length-take-le}
-use borrow.Author.Tests.{ltb-true, eqb-true, lt-ltb, le-ltb}
+use borrow.Author.Tests.{ltb-true, eqb-true, lt-ltb}
 use Rattle.text.specs.Bytes.{Bytes, order_of}
-use Rattle.text.specs.Table.{bit}
-use Rattle.values.specs.Values.{scalar, string, Value, plain, link, kind_of, base, biased}
+use Rattle.values.specs.Values.{scalar, string, Value, plain, link, kind_of}
 use Rattle.values.proofs.AllKinds.{range_small}
 use Rattle.language.specs.Rules.{is_storable}
 use Rattle.sorting.specs.Ascending.{ascends}

@@ -1,18 +1,15 @@
 -- A canonical dictionary is the one that encoding what it describes gives, where no property is there twice.
-use Prim.Native.Nat.{ℕ, zero, suc, ◌-◌, ◌<◌}
+use Prim.Native.Nat.{ℕ, suc, ◌-◌, ◌<◌}
 use mathlib.Core.Path.{◌≡◌, refl, sym, ap, ap₂, ◌∙◌, subst}
 use mathlib.Core.Bool.{Bool, true, false, cond, not, ◌&&◌, false≢true}
 use mathlib.Core.List.Memᴰ
 use mathlib.Core.List.{List, [], ◌∷◌, ◌++◌, map, flat_map, map-map, Memᴰ}
-use native.Mathlib.Omega.{arith}
-use lib.Dec.{eqb}
 use lib.ListN.{length, get_or}
 use borrow.Author.Tests.{ltb-true, eqb-true}
 use Rattle.text.specs.Bytes.{Bytes, order_of}
-use Rattle.text.specs.Table.{bit}
 use Rattle.values.specs.declared.Kind.{Kind}
 use Rattle.values.specs.Values.{Value}
-use Rattle.language.specs.Register.{Property, Page, distinct, same_property}
+use Rattle.language.specs.Register.{Property, distinct, same_property}
 use Rattle.sorting.specs.Ascending.{rank}
 use Rattle.language.proofs.Members.{all_at, map_itself}
 use Rattle.register_form.specs.Dictionary.{PropertyRow, PageRow, Dictionary, name_of, identifier_of, term_of, group_of, term_code, is_category, value_from, text_in, term_in, property_in, category_of, held_of, categories_in, values_in, decode_property, decode_page, decode}

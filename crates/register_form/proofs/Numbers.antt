@@ -1,17 +1,16 @@
 -- Laws of numbers in bytes: they come back, and bytes are those of the number that they tell.
-use Prim.Native.Nat.{ℕ, suc, ◌+◌, ◌*◌, ◌/◌, ◌%◌, ◌≤◌, ◌<◌, ◌^◌}
+use Prim.Native.Nat.{ℕ, ◌+◌, ◌*◌, ◌/◌, ◌%◌, ◌≤◌, ◌<◌, ◌^◌}
 use mathlib.Core.Path.{◌≡◌, refl, ap, ap₂, sym, ◌∙◌}
 use mathlib.Core.List.{[], ◌∷◌, ◌++◌}
-use native.Mathlib.Nat.{mod-add-div, mod-eq_of_lt, add-mul-mod_self_left}
-use native.Mathlib.Numerals.{add-one}
+use native.Mathlib.Nat.{mod-add-div, add-mul-mod_self_left}
 use native.Mathlib.Omega.{arith}
-use lib.ListN.{length, get_or, take, drop, length-drop}
+use lib.ListN.{length, get_or, drop, length-drop}
 use lib.Seq.{drop-cons, take_all}
 use Rattle.text.specs.Bytes.{Bytes, part}
 use Rattle.buffer.specs.Numbers.{two_bytes, eight_bytes, two_at, eight_at}
 use Rattle.register_form.specs.Dictionary.{term_of, group_of, term_code}
 use Rattle.buffer.proofs.Numbers.{two_low, two_back, two_here, two_small}
-use Rattle.buffer.proofs.Parts.{both, get_d_part, part_add}
+use Rattle.buffer.proofs.Parts.{both, part_add}
 
 -- Eight bytes behind one.
 pub code_back : (g c : ℕ) → c < 2 ^ 64 → term_code (term_of g c) ≡ c

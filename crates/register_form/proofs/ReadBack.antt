@@ -9,7 +9,6 @@ use Rattle.text.specs.Bytes.{Bytes, part}
 use Rattle.text.specs.Table.{tabulate}
 use Rattle.text.proofs.Tables.{is_tabulate}
 use Rattle.values.specs.Values.{kind_code, kind_from}
-use Rattle.values.specs.declared.Kind.{Kind}
 use Rattle.buffer.specs.Numbers.{two_bytes, two_at, padded, starts_from}
 use Rattle.register_form.specs.Dictionary.{Dictionary, PageRow, no_property, property_in, term_in, text_in}
 use Rattle.register_form.specs.Form.{forms_of, joined, count_bytes, property_bytes, number_bytes, bytes_of, property_at, form_start, form_at, page_at, term_at, text_start, text_at, dictionary_in}

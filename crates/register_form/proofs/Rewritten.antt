@@ -10,7 +10,6 @@ use lib.Seq.{drop-cons}
 use Rattle.text.specs.Bytes.{Bytes, part}
 use Rattle.text.specs.Table.{tabulate}
 use Rattle.text.proofs.Tables.{length_tabulate, get_d_tabulate}
-use Rattle.values.specs.Values.{kind_code, kind_from}
 use Rattle.buffer.specs.Numbers.{two_bytes, two_at, padded, starts_from}
 use Rattle.register_form.specs.Form.{forms_of, joined, count_bytes, property_bytes, number_bytes, bytes_of, property_at, form_start, form_at, page_at, term_at, text_start, text_at, dictionary_in}
 use Rattle.register_form.specs.Tests.{is_laid, Bounded, Small, term_uses}

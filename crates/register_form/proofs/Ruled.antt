@@ -14,7 +14,7 @@ use Rattle.values.specs.declared.Kind.{Kind}
 use Rattle.names.specs.Names.{is_composed_name, is_composed_property_name}
 use Rattle.values.specs.Values.{kind_of}
 use Rattle.values.proofs.Sameness.{kind_refl}
-use Rattle.language.specs.Register.{Property, Held, Page, kind_among, kinds_of, has_kind, kinds_hold, distinct, same_property}
+use Rattle.language.specs.Register.{Property, Held, kind_among, kinds_of, has_kind, kinds_hold, distinct, same_property}
 use Rattle.language.specs.RegisterText.{same_held}
 use Rattle.language.specs.Rules.{is_identifier, is_storable, is_page, is_within_limits, is_register}
 use Rattle.language.proofs.Members.{and_true, both_true, by_test, all_at, all_of, all_map}

@@ -1,10 +1,10 @@
 -- A register as a dictionary: each text once, each term once, both in ascending order; properties and pages are rows of their
 -- numbers. This page says which register a dictionary describes.
-use Rattle.std.specs.Prelude.{ℕ, zero, suc, ◌+◌, ◌-◌, Bool, true, false, cond, List, [], ◌∷◌, ◌++◌, map, ltb, eqb, ℤ, pos, negsuc, length, get_or, take, drop}
+use Rattle.std.specs.Prelude.{ℕ, ◌-◌, Bool, cond, List, [], ◌∷◌, ◌++◌, map, eqb, length, get_or, take, drop}
 use Rattle.text.specs.Bytes.{Bytes}
 use Rattle.values.specs.declared.Kind.{Kind}
 use Rattle.values.specs.Names.{Identifier}
-use Rattle.values.specs.Values.{Constant, scalar, string, Value, plain, link}
+use Rattle.values.specs.Values.{scalar, string, Value, plain, link}
 use Rattle.language.specs.Register.{Property, Held, Page, Register}
 use Rattle.buffer.specs.Numbers.{eight_bytes, eight_at}
 

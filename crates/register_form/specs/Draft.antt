@@ -1,6 +1,6 @@
 -- Working definitions: a draft, which every call that makes a register hands to the one writer. It is a dictionary whose texts and
 -- terms stand as they came, repeats too, and whose pages have their forms as they came.
-use Rattle.std.specs.Prelude.{ℕ, suc, ◌+◌, ◌-◌, ◌<◌, ◌^◌, ◌≡◌, Bool, true, false, cond, not, ◌&&◌, List, [], ◌∷◌, ◌++◌, map, ltb, eqb, length, get_or}
+use Rattle.std.specs.Prelude.{ℕ, ◌-◌, ◌<◌, ◌^◌, ◌≡◌, Bool, true, cond, not, List, [], ◌∷◌, ◌++◌, map, ltb, eqb, length}
 use Rattle.text.specs.Bytes.{Bytes, order_of, same, any, all}
 use Rattle.values.specs.declared.Kind.{Kind}
 use Rattle.language.specs.Answer.{Answer, refused}

@@ -1,10 +1,9 @@
 -- The dictionary of a register.
-use Rattle.std.specs.Prelude.{ℕ, suc, Bool, cond}
+use Rattle.std.specs.Prelude.{ℕ, suc, cond}
 use mathlib.Core.List.{List, [], ◌∷◌, ◌++◌, map, flat_map}
 use Rattle.text.specs.Bytes.{Bytes, order_of, same}
-use Rattle.values.specs.declared.Kind.{Kind}
 use Rattle.values.specs.Names.{Identifier}
-use Rattle.values.specs.Values.{Constant, scalar, string, Value, plain, link}
+use Rattle.values.specs.Values.{scalar, string, Value, plain, link}
 use Rattle.language.specs.Register.{Property, Held, Page, Register}
 use Rattle.sorting.specs.Ascending.{sorted, rank}
 use Rattle.register_form.specs.Dictionary.{PropertyRow, PageRow, Dictionary, labelled, term_of}

@@ -1,5 +1,5 @@
 -- Working definitions: what is known of a held register that was opened.
-use Rattle.std.specs.Prelude.{ℕ, zero, suc, ◌<◌, ◌≡◌, Bool, true, cond, List, [], ◌∷◌, eqb, length, get_or}
+use Rattle.std.specs.Prelude.{ℕ, zero, suc, ◌<◌, ◌≡◌, true, cond, List, [], ◌∷◌, eqb, length, get_or}
 use Rattle.text.specs.Bytes.{Bytes}
 use Rattle.language.specs.Register.{Page, Register}
 use Rattle.language.specs.RegisterText.{empty_page}

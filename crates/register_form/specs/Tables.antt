@@ -4,7 +4,7 @@ use Rattle.text.specs.Bytes.{Bytes}
 use Rattle.text.specs.Table.{tabulate}
 use Rattle.values.specs.Values.{kind_from}
 use Rattle.dictionary.specs.Items.{text_at}
-use Rattle.register_form.specs.Dictionary.{PropertyRow, PageRow, Dictionary, term_of}
+use Rattle.register_form.specs.Dictionary.{Dictionary, term_of}
 
 -- Text i is the part of s that starts and lens tell; property p has the kind of a byte and a text for its name; page i has a text for its
 -- identifier, and the terms that uses has from firsts i up to the next; a term has a group and a code. There are m texts, np properties, ng

@@ -3,7 +3,7 @@ use Rattle.std.specs.Prelude.{ℕ, suc, ◌≤◌, ◌<◌, min, ◌≡◌, Bool
 use Rattle.text.specs.Bytes.{any}
 use Rattle.text.specs.Table.{tabulate}
 use Rattle.register_form.specs.Form.{joined}
-use Rattle.register_form.specs.Draft.{once_behind, once, filtered}
+use Rattle.register_form.specs.Draft.{once_behind, filtered}
 use Rattle.register_form.specs.Tables.{between, forms_at}
 
 -- The forms that a pass keeps: of categories the first, of values the second.

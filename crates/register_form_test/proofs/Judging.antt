@@ -1,30 +1,28 @@
 -- What is judged of a term is what is to be tested of it, where the table of classes is right.
-use Prim.Native.Nat.{ℕ, suc, ◌-◌, ◌*◌, ◌≤◌, ◌<◌}
+use Prim.Native.Nat.{ℕ, ◌-◌, ◌≤◌, ◌<◌}
 use mathlib.Core.Path.{◌≡◌, refl, sym}
 use mathlib.Core.Bool.{Bool, true, false, cond, ◌&&◌, or-false, true≢false}
 use mathlib.Core.List.{List, [], ◌∷◌}
 use native.Mathlib.Omega.{arith}
 use lib.Dec.{ltb, leb, eqb}
-use lib.IntN.{pos, negsuc}
 use lib.ListN.{length, get_or}
-use borrow.Author.Tests.{ltb-true, ltb-false, leb-true, eqb-false, lt-ltb, le-leb, ne_eqb}
+use borrow.Author.Tests.{ltb-true, leb-true, eqb-false, lt-ltb, le-leb, ne_eqb}
 use Rattle.text.specs.Bytes.{Bytes, any}
 use Rattle.values.specs.declared.Kind.{Kind}
 use Rattle.names.specs.Names.{is_composed_name}
 use Rattle.values.specs.Names.{is_value}
-use Rattle.values.specs.Values.{plain, link, in_range}
+use Rattle.values.specs.Values.{link, in_range}
 use Rattle.values.specs.Spelling.{spell_scalar, spell_identifier, spelling}
 use Rattle.names.proofs.Composed.{composed_named}
 use Rattle.values.proofs.Spelled.{value_short}
 use Rattle.language.specs.Rules.{is_identifier, is_storable}
-use Rattle.sorting.proofs.Canonical.{same_truth, left_of, right_of, both}
+use Rattle.sorting.proofs.Canonical.{left_of, right_of}
 use Rattle.register_form.specs.Dictionary.{name_of, identifier_of, group_of, term_code, value_from, text_in, property_in, category_of, held_of}
 use Rattle.register_form.specs.Form.{property_count, text_count, property_at, term_at, text_at, dictionary_in}
 use Rattle.register_form.specs.Tests.{is_labelled, is_plain, is_plain_number, is_code, is_term, code_texts, term_texts, keeps_term, term_bytes}
 use Rattle.register_form.proofs.Laying.{Laid}
 use Rattle.register_form_test.specs.Stages.{class_of, no_text, spelled_length, judged_in, judged_text, judged_value, judged_group, judged_term}
 use Rattle.register_form_test.specs.declared.Judged.{Judged}
-use Rattle.buffer.proofs.Testing.{and_true}
 use Rattle.register_form_test.proofs.Classes.{class_link, class_category, class_string, class_spaced, length_name, length_spelled, storable_link}
 use Rattle.register_form_test.proofs.Known.{text_count_lem, property_count_lem, text_in_lem, property_in_lem, plain_number, text_length_lem}
 

@@ -1,5 +1,5 @@
 -- What is known of bytes that are laid out as those of a dictionary; the tests of texts and properties.
-use Prim.Native.Nat.{ℕ, suc, ◌+◌, ◌-◌, ◌<◌}
+use Prim.Native.Nat.{ℕ, ◌<◌}
 use mathlib.Core.Path.{◌≡◌, refl, ap, ap₂, sym, ◌∙◌}
 use mathlib.Core.Bool.{Bool, true, false, not, ◌&&◌, ◌||◌, or-false}
 use mathlib.Core.List.{List, [], map}
@@ -14,7 +14,7 @@ use Rattle.names.specs.Names.{is_composed_property_name}
 use Rattle.language.specs.Register.{distinct}
 use Rattle.sorting.specs.Ascending.{ascends}
 use Rattle.register_form.specs.Dictionary.{PropertyRow, name_of, text_in, term_in, property_in, no_property}
-use Rattle.register_form.specs.Form.{property_count, term_count, text_count, property_at, term_at, text_start, text_at, dictionary_in}
+use Rattle.register_form.specs.Form.{property_count, term_count, text_count, property_at, term_at, text_at, dictionary_in}
 use Rattle.register_form.specs.Tests.{is_labelled, is_plain, is_plain_number, keeps_property}
 use Rattle.buffer.specs.Tests.{all_to}
 use Rattle.buffer.proofs.Parts.{map_tabulate}

@@ -22,7 +22,6 @@ use Rattle.buffer.specs.Tests.{all_to}
 use Rattle.register_form_test.specs.Loops.{sum_to, is_set}
 use Rattle.register_form_test.specs.Stages.{text_length, form_count, form_bytes, form_in, behind_at, form_ok, last_by, form_test, form_length, FormsTested, PagesTested, identifier_at, last_to, places_to, page_ok, page_test, page_length, used_test}
 use Rattle.register_form_test.specs.declared.Tally.{Tally}
-use Rattle.buffer.proofs.Testing.{all_more}
 use Rattle.register_form_test.proofs.Loops.{sum_more, length_written, written_length}
 
 all_fails : (f : ℕ → Bool) (n j : ℕ) → j < n → f j ≡ false → false ≡ all_to n f

@@ -9,13 +9,13 @@ use lib.ListN.{length, get_or, replicate, length-replicate, get_or-replicate}
 use lib.Seq.{ext_get_or}
 use borrow.Author.Tests.{not-true, not-false}
 use Rattle.text.specs.Bytes.{Bytes}
-use Rattle.register_form.specs.Form.{page_count, term_count, text_count}
+use Rattle.register_form.specs.Form.{term_count, text_count}
 use Rattle.register_form.specs.Tests.{is_laid}
 use Rattle.buffer.specs.Tests.{all_to}
 use Rattle.register_form.proofs.Forms.{tested_is}
 use Rattle.register_form.proofs.Laying.{laid_facts}
 use Rattle.register_form_test.specs.Loops.{written, is_set}
-use Rattle.register_form_test.specs.Stages.{text_test, classes_to, Classed, PropertiesTested, TermsTested, PagesTested, used_test, identifier_at}
+use Rattle.register_form_test.specs.Stages.{text_test, classes_to, Classed, PropertiesTested, TermsTested, PagesTested, used_test}
 use Rattle.register_form_test.specs.Opening.{Opens, Tries}
 use Rattle.register_form_test.specs.declared.Tally.{Tally}
 use Rattle.sorting.proofs.Canonical.{left_of, right_of}

@@ -1,6 +1,6 @@
 -- Working definitions: the dictionary that the writer's tables tell, and what writing a dictionary answers.
 use Rattle.std.specs.Prelude.{ℕ, ◌+◌, ◌≤◌, ◌≡◌, Bool, true, cond, ◌&&◌, leb, length, get_or}
-use mathlib.Core.List.{List, [], ◌∷◌, ◌++◌, flat_map}
+use mathlib.Core.List.{List, [], ◌∷◌, flat_map}
 use Rattle.text.specs.Bytes.{Bytes, order_of}
 use Rattle.text.specs.Table.{tabulate}
 use Rattle.language.specs.Answer.{Answer, refused, Answered}

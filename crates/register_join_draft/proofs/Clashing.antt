@@ -1,42 +1,42 @@
 -- Whether kinds clash, as it is tested.
-use Prim.Native.Nat.{ℕ, zero, suc, ◌+◌, ◌-◌, ◌*◌, ◌≤◌, ◌<◌}
+use Prim.Native.Nat.{ℕ, zero, suc, ◌+◌, ◌-◌, ◌≤◌, ◌<◌}
 use mathlib.Core.Path.{◌≡◌, refl, sym, ap, ap₂, ◌∙◌, subst}
-use mathlib.Core.Bool.{Bool, true, false, cond, not, ◌||◌}
+use mathlib.Core.Bool.{Bool, true, false, cond, not}
 use mathlib.Core.Option.{Option, some, none}
-use mathlib.Core.List.{List, [], ◌∷◌, ◌++◌, map, map-map, Memᴰ}
+use mathlib.Core.List.{List, [], ◌∷◌, map, map-map, Memᴰ}
 use native.Mathlib.Numerals.{add-one}
 use native.Mathlib.Omega.{arith}
 use lib.Dec.{eqb}
 use lib.ListN.{length, get_or, length-map}
-use borrow.Author.Tests.{eq-eqb, ne_eqb}
+use borrow.Author.Tests.{ne_eqb}
 use Rattle.text.specs.Bytes.{Bytes, same, any}
 use Rattle.text.specs.Table.{tabulate}
 use Rattle.text.proofs.Laws.{any_append}
 use Rattle.text.proofs.Tables.{length_tabulate, get_d_tabulate}
 use Rattle.values.specs.Values.{same_kind, kind_code, kind_from, kind_count}
 use Rattle.values.specs.declared.Kind.{Kind}
-use Rattle.language.specs.Register.{Property, kind_among, distinct}
+use Rattle.language.specs.Register.{Property, kind_among}
 use Rattle.language.specs.Joining.{is_other_kind, kinds_clash}
 use Rattle.language.proofs.Members.{any_mem, any_same, both_false, all_at}
 use Rattle.values.proofs.EachKind.{code_told}
 use Rattle.values.proofs.Sameness.{kind_eq, kind_refl}
-use Rattle.register_form.specs.Dictionary.{PropertyRow, Dictionary, name_of, text_in, property_in, no_property, decode_property, decode}
+use Rattle.register_form.specs.Dictionary.{PropertyRow, Dictionary, name_of, no_property, decode_property, decode}
 use Rattle.register_form.specs.Opened.{next}
 use Rattle.register_form.specs.Form.{kind_byte, property_count, property_at, dictionary_in, register_in}
 use Rattle.register_form.specs.Tests.{is_plain_number}
 use Rattle.register_form.specs.Draft.{once_behind}
 use Rattle.register_form.proofs.Lists.{mem_at, mem_place}
 use Rattle.buffer.proofs.Parts.{map_tabulate}
-use Rattle.register_form.proofs.Laying.{Laid, laid_facts}
+use Rattle.register_form.proofs.Laying.{laid_facts}
 use Rattle.register_form.proofs.Described.{plain_below}
 use Rattle.register_form.specs.Formed.{Formed}
 use Rattle.register_join_merge.specs.Merged.{Merged}
 use Rattle.register_join_draft.specs.Joined.{same_row, name_in, place_in, row_of, rows_of}
-use Rattle.register_join_draft.specs.Drafting.{items_in, Listed, no_row, Rowed, PropertiesPut, clashes_at, some_clash, Clashed}
+use Rattle.register_join_draft.specs.Drafting.{items_in, no_row, Rowed, PropertiesPut, clashes_at, some_clash, Clashed}
 use Rattle.register_join_draft.proofs.Once.{any_map, once_distinct}
 use Rattle.register_join_draft.proofs.Texts.{decided, same_name}
 use Rattle.register_join_draft.proofs.Moved.{item_plain}
-use Rattle.register_join_draft.proofs.Rows.{Proper, same_row_likeness, rows_distinct}
+use Rattle.register_join_draft.proofs.Rows.{same_row_likeness, rows_distinct}
 use Rattle.register_join_draft.proofs.Listing.{zeros, length_zeros, empty_table, rowed_none}
 use Rattle.register_join_draft.proofs.Held.{held_canon, proper, properties_few, property_is, count_properties, name_below}
 use Rattle.register_join_draft.proofs.Terms.{place_most}

@@ -1,32 +1,30 @@
 -- The draft of a join keeps what a draft must, and describes the join.
 use Prim.Native.Nat.{ℕ, ◌+◌, ◌-◌, ◌<◌, ◌^◌}
 use mathlib.Core.Path.{◌≡◌, refl, sym, ap, ap₂, ◌∙◌, subst}
-use mathlib.Core.Bool.{Bool, true, false}
+use mathlib.Core.Bool.{true, false}
 use mathlib.Core.Logic.{◌⊎◌, inl, inr}
 use mathlib.Core.List.Memᴰ
-use mathlib.Core.List.{List, [], ◌∷◌, ◌++◌, map, flat_map, Memᴰ}
+use mathlib.Core.List.{List, [], ◌++◌, map, flat_map, Memᴰ}
 use native.Mathlib.Omega.{arith}
 use lib.Dec.{ltb, eqb}
-use lib.ListN.{length, get_or, length-append, length-map}
+use lib.ListN.{length, length-append, length-map}
 use borrow.Author.Tests.{lt-ltb, ltb-true, ltb-false, eqb-true}
-use Rattle.text.specs.Bytes.{Bytes, any, all}
-use Rattle.language.specs.Register.{Register}
-use Rattle.language.specs.Joining.{only_in, join, kinds_clash}
-use Rattle.language.specs.Rules.{is_register}
+use Rattle.text.specs.Bytes.{Bytes, any}
+use Rattle.language.specs.Joining.{only_in, join}
 use Rattle.language.proofs.Members.{by_test, any_found, all_of}
 use Rattle.language.proofs.Unions.{only_member}
-use Rattle.register_form.specs.Dictionary.{PropertyRow, PageRow, Dictionary, term_of, group_of, term_code, text_in, term_in, decode}
+use Rattle.register_form.specs.Dictionary.{PageRow, Dictionary, term_of, group_of, term_code, decode}
 use Rattle.register_form.specs.Form.{forms_of}
-use Rattle.register_form.specs.Tests.{is_plain_number, is_term, term_texts, text_uses, term_uses, every_used}
+use Rattle.register_form.specs.Tests.{is_plain_number, is_term, term_texts, text_uses, term_uses}
 use Rattle.register_form.specs.Draft.{Draft, drafted}
 use Rattle.register_form.proofs.Lists.{mem_at, mem_flat, of_flat, used_mem, mem_used}
-use Rattle.register_form.proofs.Described.{Canon, form_below, Use, use_of}
-use Rattle.register_join_merge.specs.Merged.{Names, Merged}
+use Rattle.register_form.proofs.Described.{form_below, Use, use_of}
+use Rattle.register_join_merge.specs.Merged.{Names}
 use Rattle.register_join_draft.specs.Joined.{name_in, place_in, forms_in, key_of, keys_of, moved_term, join_names, second_forms, row_both, row_second, join_pages, join_terms, join_draft}
 use Rattle.register_join_draft.proofs.Sheets.{forms_row}
 use Rattle.register_join_draft.proofs.Texts.{labels, key_below}
 use Rattle.register_join_draft.proofs.Moved.{Source, term_fits, term_shaped, term_texts_lem}
-use Rattle.register_join_draft.proofs.Rows.{Proper, Joint, only_there, items, draft_rows, row_plain_there, source1, source2, name1_there, name2_there, join_properties, properties_once_lem}
+use Rattle.register_join_draft.proofs.Rows.{Joint, only_there, items, draft_rows, row_plain_there, source1, source2, name1_there, name2_there, join_properties, properties_once_lem}
 use Rattle.register_join_draft.proofs.Pages.{second_forms_lem, join_pages_lem}
 
 -- What is used of a draft's texts.

@@ -9,7 +9,7 @@ use Rattle.text.specs.Bytes.{Bytes}
 use Rattle.text.proofs.Tables.{length_tabulate, get_d_tabulate}
 use Rattle.language.proofs.Members.{all_at}
 use Rattle.register_form.specs.Dictionary.{PropertyRow, PageRow, Dictionary, term_in, property_in, no_property, decode}
-use Rattle.register_form.specs.Form.{page_count, property_count, term_count, property_at, page_at, term_at, text_at, dictionary_in, register_in}
+use Rattle.register_form.specs.Form.{page_count, property_count, term_count, property_at, page_at, term_at, dictionary_in, register_in}
 use Rattle.register_form.specs.Tests.{is_plain_number, term_uses}
 use Rattle.register_form.proofs.Lists.{mem_at}
 use Rattle.register_form.proofs.Laying.{Laid, laid_facts}

@@ -1,7 +1,7 @@
 -- Lists without repeats, with a table of places: what one more entry gives.
 use Prim.Native.Nat.{ℕ, zero, suc, ◌+◌, ◌%◌, ◌≤◌, ◌<◌}
-use mathlib.Core.Path.{◌≡◌, refl, sym, ap, ap₂, ◌∙◌, subst}
-use mathlib.Core.Bool.{Bool, true, false, cond, not, ◌||◌, true≢false, false≢true}
+use mathlib.Core.Path.{◌≡◌, refl, sym, ap, ◌∙◌, subst}
+use mathlib.Core.Bool.{Bool, true, false, cond, not, ◌||◌}
 use mathlib.Core.List.{List, [], ◌∷◌, ◌++◌, map, map-append}
 use mathlib.Core.Logic.{◌⊎◌, inl, inr, ⊎_elim}
 use native.Mathlib.Nat.{mod-eq_of_lt}
@@ -11,13 +11,11 @@ use native.Mathlib.Decide.{ℕ_discrete}
 use lib.Dec.{eqb}
 use lib.ListN.{length, get_or, set, length-append, length-map, length-set, get_or-append, replicate, length-replicate, get_or-replicate}
 use lib.Seq.{get_or-append_seam, get_or-set_same, get_or-set_other}
-use borrow.Author.Tests.{eqb-true, eq-eqb, ne_eqb, not-true}
+use borrow.Author.Tests.{eqb-true, eq-eqb, ne_eqb}
 use Rattle.text.specs.Bytes.{any}
 use Rattle.text.specs.Table.{tabulate}
 use Rattle.values.specs.Values.{kind_from}
-use Rattle.values.specs.declared.Kind.{Kind}
-use Rattle.language.proofs.Members.{or_false, by_test}
-use Rattle.language.proofs.Unions.{Likeness}
+use Rattle.language.proofs.Members.{or_false}
 use Rattle.register_form.specs.Dictionary.{PropertyRow}
 use Rattle.register_form.specs.Opened.{next}
 use Rattle.register_form.specs.Draft.{once_behind}

@@ -1,15 +1,14 @@
 -- A dictionary's terms in a draft, with items for the numbers of texts: they tell there what they tell in the dictionary.
-use Prim.Native.Nat.{ℕ, zero, suc, ◌+◌, ◌-◌, ◌≤◌, ◌<◌}
-use mathlib.Core.Path.{◌≡◌, refl, sym, ap, ap₂, ◌∙◌, subst}
-use mathlib.Core.Bool.{Bool, true, false, cond, ◌&&◌, false≢true}
+use Prim.Native.Nat.{ℕ, suc, ◌-◌, ◌<◌}
+use mathlib.Core.Path.{◌≡◌, refl, sym, ap, ap₂, ◌∙◌}
+use mathlib.Core.Bool.{true, false}
 use mathlib.Core.List.{List, [], ◌∷◌, ◌++◌, map, Memᴰ}
 use native.Mathlib.Omega.{arith}
-use lib.Dec.{ltb, leb, eqb}
-use lib.ListN.{length, get_or}
+use lib.Dec.{ltb}
+use lib.ListN.{length}
 use borrow.Author.Tests.{ltb-true, lt-ltb, le-leb, eqb-false, ne_eqb}
 use Rattle.text.specs.Bytes.{Bytes}
 use Rattle.values.specs.declared.Kind.{Kind}
-use Rattle.values.specs.Values.{Value}
 use Rattle.language.specs.Register.{Held}
 use Rattle.language.proofs.Members.{and_true, both_true, all_at, by_test}
 use Rattle.buffer.specs.Numbers.{two_at, eight_at}
@@ -17,9 +16,9 @@ use Rattle.register_form.specs.Dictionary.{PropertyRow, Dictionary, name_of, ter
 use Rattle.register_form.specs.Tests.{is_plain, is_plain_number, is_code, is_term, code_texts, term_texts}
 use Rattle.register_form.proofs.Lists.{mem_at}
 use Rattle.register_form.proofs.Numbers.{code_back}
-use Rattle.register_form.proofs.Described.{Canon, Shaped, category_name, held_value, plain_below, category_fits, value_group_fits, value_code_fits}
+use Rattle.register_form.proofs.Described.{Canon, Shaped, category_name, plain_below, category_fits, value_group_fits, value_code_fits}
 use Rattle.register_join_merge.specs.Merged.{Itemed}
-use Rattle.register_join_draft.specs.Joined.{name_in, place_in, row_of, code_by, moved_term}
+use Rattle.register_join_draft.specs.Joined.{name_in, row_of, code_by, moved_term}
 use Rattle.register_join_draft.proofs.Places.{Stands}
 
 -- A dictionary in a draft: its texts by their items, and its properties.

@@ -1,8 +1,8 @@
 -- The pages of a draft of a join are those of the join.
-use Rattle.language.proofs.Rules.{Ruled, RuledPage, page_rules}
+use Rattle.language.proofs.Rules.{RuledPage, page_rules}
 use Prim.Native.Nat.{ℕ, zero, suc, ◌+◌, ◌<◌}
 use mathlib.Core.Path.{◌≡◌, refl, sym, ap, ap₂, ◌∙◌, subst}
-use mathlib.Core.Bool.{Bool, true, false, cond, not, ◌&&◌}
+use mathlib.Core.Bool.{Bool, true, false, cond, not}
 use mathlib.Core.Option.{Option, some, none}
 use mathlib.Core.List.Memᴰ
 use mathlib.Core.List.{List, [], ◌∷◌, ◌++◌, map, map-map, map-append, append-nil, Memᴰ}
@@ -13,12 +13,11 @@ use borrow.Author.Tests.{not-true, eq-eqb}
 use Rattle.text.specs.Bytes.{Bytes, same, any}
 use Rattle.values.specs.Names.{same_identifier}
 use Rattle.language.specs.Answer.{found}
-use Rattle.language.specs.Register.{Held, Page, Register, distinct, same_page}
+use Rattle.language.specs.Register.{Held, Page, distinct, same_page}
 use Rattle.language.specs.RegisterText.{same_held}
 use Rattle.language.specs.Rules.{is_page}
-use Rattle.language.specs.Joining.{only_in, union, like_in, join_page, joined_with, join}
+use Rattle.language.specs.Joining.{only_in, like_in, join_page, joined_with, join}
 use Rattle.language.proofs.Members.{and_true, all_at, any_at, any_same, map_same, get_d_mapped}
-use Rattle.language.proofs.Unions.{Likeness}
 use Rattle.language.proofs.Sameness.{same_likeness, same_held_likeness}
 use Rattle.register_form.specs.Dictionary.{PageRow, Dictionary, identifier_of, is_category, text_in, term_in, category_of, held_of, categories_in, values_in, decode_page, decode}
 use Rattle.register_form.specs.Opened.{next}

@@ -19,14 +19,13 @@ use Rattle.language.proofs.Unions.{only_member}
 use Rattle.dictionary.specs.Items.{text_at as item_at}
 use Rattle.register_form.specs.Dictionary.{PageRow, Dictionary, term_of}
 use Rattle.register_form.specs.Form.{page_count, property_count, term_count, forms_of, dictionary_in}
-use Rattle.register_form.specs.Tests.{term_uses}
-use Rattle.register_form.specs.Tables.{tables_of, draft_in}
+use Rattle.register_form.specs.Tables.{draft_in}
 use Rattle.register_form.proofs.Lists.{mem_at}
 use Rattle.register_form.proofs.Described.{form_below}
 use Rattle.register_form.specs.Formed.{Formed}
 use Rattle.register_join_merge.specs.Merged.{Merged}
-use Rattle.register_join_draft.specs.Joined.{place_in, no_page, forms_in, key_of, keys_of, moved_term, join_rows, join_names, second_forms, row_both, row_second, join_pages, join_terms, join_draft}
-use Rattle.register_join_draft.specs.Drafting.{items_in, Listed, Rowed, PropertiesPut, IdentifiersPut, new_term, TermsListed, TermsPut, behind, new_row, forms_to, Ended, PagesPut, JoinPut}
+use Rattle.register_join_draft.specs.Joined.{place_in, no_page, forms_in, key_of, keys_of, join_rows, join_names, second_forms, row_both, row_second, join_pages, join_terms, join_draft}
+use Rattle.register_join_draft.specs.Drafting.{items_in, Listed, Rowed, PropertiesPut, IdentifiersPut, new_term, TermsListed, TermsPut, behind, new_row, forms_to, PagesPut, JoinPut}
 use Rattle.register_join_draft.proofs.Sheets.{forms_row}
 use Rattle.register_join_draft.proofs.Texts.{key_below}
 use Rattle.register_join_draft.proofs.Listing.{zeros, length_zeros, empty_table}

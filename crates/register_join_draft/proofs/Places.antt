@@ -1,17 +1,15 @@
 -- Laws of places in lists of numbers.
-use Prim.Native.Nat.{ℕ, zero, suc, ◌<◌}
-use mathlib.Core.Path.{◌≡◌, refl, sym, ap, ◌∙◌}
-use mathlib.Core.Bool.{Bool, true, false, cond, not, ◌&&◌, ◌||◌}
-use mathlib.Core.List.{List, [], ◌∷◌, ◌++◌, map, Memᴰ}
+use Prim.Native.Nat.{ℕ, suc, ◌<◌}
+use mathlib.Core.Path.{◌≡◌, sym, ap}
+use mathlib.Core.Bool.{true, not}
+use mathlib.Core.List.{List, [], ◌∷◌, map, Memᴰ}
 use native.Mathlib.Omega.{arith}
-use lib.Dec.{eqb}
 use lib.ListN.{length, get_or}
 use borrow.Author.Tests.{not-true, eq-eqb}
 use Rattle.text.specs.Bytes.{any}
 use Rattle.language.specs.Register.{distinct}
 use Rattle.language.proofs.Members.{and_true, any_at}
 use Rattle.register_form.specs.Dictionary.{PropertyRow}
-use Rattle.register_form.specs.Opened.{next}
 use Rattle.register_join_draft.specs.Joined.{same_row, name_in, place_in}
 
 -- A row that no other is like stands in the place of its name.

@@ -1,20 +1,17 @@
 -- The properties of a draft of a join are those of the join, and each property of either register stands among them.
-use Rattle.values.specs.Values.{same_kind}
 use Rattle.language.proofs.Rules.{Ruled}
 use Prim.Native.Nat.{ℕ, ◌<◌}
 use mathlib.Core.Path.{◌≡◌, refl, sym, ap, ap₂, ◌∙◌, subst}
-use mathlib.Core.Bool.{Bool, true, false, cond, not, ◌&&◌, true≢false}
-use mathlib.Core.Option.{Option, some, none}
+use mathlib.Core.Bool.{Bool, true, false, cond, not}
+use mathlib.Core.Option.{some}
 use mathlib.Core.Logic.{◌⊎◌, inl, inr}
 use mathlib.Core.List.Memᴰ
 use mathlib.Core.List.{List, [], ◌∷◌, ◌++◌, map, map-map, map-append, Memᴰ}
 use native.Mathlib.Omega.{arith}
-use lib.Dec.{eqb}
-use lib.ListN.{length, get_or}
+use lib.ListN.{length}
 use borrow.Author.Tests.{not-true, not-false, eqb-true, eq-eqb}
-use Rattle.text.specs.Bytes.{Bytes, same, any, all}
+use Rattle.text.specs.Bytes.{Bytes, same, any}
 use Rattle.text.proofs.Laws.{same_refl, same_eq}
-use Rattle.values.specs.declared.Kind.{Kind}
 use Rattle.language.specs.Register.{Property, Register, kind_among, distinct, same_property}
 use Rattle.language.specs.Joining.{only_in, union, join, is_other_kind, kinds_clash}
 use Rattle.language.proofs.Members.{and_true, all_at, any_at, any_found, any_same, map_same, by_test}

@@ -1,6 +1,6 @@
 -- The terms that the code makes are those of the draft.
-use Prim.Native.Nat.{ℕ, zero, suc, ◌+◌, ◌-◌, ◌%◌, ◌≤◌, ◌<◌}
-use mathlib.Core.Path.{◌≡◌, refl, sym, ap, ap₂, ◌∙◌, subst}
+use Prim.Native.Nat.{ℕ, zero, suc, ◌-◌, ◌%◌, ◌≤◌, ◌<◌}
+use mathlib.Core.Path.{◌≡◌, sym, ap, ap₂, ◌∙◌, subst}
 use mathlib.Core.Bool.{Bool, true, false, cond}
 use mathlib.Core.List.{List, [], ◌∷◌, map, Memᴰ}
 use native.Mathlib.Nat.{mod-eq_of_lt}
@@ -13,7 +13,7 @@ use Rattle.values.specs.declared.Kind.{Kind}
 use Rattle.text.specs.Table.{tabulate}
 use Rattle.text.proofs.Tables.{length_tabulate, tabulate_ext}
 use Rattle.language.proofs.Members.{by_test}
-use Rattle.register_form.specs.Dictionary.{PropertyRow, PageRow, Dictionary, term_of, group_of, term_code, is_category, term_in, property_in}
+use Rattle.register_form.specs.Dictionary.{PropertyRow, Dictionary, term_of, group_of, term_code, is_category, term_in, property_in}
 use Rattle.register_form.specs.Opened.{next}
 use Rattle.register_form.specs.Form.{property_count, term_count, property_at, term_at, dictionary_in}
 use Rattle.register_form.proofs.Lists.{mem_at}

@@ -1,18 +1,18 @@
 -- Items and their texts: two are the same where their texts tell the same.
 use Prim.Native.Nat.{ℕ, ◌<◌}
 use mathlib.Core.Path.{◌≡◌, refl, sym, ap, ap₂, ◌∙◌}
-use mathlib.Core.Bool.{Bool, true, false, ◌&&◌, false≢true}
+use mathlib.Core.Bool.{Bool, true, false, false≢true}
 use mathlib.Core.Logic.{◌⊎◌, inl, inr}
-use mathlib.Core.List.{List, [], Memᴰ}
+use mathlib.Core.List.{[], Memᴰ}
 use lib.Dec.{ltb, eqb}
-use lib.ListN.{length, get_or}
+use lib.ListN.{length}
 use borrow.Author.Tests.{ltb-true, eq-eqb, ne_eqb, eqb-true}
 use Rattle.text.specs.Bytes.{Bytes, order_of, same, all}
 use Rattle.text.proofs.Laws.{same_refl, same_eq}
-use Rattle.values.specs.Names.{Identifier, same_identifier}
+use Rattle.values.specs.Names.{same_identifier}
 use Rattle.language.specs.Register.{distinct, same_page}
 use Rattle.language.proofs.Members.{and_true, all_at, all_of}
-use Rattle.language.proofs.Unions.{Decides, Likeness, by_key}
+use Rattle.language.proofs.Unions.{Likeness, by_key}
 use Rattle.language.proofs.Sameness.{same_identifier_decides}
 use Rattle.sorting.specs.Ascending.{rank}
 use Rattle.register_form.specs.Dictionary.{PageRow, Dictionary, name_of, identifier_of, text_in, decode_page, decode}

@@ -1,14 +1,14 @@
 -- A join has at most the forms of both.
 use Rattle.register_form.proofs.Totals.{length_flat, total_most, total_same}
-use Prim.Native.Nat.{ℕ, zero, suc, ◌+◌, ◌≤◌, ◌<◌}
+use Prim.Native.Nat.{ℕ, ◌+◌, ◌≤◌}
 use mathlib.Core.Path.{◌≡◌, refl, ap, ◌∙◌}
-use mathlib.Core.Bool.{Bool, true, false, cond, not, ◌&&◌}
+use mathlib.Core.Bool.{Bool, true, false, cond, not}
 use mathlib.Core.List.{List, [], ◌∷◌, ◌++◌, map, flat_map}
 use native.Mathlib.Omega.{arith}
 use lib.Dec.{eqb}
 use lib.ListN.{length, length-append, length-map}
 use borrow.Author.Tests.{not-true, eqb-true}
-use Rattle.text.specs.Bytes.{Bytes, any}
+use Rattle.text.specs.Bytes.{any}
 use Rattle.language.specs.Register.{distinct}
 use Rattle.language.specs.Rules.{total}
 use Rattle.language.specs.Joining.{only_in}

@@ -1,13 +1,12 @@
 -- What the functions answer, by what they called.
-use Prim.Native.Nat.{ℕ, suc, ◌+◌, ◌-◌, ◌*◌, ◌%◌, ◌≤◌, ◌<◌}
-use mathlib.Core.Path.{◌≡◌, refl, sym, ap, ap₂, ◌∙◌, subst}
-use mathlib.Core.Bool.{Bool, true, false, cond}
-use mathlib.Core.List.{List, [], ◌∷◌, ◌++◌, map}
+use Prim.Native.Nat.{ℕ, ◌+◌, ◌-◌, ◌%◌, ◌≤◌, ◌<◌}
+use mathlib.Core.Path.{◌≡◌, refl, sym, ap, ◌∙◌, subst}
+use mathlib.Core.List.{List}
 use native.Mathlib.Omega.{arith}
 use lib.Dec.{eqb}
 use lib.ListN.{length, get_or, set, length-set, length-map}
 use borrow.Author.Tests.{eq-eqb, ne_eqb}
-use Rattle.text.specs.Bytes.{Bytes, any}
+use Rattle.text.specs.Bytes.{Bytes}
 use Rattle.text.specs.Table.{tabulate}
 use Rattle.values.specs.Values.{kind_from}
 use Rattle.values.specs.declared.Kind.{Kind}
@@ -16,7 +15,7 @@ use Rattle.register_form.specs.Dictionary.{PropertyRow}
 use Rattle.register_form.specs.Form.{kind_byte, page_count, property_count, property_at, page_at}
 use Rattle.register_form.specs.Draft.{once_behind}
 use Rattle.register_join_draft.specs.Joined.{same_row, name_in, code_by}
-use Rattle.register_join_draft.specs.Drafting.{items_in, Listed, Entering, Rowed, PropertiesPut, IdentifiersPut, new_group, new_code}
+use Rattle.register_join_draft.specs.Drafting.{items_in, Entering, PropertiesPut, IdentifiersPut, new_group, new_code}
 use Rattle.register_join_draft.proofs.Listing.{behind_more, behind_most, enter_there, enter_new, rowed_more}
 use Rattle.register_join_draft.proofs.Writing.{put_term, page_none, page_past, page_put}
 

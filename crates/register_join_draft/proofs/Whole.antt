@@ -1,18 +1,17 @@
 -- Two registers whose kinds do not clash: the draft of their join describes it. For registers, and for held registers by the calls.
 use Rattle.language.proofs.Rules.{Ruled, register_rules}
 use Prim.Native.Nat.{ℕ, ◌≤◌}
-use mathlib.Core.Path.{◌≡◌, refl, sym, ap, ap₂, ◌∙◌, subst}
+use mathlib.Core.Path.{◌≡◌, sym, ap, ap₂, ◌∙◌, subst}
 use mathlib.Core.Bool.{true, false}
-use mathlib.Core.List.{List, [], ◌∷◌, flat_map, Memᴰ}
+use mathlib.Core.List.{List, flat_map, Memᴰ}
 use native.Mathlib.Omega.{arith}
 use lib.ListN.{length}
-use Rattle.text.specs.Bytes.{Bytes, order_of}
+use Rattle.text.specs.Bytes.{Bytes}
 use Rattle.text.specs.Table.{tabulate}
 use Rattle.text.proofs.Tables.{length_tabulate}
 use Rattle.language.specs.Register.{Held, Page, Register}
 use Rattle.language.specs.Rules.{is_register}
 use Rattle.language.specs.Joining.{join, kinds_clash}
-use Rattle.sorting.specs.Ascending.{rank}
 use Rattle.dictionary.specs.Items.{text_at as item_at}
 use Rattle.register_form.specs.Dictionary.{Dictionary, term_of, group_of, term_code, decode}
 use Rattle.register_form.specs.Encoding.{category_term, value_term, page_terms, terms_of, encode}

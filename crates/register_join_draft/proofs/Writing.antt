@@ -3,12 +3,12 @@ use Prim.Native.Nat.{ℕ, zero, suc, ◌+◌, ◌-◌, ◌*◌, ◌%◌, ◌≤�
 use mathlib.Core.Path.{◌≡◌, refl, sym, ap, ap₂, ◌∙◌, subst}
 use mathlib.Core.Bool.{Bool, true, false, not, true≢false}
 use mathlib.Core.List.{List, [], ◌∷◌, ◌++◌, map, flat_map, map-append, append-nil, append_assoc}
-use mathlib.Core.Logic.{◌⊎◌, inl, inr, ⊎_elim}
+use mathlib.Core.Logic.{⊎_elim}
 use native.Mathlib.Nat.{add-zero, mod-eq_of_lt}
 use native.Mathlib.Omega.{arith}
 use native.Mathlib.Numerals.{add-one}
 use native.Mathlib.Decide.{ℕ_discrete}
-use lib.ListN.{length, get_or, set, length-append, length-set, length-map, get_or-eq_default}
+use lib.ListN.{length, get_or, set, length-append, length-set, get_or-eq_default}
 use lib.Seq.{get_or-set_same, get_or-set_other}
 use Rattle.text.specs.Bytes.{Bytes}
 use Rattle.text.specs.Table.{tabulate}
@@ -18,7 +18,7 @@ use Rattle.register_form.specs.Form.{page_count, term_count, page_at, form_start
 use Rattle.buffer.specs.Numbers.{two_at}
 use Rattle.buffer.proofs.Parts.{flat_more}
 use Rattle.register_join_draft.specs.Joined.{no_page, forms_in}
-use Rattle.register_join_draft.specs.Drafting.{new_group, new_code, new_term, TermsListed, TermsPut, Holds, NumbersPut, behind, new_row, forms_to, Paged, PagesPut}
+use Rattle.register_join_draft.specs.Drafting.{new_group, new_code, new_term, TermsPut, NumbersPut, behind, new_row, forms_to, Paged, PagesPut}
 use Rattle.register_join_draft.proofs.Listing.{snoc_at}
 
 -- What is read in a table that has one more: at and new read it before and after.

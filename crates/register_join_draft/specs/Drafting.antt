@@ -1,5 +1,5 @@
 -- Working definitions: tables that a draft of a join is made in.
-use Rattle.std.specs.Prelude.{ℕ, suc, ◌+◌, ◌-◌, ◌*◌, ◌%◌, ◌≤◌, ◌<◌, ◌≡◌, Bool, false, cond, not, eqb, length, get_or}
+use Rattle.std.specs.Prelude.{ℕ, suc, ◌+◌, ◌-◌, ◌%◌, ◌≤◌, ◌<◌, ◌≡◌, Bool, false, cond, not, eqb, length, get_or}
 use mathlib.Core.List.{List, [], ◌∷◌, ◌++◌, map, flat_map}
 use Rattle.text.specs.Bytes.{Bytes, any}
 use Rattle.text.specs.Table.{tabulate}
@@ -7,13 +7,13 @@ use Rattle.values.specs.Values.{kind_from}
 use Rattle.values.specs.declared.Kind.{Kind}
 use Rattle.language.specs.Joining.{kinds_clash}
 use Rattle.dictionary.specs.Items.{text_at as item_at}
-use Rattle.register_form.specs.Dictionary.{PropertyRow, PageRow, Dictionary, term_of, group_of, term_code, no_property}
+use Rattle.register_form.specs.Dictionary.{PropertyRow, PageRow, term_of, group_of, term_code}
 use Rattle.register_form.specs.Form.{kind_byte, page_count, property_count, property_at, page_at, forms_of, term_at, dictionary_in, register_in}
 use Rattle.register_form.specs.Draft.{once_behind}
 use Rattle.register_form.specs.Tables.{tables_of, draft_in}
 use Rattle.register_form.specs.Formed.{Formed}
 use Rattle.register_join_merge.specs.Merged.{Merged}
-use Rattle.register_join_draft.specs.Joined.{same_row, name_in, place_in, forms_in, rows_of, keys_of, code_by, join_draft}
+use Rattle.register_join_draft.specs.Joined.{same_row, name_in, place_in, forms_in, code_by, join_draft}
 
 -- The items of numbers, by a table.
 abbrev pub items_in : List ℕ → ℕ → ℕ

@@ -1,13 +1,12 @@
 -- Which text is next.
-use Prim.Native.Nat.{ℕ, suc, ◌+◌, ◌≤◌, ◌<◌}
-use mathlib.Core.Path.{◌≡◌, refl, sym, ap, ◌∙◌}
+use Prim.Native.Nat.{ℕ, ◌≤◌, ◌<◌}
+use mathlib.Core.Path.{◌≡◌, refl, sym}
 use mathlib.Core.Bool.{Bool, true, false, cond, ◌||◌, true≢false, false≢true}
 use mathlib.Core.Logic.{◌⊎◌, inl, inr, ⊎_elim}
 use native.Mathlib.Omega.{arith}
 use lib.Dec.{leb, ltb}
 use borrow.Author.Tests.{leb-true, leb-false, ltb-true, ltb-false}
 use Rattle.text.specs.Bytes.{Bytes, order_of}
-use Rattle.text.specs.Table.{bit}
 use Rattle.text.proofs.Laws.{order_eq}
 use Rattle.text.specs.declared.Order.{Order}
 use Rattle.text.specs.declared.Order.TheVariants.{Less, Equal, Greater}

@@ -1,5 +1,5 @@
 -- A run of the merge: what holds after each text.
-use Prim.Native.Nat.{ℕ, suc, ◌+◌, ◌-◌, ◌%◌, ◌≤◌, ◌<◌}
+use Prim.Native.Nat.{ℕ, ◌+◌, ◌-◌, ◌%◌, ◌≤◌, ◌<◌}
 use mathlib.Core.Path.{◌≡◌, refl, sym, ap, ap₂, ◌∙◌}
 use mathlib.Core.Bool.{Bool, true, false, cond}
 use mathlib.Core.Logic.{◌⊎◌, inl, inr, ⊎_elim}
@@ -19,7 +19,7 @@ use Rattle.dictionary.specs.Items.{text_at as item_at}
 use Rattle.register_form.specs.Form.{text_count, text_start, text_at, dictionary_in}
 use Rattle.register_form.specs.Formed.{Formed}
 use Rattle.register_join_merge.specs.Merged.{Itemed, Names, Merged}
-use Rattle.register_join_merge.specs.Merging.{next_order, takes_first, takes_second, next_text, Pasted, Added, Noted, Room, Merger}
+use Rattle.register_join_merge.specs.Merging.{next_order, takes_first, takes_second, next_text, Added, Noted, Room, Merger}
 use Rattle.register_join_merge.proofs.Stored.{text_new, text_old, within_more}
 use Rattle.register_join_merge.proofs.Orders.{Next, next_is}
 use Rattle.register_join_merge.proofs.Halves.{Half, Has, half_none, half_next, has_old, has_new}

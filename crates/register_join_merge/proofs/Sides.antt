@@ -1,8 +1,8 @@
 -- The texts of a held register: they ascend, and lie one behind the other.
-use Prim.Native.Nat.{ℕ, zero, suc, ◌+◌, ◌-◌, ◌≤◌, ◌<◌}
+use Prim.Native.Nat.{ℕ, zero, suc, ◌+◌, ◌≤◌, ◌<◌}
 use mathlib.Core.Path.{◌≡◌, refl, sym, ap, ap₂, ◌∙◌}
-use mathlib.Core.Bool.{Bool, true, false, ◌&&◌, false≢true}
-use mathlib.Core.List.{List, [], ◌∷◌, ◌++◌, append_assoc}
+use mathlib.Core.Bool.{Bool, true, false, false≢true}
+use mathlib.Core.List.{List, [], ◌∷◌, append_assoc}
 use native.Mathlib.Omega.{arith}
 use native.Mathlib.Numerals.{add-one}
 use lib.ListN.{length, get_or}
@@ -13,11 +13,10 @@ use Rattle.text.specs.declared.Order.{Order}
 use Rattle.text.specs.declared.Order.TheVariants.{Less, Equal, Greater}
 use Rattle.language.proofs.Members.{and_true, both_true}
 use Rattle.sorting.specs.Ascending.{is_less, Total, below, ascends}
-use Rattle.sorting.proofs.Canonical.{tail_ascends, ascends_snoc}
-use Rattle.sorting.proofs.Orders.{bytes_total}
+use Rattle.sorting.proofs.Canonical.{ascends_snoc}
 use Rattle.register_form.specs.Form.{text_count, text_start, text_at, dictionary_in}
 use Rattle.register_form.proofs.Laying.{Laid, laid_facts, rises_to, text_length_lem as text-ends}
-use Rattle.register_form.proofs.Described.{Canon, canon}
+use Rattle.register_form.proofs.Described.{canon}
 use Rattle.register_form.specs.Formed.{Formed}
 
 is_less_lem : (r : Order) → is_less r ≡ true → r ≡ Less

@@ -1,16 +1,16 @@
 -- Texts in a heap, one behind the other: a text added is there, and those before it stay.
-use Prim.Native.Nat.{ℕ, suc, ◌+◌, ◌%◌, ◌≤◌, ◌<◌}
-use mathlib.Core.Path.{◌≡◌, refl, sym, ap, ap₂, ◌∙◌}
-use mathlib.Core.List.{List, [], ◌∷◌, ◌++◌, append_assoc}
+use Prim.Native.Nat.{ℕ, ◌+◌, ◌%◌, ◌≤◌, ◌<◌}
+use mathlib.Core.Path.{◌≡◌, refl, sym, ap, ◌∙◌}
+use mathlib.Core.List.{List, ◌++◌, append_assoc}
 use native.Mathlib.Nat.{mod-eq_of_lt}
 use native.Mathlib.Omega.{arith}
 use native.Mathlib.Decide.{ℕ_discrete}
-use lib.ListN.{length, get_or, take, drop, set, length-set, take-append-drop}
+use lib.ListN.{length, get_or, take, drop, set, take-append-drop}
 use lib.Seq.{paste, length-take-le, take-length, take_at, drop_at, get_or-set_same, get_or-set_other}
 use Rattle.text.specs.Bytes.{Bytes, part}
 use Rattle.dictionary.specs.Items.{text_at}
 use Rattle.buffer.proofs.Parts.{part_before}
-use Rattle.register_join_merge.specs.Merging.{Pasted, Added}
+use Rattle.register_join_merge.specs.Merging.{Added}
 
 -- What is pasted is there, and what lies before it stays.
 module _ (d t : Bytes) (at : ℕ) (fits : at + length t ≤ length d) where

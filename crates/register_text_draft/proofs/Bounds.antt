@@ -1,9 +1,9 @@
 -- How large a draft is.
-use Prim.Native.Nat.{ℕ, zero, suc, ◌+◌, ◌≤◌, ◌<◌}
-use mathlib.Core.Path.{◌≡◌, refl, sym, ap, ap₂, ◌∙◌, subst}
+use Prim.Native.Nat.{ℕ, suc, ◌+◌, ◌≤◌}
+use mathlib.Core.Path.{◌≡◌, refl, ap, ◌∙◌, subst}
 use mathlib.Core.Bool.{Bool, true, false, cond, ◌||◌}
 use mathlib.Core.List.{List, [], ◌∷◌, ◌++◌, flat_map, append-nil}
-use mathlib.Core.Option.{Option, some, none}
+use mathlib.Core.Option.{some}
 use native.Mathlib.Omega.{arith}
 use lib.Dec.{ltb, eqb}
 use lib.ListN.{length, length-append}
@@ -11,10 +11,9 @@ use borrow.Author.Tests.{ltb-false, eqb-true}
 use Rattle.text.specs.Bytes.{Bytes}
 use Rattle.values.specs.declared.Kind.{Kind}
 use Rattle.values.specs.Names.{Identifier}
-use Rattle.values.specs.Values.{Constant, scalar, string, Value, plain, link, read_link, read_value}
+use Rattle.values.specs.Values.{string, Value, plain, read_value}
 use Rattle.values.specs.Spelling.{spell_identifier}
 use Rattle.values.proofs.Spelled.{of_read, spelled_link_le}
-use Rattle.language.specs.Answer.{found}
 use Rattle.language.specs.Register.{Property}
 use Rattle.language.specs.RegisterText.{Entry, prop, page, cat, val, close, line, properties, value_of, is_page, is_inner, count_of, over_limits}
 use Rattle.language.specs.Rules.{total}

@@ -1,24 +1,23 @@
 -- The entries of an accepted text: inner forms stand inside pages, and each val's value is one of its property's kind.
-use Prim.Native.Nat.{ℕ, zero, suc, ◌+◌, ◌≤◌, ◌<◌}
+use Prim.Native.Nat.{ℕ, zero, suc, ◌≤◌}
 use mathlib.Core.Path.{◌≡◌, refl, sym, ap, ◌∙◌, subst}
 use mathlib.Core.Bool.{Bool, true, false, ◌&&◌, ◌||◌, true≢false}
-use mathlib.Core.List.{List, [], ◌∷◌, ◌++◌, Memᴰ}
+use mathlib.Core.List.{List, [], ◌∷◌, Memᴰ}
 use mathlib.Core.Option.{Option, some, none}
 use native.Mathlib.Omega.{arith}
 use lib.Dec.{eqb}
 use lib.ListN.{length}
 use borrow.Author.Tests.{eqb-true, not-false}
-use Rattle.text.specs.Bytes.{Bytes, bytes, any, after}
+use Rattle.text.specs.Bytes.{Bytes, bytes, after}
 use Rattle.values.specs.declared.Kind.{Kind}
 use Rattle.names.specs.Names.{is_composed_name, is_composed_property_name, is_composed_namespace}
-use Rattle.values.specs.Names.{Identifier, is_value}
-use Rattle.values.specs.Values.{Value, kind_of, read_value}
+use Rattle.values.specs.Names.{is_value}
+use Rattle.values.specs.Values.{Value, read_value}
 use Rattle.values.proofs.Laws.{read_kind}
-use Rattle.names.proofs.Composed.{Named, composed_named}
+use Rattle.names.proofs.Composed.{composed_named}
 use Rattle.language.specs.Answer.{◌>>=◌, found}
 use Rattle.language.specs.Register.{Property, kind_among}
 use Rattle.language.specs.RegisterText.{Entry, prop, page, cat, val, close, Place, line, inner, Read, quoted, kind_word_at, prop_form, page_form, cat_form, val_form, closing, next_entry, entries_within, entries_from, entries, composed_entries, properties, value_of, is_unfit}
-use Rattle.language.specs.Rules.{is_storable}
 use Rattle.language.proofs.Options.{OnSome, on_bind, on_found}
 use Rattle.language.proofs.Members.{and_true, any_at}
 use Rattle.language.proofs.Accepted.{read_storable, breaks_composed, rule_composed}

@@ -1,44 +1,37 @@
 -- One text, property, page or form more in the tables.
-use Prim.Native.Nat.{ℕ, zero, suc, ◌+◌, ◌-◌, ◌%◌, ◌≤◌, ◌<◌}
+use Prim.Native.Nat.{ℕ, suc, ◌+◌, ◌%◌, ◌≤◌, ◌<◌}
 use mathlib.Core.Path.{◌≡◌, refl, sym, ap, ap₂, ◌∙◌, subst}
-use mathlib.Core.Bool.{Bool, true, false, ◌&&◌, and-eq-true_iff}
+use mathlib.Core.Bool.{true, false}
 use mathlib.Core.List.{List, [], ◌∷◌, ◌++◌, append_assoc, append-nil}
 use mathlib.Core.Option.{Option, some, none}
-use native.Mathlib.Nat.{le_refl, mod-eq_of_lt, sub_self}
+use native.Mathlib.Nat.{mod-eq_of_lt}
 use native.Mathlib.Numerals.{add-one}
 use native.Mathlib.Omega.{arith}
 use lib.Dec.{ltb}
-use lib.ListN.{length, get_or, take, drop, set, replicate, length-replicate, length-append, length-set, get_or-append, take-append-drop}
+use lib.ListN.{length, get_or, take, drop, set, length-append, length-set, get_or-append}
 use lib.Seq.{sets-eq, take_at, take-suc-set, take-length, drop-append_seam, get_or-append_seam, get_or-set_same, get_or-set_other, length-take-le}
 use borrow.Author.Tests.{ltb-true, ltb-false}
 use Rattle.text.specs.Bytes.{Bytes, part}
-use Rattle.text.specs.Table.{tabulate}
-use Rattle.text.proofs.Tables.{length_tabulate, tabulate_ext, is_tabulate}
 use Rattle.values.specs.declared.Kind.{Kind}
 use Rattle.values.specs.declared.Scalar.{Scalar}
 use Rattle.values.specs.declared.Split.{Split}
 use Rattle.names.specs.Names.{composed_name}
 use Rattle.names.proofs.Composed.{composed_empty}
 use Rattle.values.specs.Names.{Reference, Identifier, reference, composed_reference, identifier}
-use Rattle.values.specs.Values.{map_option, Constant, scalar, string, Value, plain, link, read_scalar, read_link, read_value, kind_code, kind_from}
-use Rattle.values.specs.Answers.{Splits, split_of}
+use Rattle.values.specs.Values.{map_option, Constant, scalar, string, Value, plain, link, read_scalar, read_link, read_value}
+use Rattle.values.specs.Answers.{Splits}
 use Rattle.values.proofs.Spelled.{link_read}
 use Rattle.language.proofs.Members.{by_test}
-use Rattle.dictionary.specs.Items.{text_at}
-use Rattle.register_form.specs.Dictionary.{PropertyRow, PageRow, Dictionary, labelled, term_of}
+use Rattle.register_form.specs.Dictionary.{labelled}
 use Rattle.register_form.specs.Encoding.{identifier_text, value_texts}
 use Rattle.register_form.specs.Form.{joined}
-use Rattle.register_form.specs.Tables.{draft_in}
 use Rattle.buffer.specs.Writing as Buffers
 use Rattle.buffer.proofs.Parts.{part_before}
 use Rattle.buffer.proofs.Written.{length_written, byte_before}
-use Rattle.register_text_draft.specs.declared.Counts.{Counts}
 use Rattle.register_text_draft.specs.declared.Ends.{Ends}
-use Rattle.register_text_draft.specs.Drafting.{with_form, on_last}
 use Rattle.register_text_draft.specs.Sizes.{Spaced}
-use Rattle.register_text_draft.specs.Tables.{Copied, Ended, Lies, Texts, property_in, Properties, page_in, Pages, term_in, Terms, Holding, Pushed}
+use Rattle.register_text_draft.specs.Tables.{Copied, Ended, Lies, Texts, Pushed}
 use Rattle.register_text_draft.proofs.Bounds.{length_labelled, joined_more}
-use Rattle.register_text_draft.proofs.Pages.{on_last_lem}
 
 mod_is : (n m k : ℕ) → n ≡ m → m < k → n % k ≡ m
 mod_is n m k e l = ap (λ (i : ℕ). i % k) e ∙ mod-eq_of_lt l

@@ -1,7 +1,7 @@
 -- What an entry adds leaves in place what was there.
-use Prim.Native.Nat.{ℕ, zero, suc, ◌+◌, ◌≤◌, ◌<◌}
-use mathlib.Core.Path.{◌≡◌, refl, sym, ap, ◌∙◌, subst}
-use mathlib.Core.List.{List, [], ◌∷◌, ◌++◌, append_assoc, Memᴰ}
+use Prim.Native.Nat.{ℕ, suc, ◌≤◌, ◌<◌}
+use mathlib.Core.Path.{◌≡◌, refl, ◌∙◌}
+use mathlib.Core.List.{List, [], ◌∷◌, ◌++◌, Memᴰ}
 use mathlib.Core.Option.{Option, some, none}
 use native.Mathlib.Nat.{le_refl}
 use native.Mathlib.Omega.{arith}
@@ -14,7 +14,7 @@ use Rattle.language.specs.Register.{Property}
 use Rattle.language.specs.RegisterText.{Entry, prop, page, cat, val, close, value_of}
 use Rattle.register_form.specs.Dictionary.{Dictionary}
 use Rattle.register_form.specs.Encoding.{place_among}
-use Rattle.register_text_draft.specs.Drafting.{with_value, added, draft_from, draft_of}
+use Rattle.register_text_draft.specs.Drafting.{with_value, added, draft_from}
 
 -- The list l stands at the front of m.
 pub record Front (l m : List Bytes) : Type 0 where

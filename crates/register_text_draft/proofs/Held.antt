@@ -1,24 +1,24 @@
 -- What the tables hold after an entry.
-use Prim.Native.Nat.{ℕ, zero, suc, ◌+◌, ◌-◌, ◌%◌, ◌≤◌, ◌<◌}
-use mathlib.Core.Path.{◌≡◌, refl, sym, ap, ap₂, ◌∙◌, subst}
-use mathlib.Core.Bool.{Bool, true, false, ◌&&◌}
+use Prim.Native.Nat.{ℕ, suc, ◌+◌, ◌%◌, ◌≤◌, ◌<◌}
+use mathlib.Core.Path.{◌≡◌, sym, ap, ◌∙◌, subst}
+use mathlib.Core.Bool.{true, ◌&&◌}
 use mathlib.Core.List.{List, [], ◌∷◌, ◌++◌}
-use mathlib.Core.Option.{Option, some, none}
+use mathlib.Core.Option.{Option, some}
 use native.Mathlib.Nat.{mod-eq_of_lt}
 use native.Mathlib.Omega.{arith}
 use lib.ListN.{length, length-append}
-use Rattle.text.specs.Bytes.{Bytes, part}
+use Rattle.text.specs.Bytes.{Bytes}
 use Rattle.text.specs.Table.{tabulate}
 use Rattle.text.proofs.Tables.{length_tabulate}
 use Rattle.values.specs.declared.Kind.{Kind}
 use Rattle.names.specs.Names.{is_composed_name, is_composed_namespace}
 use Rattle.names.proofs.Composed.{composed_named}
 use Rattle.values.specs.Names.{is_value}
-use Rattle.values.specs.Values.{Constant, Value, plain, link, kind_of, read_value}
+use Rattle.values.specs.Values.{Value, plain, link, kind_of, read_value}
 use Rattle.values.specs.Spelling.{spelling}
-use Rattle.language.specs.Answer.{◌>>=◌, found}
+use Rattle.language.specs.Answer.{◌>>=◌}
 use Rattle.language.specs.Register.{Property, kind_among}
-use Rattle.language.specs.RegisterText.{Entry, prop, page, cat, val, close, value_of}
+use Rattle.language.specs.RegisterText.{prop, page, val, value_of}
 use Rattle.language.specs.Rules.{is_identifier, is_storable}
 use Rattle.language.proofs.Members.{and_true}
 use Rattle.register_form.specs.Dictionary.{PropertyRow, PageRow, Dictionary, labelled, term_of}
@@ -27,13 +27,13 @@ use Rattle.register_form.specs.Form.{joined}
 use Rattle.register_text_draft.specs.declared.Counts.{Counts}
 use Rattle.register_text_draft.specs.declared.Ends.{Ends}
 use Rattle.register_text_draft.specs.declared.PropertyFound.{PropertyFound}
-use Rattle.register_text_draft.specs.Drafting.{with_texts, on_last, code_in, with_value, added}
-use Rattle.register_text_draft.specs.Sizes.{Sized, Fits, Valued, Good, Spaced}
+use Rattle.register_text_draft.specs.Drafting.{code_in, with_value, added}
+use Rattle.register_text_draft.specs.Sizes.{Fits, Valued, Spaced}
 use Rattle.register_text_draft.specs.Lookup.{found_in, property_found, Lists}
-use Rattle.register_text_draft.specs.Tables.{Texts, property_in, Properties, page_in, Pages, term_in, Terms, Holding, Pushed, FormsPushed, Extends}
+use Rattle.register_text_draft.specs.Tables.{Texts, property_in, Properties, page_in, Pages, term_in, Holding, Pushed, FormsPushed, Extends}
 use Rattle.register_text_draft.proofs.Bounds.{length_last}
 use Rattle.register_text_draft.proofs.Entries.{namespace_short}
-use Rattle.register_text_draft.proofs.Terms.{Stands, stands}
+use Rattle.register_text_draft.proofs.Terms.{stands}
 
 counted : {A : Type 0} (n : ℕ) (f : ℕ → A) (l : List A) → tabulate n f ≡ l → n ≡ length l
 counted n f l e = sym (length_tabulate n f) ∙ ap length e

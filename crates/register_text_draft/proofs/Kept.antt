@@ -1,40 +1,39 @@
 -- The draft of the entries of an accepted text: it keeps what a draft must, and describes the register that the text gives.
-use Prim.Native.Nat.{ℕ, zero, suc, ◌+◌, ◌≤◌, ◌<◌}
-use mathlib.Core.Path.{◌≡◌, refl, sym, ap, ap₂, ◌∙◌, subst}
-use mathlib.Core.Bool.{Bool, true, false, ◌&&◌}
+use Prim.Native.Nat.{ℕ, zero, suc, ◌≤◌, ◌<◌}
+use mathlib.Core.Path.{◌≡◌, refl, sym, ap, ◌∙◌, subst}
+use mathlib.Core.Bool.{Bool, true}
 use mathlib.Core.Option.{Option, some, none}
 use mathlib.Core.Logic.{◌⊎◌, inl, inr, ⊎_elim}
 use mathlib.Core.List.Memᴰ
 use mathlib.Core.List.{List, [], ◌∷◌, ◌++◌, map, flat_map, append-nil, append_assoc, map-append, map-map, Memᴰ}
 use native.Mathlib.Omega.{arith}
 use lib.Dec.{ltb}
-use lib.ListN.{length, get_or, length-append}
+use lib.ListN.{length, length-append}
 use borrow.Author.Tests.{lt-ltb, ltb-true, ltb-false}
 use Rattle.text.specs.Bytes.{Bytes, all}
 use Rattle.text.specs.Table.{tabulate}
 use Rattle.text.proofs.Laws.{all_append}
 use Rattle.text.proofs.Tables.{length_tabulate, get_d_tabulate}
-use Rattle.values.specs.Values.{Constant, scalar, string, Value, plain, link}
+use Rattle.values.specs.Values.{scalar, string, Value, plain, link}
 use Rattle.language.specs.Answer.{found}
-use Rattle.language.specs.Register.{Property, Register, distinct, same_property}
-use Rattle.language.specs.RegisterText.{Entry, prop, page, cat, val, close, line, properties, value_of, pages_of, register_of}
+use Rattle.language.specs.Register.{Property}
+use Rattle.language.specs.RegisterText.{Entry, prop, page, cat, val, close, properties, value_of, pages_of, register_of}
 use Rattle.language.proofs.Members.{both_true, by_test}
 use Rattle.language.proofs.Registers.{entries_sound, Passed}
 use Rattle.register_form.specs.Dictionary.{PropertyRow, PageRow, Dictionary, labelled, term_of, group_of, term_code, text_in, term_in, decode_property, decode_page, decode}
 use Rattle.register_form.specs.Encoding.{plain_text, identifier_text, value_texts, place_among}
-use Rattle.register_form.specs.Form.{forms_of}
-use Rattle.register_form.specs.Tests.{is_labelled, is_plain_number, is_term, term_texts, text_uses, term_uses, every_used}
+use Rattle.register_form.specs.Tests.{is_labelled, is_plain_number, is_term, term_texts, text_uses, every_used}
 use Rattle.register_form.specs.Draft.{page_once, drafted, Draft}
 use Rattle.register_form.proofs.Codes.{name_back, labelled_is}
 use Rattle.register_form.proofs.Lists.{mem_at, mem_used}
 use Rattle.buffer.proofs.Parts.{flat_append}
-use Rattle.register_text_draft.specs.Drafting.{no_draft, with_form, on_last, code_in, with_value, added, draft_from, draft_of}
-use Rattle.register_text_draft.proofs.Growing.{Front, front_self, front_there, front_at, Grows, grows_self, grows_trans, grows_added, grows_from, kept}
+use Rattle.register_text_draft.specs.Drafting.{no_draft, on_last, code_in, with_value, added, draft_from, draft_of}
+use Rattle.register_text_draft.proofs.Growing.{front_there, front_at, Grows, grows_self, grows_trans, grows_from, kept}
 use Rattle.register_text_draft.proofs.Entries.{passed_placed, passed_good}
 use Rattle.register_text_draft.specs.Sizes.{Fits, Good}
 use Rattle.register_text_draft.proofs.Bounds.{passed_fits}
 use Rattle.register_text_draft.proofs.Terms.{Told, plain_number, category_told_lem, value_term_told}
-use Rattle.register_text_draft.proofs.Pages.{up_to, page_in, pages_in, Paged, pages_go}
+use Rattle.register_text_draft.proofs.Pages.{up_to, page_in, Paged, pages_go}
 
 -- The properties that a draft describes.
 module _ (ps : List Property) (D : Dictionary) where

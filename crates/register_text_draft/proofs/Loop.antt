@@ -1,10 +1,9 @@
 -- The loop over the rows of an accepted text.
-use Prim.Native.Nat.{ℕ, zero, suc, ◌+◌, ◌-◌, ◌≤◌, ◌<◌}
-use mathlib.Core.Path.{◌≡◌, refl, sym, ap, ap₂, ◌∙◌, subst}
+use Prim.Native.Nat.{ℕ, suc, ◌+◌, ◌-◌, ◌≤◌, ◌<◌}
+use mathlib.Core.Path.{◌≡◌, refl, sym, ap, ◌∙◌, subst}
 use mathlib.Core.Bool.{Bool, true, false}
 use mathlib.Core.List.Memᴰ
-use mathlib.Core.List.{List, [], ◌∷◌, ◌++◌, flat_map, Memᴰ}
-use mathlib.Core.Option.{some}
+use mathlib.Core.List.{List, [], ◌++◌, flat_map, Memᴰ}
 use native.Mathlib.Omega.{arith}
 use lib.Dec.{ltb}
 use lib.ListN.{length, get_or, take, drop, set, length-set, take-append-drop}
@@ -13,10 +12,9 @@ use borrow.Author.Tests.{le-ltb}
 use Rattle.text.specs.Bytes.{Bytes, part, any}
 use Rattle.text.specs.Table.{tabulate}
 use Rattle.text.proofs.Tables.{length_tabulate, get_d_tabulate, tabulate_ext, is_tabulate}
-use Rattle.language.specs.Answer.{accepted, number_of, judge}
-use Rattle.language.specs.Register.{Property, Sound}
-use Rattle.language.specs.RegisterText.{Entry, close, entries, breaks_rule, some_twice, properties, is_undeclared, is_unfit, over_limits, register_of, read_register}
-use Rattle.language.proofs.Members.{by_test}
+use Rattle.language.specs.Answer.{accepted, judge}
+use Rattle.language.specs.Register.{Property}
+use Rattle.language.specs.RegisterText.{Entry, close, some_twice, properties, is_undeclared, is_unfit, over_limits, register_of, read_register}
 use Rattle.language.proofs.Registers.{entries_sound, Passed}
 use Rattle.dictionary.specs.Items.{text_at}
 use Rattle.register_text_entries.specs.Items.{entry_in}

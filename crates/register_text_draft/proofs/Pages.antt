@@ -1,20 +1,19 @@
 -- The pages and the forms of a draft, one entry after the other.
-use Prim.Native.Nat.{ℕ, zero, suc, ◌+◌, ◌≤◌, ◌<◌}
-use mathlib.Core.Path.{◌≡◌, refl, sym, ap, ap₂, ◌∙◌, subst}
+use Prim.Native.Nat.{ℕ, suc, ◌≤◌}
+use mathlib.Core.Path.{◌≡◌, refl, sym, ap, ◌∙◌, subst}
 use mathlib.Core.Bool.{Bool, true, false, cond}
 use mathlib.Core.List.{List, [], ◌∷◌, ◌++◌, map, flat_map, append-nil, append_assoc, map-append, Memᴰ}
 use native.Mathlib.Numerals.{add-one}
-use native.Mathlib.Omega.{arith}
-use lib.ListN.{length, get_or, length-append}
+use lib.ListN.{length, length-append}
 use Rattle.text.specs.Bytes.{Bytes, same, any}
 use Rattle.text.specs.Table.{tabulate}
 use Rattle.values.specs.Values.{Value, plain, string}
 use Rattle.language.specs.Answer.{found}
 use Rattle.language.specs.Register.{Property, Held, Page}
-use Rattle.language.specs.RegisterText.{Entry, prop, page, cat, val, close, Place, line, inner, value_of, same_held, add_category, add_held, with_category, with_value as holding, empty_page, filled, pages_of}
+use Rattle.language.specs.RegisterText.{Entry, prop, page, cat, val, Place, line, inner, value_of, same_held, add_category, add_held, with_category, with_value as holding, empty_page, filled, pages_of}
 use Rattle.language.proofs.Adding.{added as set_added, category_added, held_added}
 use Rattle.register_form.specs.Dictionary.{PageRow, Dictionary, labelled, identifier_of, term_of, is_category, text_in, term_in, category_of, held_of, categories_in, values_in, decode_property, decode_page}
-use Rattle.register_form.specs.Encoding.{value_texts, place_among}
+use Rattle.register_form.specs.Encoding.{place_among}
 use Rattle.register_form.specs.Form.{forms_of}
 use Rattle.register_form.specs.Draft.{once_behind, once, page_once}
 use Rattle.register_form.proofs.Codes.{space_back, name_back}

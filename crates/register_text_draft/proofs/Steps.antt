@@ -1,8 +1,8 @@
 -- The entry of a row, by what the row is; and the loop over the rows.
-use Prim.Native.Nat.{ℕ, zero, suc, ◌+◌, ◌-◌, ◌%◌, ◌≤◌, ◌<◌}
-use mathlib.Core.Path.{◌≡◌, refl, sym, ap, ap₂, ◌∙◌, subst}
-use mathlib.Core.List.{List, [], ◌∷◌, ◌++◌}
-use mathlib.Core.Option.{Option, some, none}
+use Prim.Native.Nat.{◌≤◌}
+use mathlib.Core.Path.{◌≡◌, refl, sym, subst}
+use mathlib.Core.List.{List}
+use mathlib.Core.Option.{some}
 use lib.ListN.{length}
 use Rattle.text.specs.Bytes.{Bytes, part}
 use Rattle.values.specs.declared.Kind.{Kind}
@@ -15,7 +15,7 @@ use Rattle.register_text_entries.specs.declared.Item.{Item}
 use Rattle.register_form.specs.Dictionary.{Dictionary}
 use Rattle.register_text_draft.specs.declared.Counts.{Counts}
 use Rattle.register_text_draft.specs.Drafting.{with_value, added}
-use Rattle.register_text_draft.specs.Sizes.{Fits, Valued, Good, Spaced}
+use Rattle.register_text_draft.specs.Sizes.{Valued, Good, Spaced}
 use Rattle.register_text_draft.specs.Tables.{Extends}
 
 module _ (s : Bytes) (i : Item) (ps : List Property) (H K : Counts → Dictionary → Type 0) (c r : Counts) (x : Bytes) (ex : x ≡ part s i.first.start i.first.len) where

@@ -1,25 +1,21 @@
 -- What the term of a category or a value tells in the draft that it is in at last.
-use Prim.Native.Nat.{ℕ, zero, suc, ◌+◌, ◌-◌, ◌≤◌, ◌<◌, ◌^◌}
-use mathlib.Core.Path.{◌≡◌, refl, sym, ap, ap₂, ◌∙◌, subst}
-use mathlib.Core.Bool.{Bool, true, false, cond, ◌&&◌}
+use Prim.Native.Nat.{ℕ, suc, ◌-◌, ◌≤◌, ◌<◌, ◌^◌}
+use mathlib.Core.Path.{◌≡◌, refl, sym, ap, ◌∙◌}
+use mathlib.Core.Bool.{Bool, true, false, cond}
 use mathlib.Core.List.{List, [], ◌∷◌, ◌++◌, map, Memᴰ}
-use mathlib.Core.Option.{Option, some, none}
-use native.Mathlib.Nat.{add-zero}
+use mathlib.Core.Option.{some}
 use native.Mathlib.Omega.{arith}
-use lib.Dec.{ltb, leb, eqb}
-use lib.IntN.{ℤ, pos, negsuc}
 use lib.ListN.{length, get_or, length-append, length-map}
-use borrow.Author.Tests.{ltb-true, lt-ltb, le-leb, ne_eqb}
+use borrow.Author.Tests.{lt-ltb, le-leb, ne_eqb}
 use Rattle.text.specs.Bytes.{Bytes, same}
-use Rattle.text.specs.Table.{bit}
 use Rattle.text.proofs.Laws.{same_eq}
 use Rattle.values.specs.declared.Kind.{Kind}
-use Rattle.values.specs.Values.{Constant, scalar, string, Value, plain, link, kind_of}
-use Rattle.language.specs.Register.{Property, Held, kind_among}
+use Rattle.values.specs.Values.{scalar, string, Value, plain, link, kind_of}
+use Rattle.language.specs.Register.{Property, kind_among}
 use Rattle.values.proofs.AllKinds.{range_small}
 use Rattle.language.specs.Rules.{is_storable}
 use Rattle.language.proofs.Members.{both_true, get_d_mapped}
-use Rattle.register_form.specs.Dictionary.{PropertyRow, Dictionary, name_of, term_of, group_of, term_code, is_category, value_from, text_in, property_in, no_property, category_of, held_of, decode_property}
+use Rattle.register_form.specs.Dictionary.{Dictionary, name_of, term_of, term_code, is_category, value_from, text_in, property_in, no_property, category_of, held_of, decode_property}
 use Rattle.register_form.specs.Encoding.{plain_text, identifier_text, value_texts, place_among}
 use Rattle.register_form.specs.Tests.{is_plain_number, is_code, is_term, code_texts, term_texts}
 use Rattle.register_form.proofs.Numbers.{code_back}

@@ -1,19 +1,17 @@
 -- One law for each way through a function.
-use Prim.Native.Nat.{ℕ, zero, suc, ◌+◌, ◌-◌, ◌%◌, ◌≤◌, ◌<◌}
-use mathlib.Core.Path.{◌≡◌, refl, sym, ap, ap₂, ◌∙◌, subst}
-use mathlib.Core.Bool.{Bool, true, false, cond}
-use mathlib.Core.List.{List, [], ◌∷◌, ◌++◌}
+use Prim.Native.Nat.{ℕ, ◌+◌, ◌-◌, ◌≤◌, ◌<◌}
+use mathlib.Core.Path.{◌≡◌, refl, sym, ap, ◌∙◌}
+use mathlib.Core.List.{List, ◌++◌}
 use mathlib.Core.Option.{Option, some, none}
 use native.Mathlib.Numerals.{add-one}
 use native.Mathlib.Omega.{arith}
-use lib.IntN.{ℤ}
-use lib.ListN.{length, get_or, take, drop, set}
-use lib.Seq.{paste, paste-zero, paste-suc, length-paste, take-paste, take_all}
-use Rattle.text.specs.Bytes.{Bytes, part}
+use lib.ListN.{length, get_or, take, set}
+use lib.Seq.{paste, paste-suc, length-paste, take-paste, take_all}
+use Rattle.text.specs.Bytes.{Bytes}
 use Rattle.values.specs.declared.Kind.{Kind}
 use Rattle.values.specs.declared.CodeRead.{CodeRead}
 use Rattle.values.specs.declared.Scalar.{Scalar}
-use Rattle.values.specs.Values.{map_option, Constant, scalar, string, Value, plain, link, read_scalar, read_link, read_value}
+use Rattle.values.specs.Values.{map_option, scalar, string, Value, plain, link, read_scalar, read_link, read_value}
 use Rattle.values.specs.Names.{Identifier}
 use Rattle.values.specs.Answers.{code_read}
 use Rattle.register_text_draft.specs.Drafting.{code_in}

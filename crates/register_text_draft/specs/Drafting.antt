@@ -1,13 +1,12 @@
 -- The draft of a list of entries: each entry adds its texts and its row behind those of the entries before it.
 use Rattle.std.specs.Prelude.{ℕ, suc, List, [], ◌∷◌, ◌++◌, length}
 use Rattle.text.specs.Bytes.{Bytes}
-use Rattle.text.specs.Table.{bit}
 use Rattle.values.specs.declared.Kind.{Kind}
-use Rattle.values.specs.Values.{Constant, scalar, string, Value, plain, link}
+use Rattle.values.specs.Values.{scalar, string, Value, plain, link}
 use Rattle.language.specs.Answer.{found}
 use Rattle.language.specs.Register.{Property}
 use Rattle.language.specs.RegisterText.{Entry, prop, page, cat, val, close, value_of}
-use Rattle.register_form.specs.Dictionary.{PropertyRow, PageRow, Dictionary, labelled, term_of}
+use Rattle.register_form.specs.Dictionary.{PageRow, Dictionary, labelled, term_of}
 use Rattle.register_form.specs.Encoding.{plain_text, value_texts, place_among}
 
 abbrev pub no_draft : Dictionary

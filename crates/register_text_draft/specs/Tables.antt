@@ -4,7 +4,6 @@ use Rattle.text.specs.Bytes.{Bytes, part}
 use Rattle.text.specs.Table.{tabulate}
 use Rattle.values.specs.Values.{kind_from}
 use Rattle.language.specs.Answer.{number_of}
-use Rattle.language.specs.Register.{Property}
 use Rattle.language.specs.RegisterText.{read_register}
 use Rattle.register_text_verdict.specs.Checks.{rows_that, Prepared}
 use Rattle.register_text_verdict.specs.declared.Declared.{Declared}

@@ -1,10 +1,8 @@
 -- Laws of entries copied with their names composed.
-use Prim.Native.Nat.{ℕ, zero, suc, ◌+◌, ◌*◌, ◌%◌, ◌≤◌, ◌<◌}
+use Prim.Native.Nat.{ℕ, ◌+◌, ◌*◌, ◌%◌, ◌≤◌, ◌<◌}
 use mathlib.Core.Path.{◌≡◌, refl, sym, ap, ap₂, subst, ◌∙◌}
 use mathlib.Core.Bool.{Bool, true, false, cond, not, ◌&&◌, ◌||◌, false≢true, and-eq-true_iff, or-true, or-false}
 use mathlib.Core.List.{List, [], ◌∷◌, ◌++◌, append_assoc}
-use native.Mathlib.Nat.{add-zero}
-use native.Mathlib.Numerals.{add-one}
 use native.Mathlib.Omega.{arith}
 use lib.ListN.{length, get_or, length-append}
 use lib.Seq.{sets}
@@ -13,7 +11,7 @@ use borrow.Author.Tests.{ltb-true, ltb-false, not-false}
 use Rattle.text.specs.Bytes.{Bytes, bytes, part, all, any}
 use Rattle.text.specs.Class.{is_other}
 use Rattle.text.proofs.Laws.{any_append}
-use Rattle.text.specs.Parts.{part_of, Within}
+use Rattle.text.specs.Parts.{part_of}
 use Rattle.text.specs.declared.Span.{Span}
 use Rattle.text.specs.Table.{tabulate}
 use Rattle.text.proofs.Tables.{tabulate_ext}
@@ -26,12 +24,12 @@ use Rattle.values.specs.declared.Kind.{Kind}
 use Rattle.buffer.specs.Writing.{written}
 use Rattle.buffer.proofs.Joined.{part_first, part_second, part_below, part_there}
 use Rattle.buffer.proofs.Written.{length_written, written_none, next}
-use Rattle.language.specs.RegisterText.{Entry, prop, page, cat, val, close, breaks_rule, composed_entry, composed_entries}
+use Rattle.language.specs.RegisterText.{Entry, breaks_rule, composed_entry, composed_entries}
 use Rattle.language.specs.Rules.{total}
 use Rattle.register_text_entries.specs.declared.Tag.{Tag}
 use Rattle.register_text_entries.specs.declared.Item.{Item}
 use Rattle.register_text_entries.specs.Items.{entry_by, entry_in}
-use Rattle.register_text_entries.specs.Table.{entry_from, entry_at, entries_in, row, with_row}
+use Rattle.register_text_entries.specs.Table.{entry_at, entries_in, row, with_row}
 use Rattle.register_text_entries.specs.Composing.{has_first, has_second, has_gap, gap, is_named, name_or, first_part, second_part, item_text, copied_item, broken_by, SecondPut, Copies, room, Composes}
 use Rattle.register_text_entries.specs.declared.composing.Copied.{Copied}
 use Rattle.register_text_entries.proofs.Cells.{get_d_sets_below, get_d_sets, row_size, row_below, row_there, rows_last}

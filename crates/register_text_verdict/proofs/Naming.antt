@@ -10,7 +10,7 @@ use borrow.Author.Tests.{eqb-true, ltb-false, not-false}
 use lib.Dec.{ltb, eqb}
 use lib.ListN.{length, take, drop, get_or, set, length-set}
 use lib.Seq.{take-add, drop-drop, get_or-set_same, get_or-set_other}
-use Rattle.text.specs.Bytes.{Bytes, bytes, same, all, span, starts, order_of, part}
+use Rattle.text.specs.Bytes.{Bytes, bytes, same, all, span, starts, order_of}
 use Rattle.text.specs.Class.{is_quotable}
 use Rattle.text.specs.Parts.{part_of}
 use Rattle.text.specs.declared.Span.{Span}

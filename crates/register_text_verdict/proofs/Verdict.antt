@@ -14,7 +14,7 @@ use Rattle.text.specs.Table.{tabulate}
 use Rattle.text.proofs.Tables.{count_ext}
 use Rattle.language.specs.Answer.{number_of, judge, ◌if◌}
 use Rattle.language.specs.Register.{Property, Typing, kind_among}
-use Rattle.language.specs.RegisterText.{Entry, prop, page, cat, val, close, entries, breaks_rule, composed_entries, same_declared, some_twice, properties, is_undeclared, value_of, is_unfit, is_page, is_inner, count_of, over_limits, register_of, checks, read_register}
+use Rattle.language.specs.RegisterText.{Entry, prop, page, cat, val, close, entries, breaks_rule, composed_entries, same_declared, some_twice, properties, is_undeclared, value_of, is_unfit, is_page, is_inner, count_of, over_limits, register_of, read_register}
 use Rattle.values.specs.declared.Kind.{Kind}
 use Rattle.register_text_entries.specs.Items.{entry_by}
 use Rattle.register_text_entries.specs.Table.{tag_from, entry_from, entry_at, entries_in}

@@ -12,9 +12,8 @@ use lib.IntN.{ℤ, pos, negsuc, neg_ℤ}
 use lib.ListN.{length, get_or, take, drop, drop_of_length-le, length-drop}
 use lib.Seq.{drop-cons, take_all}
 use borrow.Author.Tests.{leb-true, ltb-true, ltb-false, le-leb, lt-leb, eq-eqb, ne_eqb, not-true, not-false}
-use Rattle.text.specs.Bytes.{Bytes, all, part, span, numbers}
+use Rattle.text.specs.Bytes.{Bytes, all, part, span}
 use Rattle.text.specs.Class.{is_digit}
-use Rattle.text.proofs.Laws.{numbers_less, numbers_greater, numbers_like}
 use Rattle.values.specs.Values.{decimal, read_digits, read_fraction, in_thousandths, read_thousandths, read_number, map_option, base, biased}
 use Rattle.values.specs.Answers.{code_read}
 use Rattle.values.specs.declared.CodeRead.{CodeRead}

@@ -1,22 +1,21 @@
 -- What is said kind by kind. All else goes by `Kind.Page`, `Kind.Scalar k` and `Kind.String`.
 use Prim.Native.Nat.{ℕ, zero, suc, ◌+◌, ◌^◌, ◌≤◌, ◌<◌}
-use mathlib.Core.Path.{◌≡◌, refl, sym}
-use mathlib.Core.Bool.{Bool, true, false, cond}
-use mathlib.Core.List.{List, [], ◌∷◌, ◌++◌}
-use mathlib.Core.Option.{Option, some, none}
+use mathlib.Core.Path.{◌≡◌, refl}
+use mathlib.Core.Bool.{true}
+use mathlib.Core.List.{◌++◌}
+use mathlib.Core.Option.{some}
 use native.Mathlib.Omega.{arith}
 use lib.Dec.{eqb}
 use lib.ListN.{length}
 use borrow.Author.Tests.{eq-eqb, ne_eqb}
 use Rattle.text.specs.Bytes.{Bytes, starts}
 use Rattle.text.specs.Table.{bit}
-use Rattle.values.specs.Values.{map_option, kind_word, kinds, scalar_code, kind_code, kind_count, kind_from, same_scalar, read_number, read_boolean, biased, read_scalar, above, in_range}
+use Rattle.values.specs.Values.{map_option, kind_word, scalar_code, kind_code, kind_count, kind_from, same_scalar, read_number, read_boolean, biased, read_scalar, above, in_range}
 use Rattle.values.specs.Spelling.{spell_number, spell_boolean, number_from, spell_scalar}
-use Rattle.values.specs.Answers.{code_read, first_kind, kind_at, kind_read}
+use Rattle.values.specs.Answers.{code_read, first_kind, kind_at}
 use Rattle.values.specs.declared.Kind.{Kind}
 use Rattle.values.specs.declared.Scalar.{Scalar}
 use Rattle.values.specs.declared.CodeRead.{CodeRead}
-use Rattle.values.specs.declared.KindRead.{KindRead}
 use Rattle.values.proofs.Digits.{spelled_few}
 use Rattle.values.proofs.Decimal.{read_small}
 use Rattle.values.proofs.Spelled.{on_mapped, spelled_number_le, spelled_boolean_le}

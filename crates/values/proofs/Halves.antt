@@ -1,10 +1,8 @@
 -- The numbers that request 7 names, computed: which texts are one value, how they stand, and which are unfit.
 use mathlib.Core.Path.{◌≡◌, refl}
-use mathlib.Core.Bool.{Bool, true, false, cond}
-use mathlib.Core.List.{List, [], ◌∷◌}
-use mathlib.Core.Option.{Option, some, none}
-use lib.IntN.{ℤ, pos, negsuc}
-use Rattle.text.specs.Bytes.{Bytes, bytes, numbers, all, span}
+use mathlib.Core.Option.{some, none}
+use lib.IntN.{pos, negsuc}
+use Rattle.text.specs.Bytes.{bytes, numbers, all, span}
 use Rattle.text.specs.Class.{is_digit}
 use Rattle.text.specs.declared.Order.TheVariants.{Less}
 use Rattle.values.specs.Values.{decimal, read_digits, read_fraction, read_thousandths, read_number, order_numbers}

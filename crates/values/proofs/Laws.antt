@@ -12,7 +12,7 @@ use lib.Seq.{take_all}
 use borrow.Author.Tests.{lt-ltb, le-ltb}
 use Rattle.text.specs.Bytes.{Bytes, bytes, same, any, all, is_blank, span}
 use Rattle.text.specs.Table.{bit}
-use Rattle.text.specs.Class.{one_of, is_name_byte, is_value_byte, is_other}
+use Rattle.text.specs.Class.{is_value_byte, is_other}
 use Rattle.text.specs.Parts.{part_of, Trimmed}
 use Rattle.text.specs.declared.Span.{Span}
 use Rattle.text.proofs.Laws.{same_unlike, same_end, same_other, same_step, any_three}
@@ -22,7 +22,6 @@ use Rattle.values.specs.Values.{lower, read_boolean, read_scalar, read_link, rea
 use Rattle.values.specs.Answers.{has_bare_ends, Splits, code_read}
 use Rattle.values.specs.declared.Kind.{Kind}
 use Rattle.values.specs.declared.Split.{Split}
-use Rattle.values.specs.declared.Scalar.{Scalar}
 use Rattle.values.specs.declared.CodeRead.{CodeRead}
 
 -- A value that is read in a kind has that kind.

@@ -2,7 +2,7 @@
 use Prim.Native.Nat.{ℕ}
 use mathlib.Core.Path.{◌≡◌, refl, sym, ap, ◌∙◌}
 use mathlib.Core.Bool.{Bool, true, false, cond, and-eq-true_iff, false≢true}
-use mathlib.Core.Option.{Option, some, none}
+use mathlib.Core.Option.{some, none}
 use native.Mathlib.Omega.{arith}
 use lib.Dec.{eqb, ltb}
 use borrow.Author.Tests.{eqb-true, eq-eqb, ne_eqb, ltb-false}
@@ -10,7 +10,7 @@ use Rattle.text.specs.Bytes.{same, order_of, numbers}
 use Rattle.text.specs.declared.Order.{Order}
 use Rattle.text.proofs.Laws.{same_eq, same_refl, numbers_equal, order_eq, order_refl}
 use Rattle.values.specs.Names.{Identifier, same_identifier}
-use Rattle.values.specs.Values.{Constant, scalar, string, Value, plain, link, scalar_code, kind_code, kind_from, same_scalar, same_kind, order_constants, is_equal_order, same_value}
+use Rattle.values.specs.Values.{Constant, scalar, string, Value, plain, link, kind_code, kind_from, same_scalar, same_kind, order_constants, is_equal_order, same_value}
 use Rattle.values.specs.declared.Kind.{Kind}
 use Rattle.values.specs.declared.Scalar.{Scalar}
 use Rattle.values.proofs.EachKind.{kind_coded, codes_apart}

@@ -3,7 +3,7 @@
 use Rattle.std.specs.Prelude.{ℕ, zero, suc, ◌+◌, ◌-◌, ◌/◌, ◌%◌, Bool, true, false, cond, [], ◌∷◌, ◌++◌, ltb, eqb, ℤ, pos, negsuc, length}
 use Rattle.text.specs.Bytes.{Bytes, bytes}
 use Rattle.values.specs.Names.{Identifier}
-use Rattle.values.specs.Values.{Constant, scalar, string, Value, plain, link, base}
+use Rattle.values.specs.Values.{scalar, string, Value, plain, link, base}
 use Rattle.values.specs.declared.Scalar.{Scalar}
 
 -- The decimal digits of a number; the first number bounds how many.

@@ -1,5 +1,5 @@
 -- Kinds, and the values of each. Document 01, "Names, values and kinds"; thesis 4.2.1 and 4.3.1.
-use Rattle.std.specs.Prelude.{ℕ, suc, ◌+◌, ◌*◌, ◌-◌, ◌^◌, Bool, true, false, cond, not, ◌&&◌, ◌||◌, List, [], ◌∷◌, map, leb, ltb, eqb, length, take, drop, ℤ, pos, negsuc, neg_ℤ}
+use Rattle.std.specs.Prelude.{ℕ, suc, ◌+◌, ◌*◌, ◌-◌, ◌^◌, Bool, true, false, cond, ◌&&◌, List, [], ◌∷◌, map, leb, ltb, eqb, length, take, drop, ℤ, pos, negsuc, neg_ℤ}
 use Rattle.std.proofs.Math.Option.{Option, some, none}
 use Rattle.text.specs.Bytes.{Bytes, bytes, numbers, order_of, same, all, any, span}
 use Rattle.text.specs.Class.{is_digit}
@@ -8,7 +8,7 @@ use Rattle.text.specs.declared.Order.{Order}
 use Rattle.text.specs.declared.Order.TheVariants.{Less, Equal, Greater}
 use Rattle.values.specs.declared.Kind.{Kind}
 use Rattle.values.specs.declared.Scalar.{Scalar}
-use Rattle.values.specs.Names.{Identifier, same_identifier, Reference, reference, is_reference, composed_reference, identifier}
+use Rattle.values.specs.Names.{Identifier, same_identifier, reference, is_reference, composed_reference, identifier}
 
 -- "Kinds: `page`, `number`, `boolean`, `string`."
 abbrev pub kind_word : Kind → Bytes

@@ -1,4 +1,3 @@
-use Prim.Native.Nat.{◌-◌}
 use borrow.Author.Rules.{rules}
 use Rattle.buffer.proofs.Looping.{clearing}
 use Rattle.buffer.proofs.clear.Goals as goal

@@ -1,8 +1,5 @@
-use Prim.Native.Nat.{◌-◌}
 use native.Mathlib.Omega.{arith}
 use Rattle.buffer.proofs.Looping.{stored_none, stored_more, bytes_all}
-use Rattle.buffer.proofs.put_all.Reads as reads
-use Rattle.buffer.proofs.put_all.Lts as lts
 use Rattle.buffer.proofs.put_all.Goals as goal
 
 -- src/lib.rt:112:5

@@ -1,8 +1,6 @@
 use Prim.Native.Nat.{◌-◌}
 use lib.ListN.{length}
 use Rattle.buffer.proofs.Looping.{Stored}
-use Rattle.buffer.proofs.put_all.Reads as reads
-use Rattle.buffer.proofs.put_all.Lts as lts
 use Rattle.buffer.proofs.put_all.Given as goal
 
 abbrev pub invariant-loop-i : goal.invariant-loop-i

@@ -1,9 +1,5 @@
 use native.Mathlib.Omega.{arith}
 use Rattle.buffer.proofs.Written.{written_past}
-use Rattle.buffer.proofs.put_bytes.Reads as reads
-use Rattle.buffer.proofs.put_bytes.Lts as lts
-use Rattle.buffer.proofs.put_all.Reads as put-all-reads
-use Rattle.buffer.proofs.put_some.Reads as put-some-reads
 use Rattle.buffer.proofs.put_bytes.Goals as goal
 
 -- src/lib.rt:139:9

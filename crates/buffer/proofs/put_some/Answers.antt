@@ -1,4 +1,3 @@
-use Prim.Native.Nat.{◌-◌}
 use borrow.Author.Rules.{rules}
 use Rattle.buffer.proofs.Looping.{bytewise}
 use Rattle.buffer.proofs.put_some.Goals as goal

@@ -1,4 +1,3 @@
-use Prim.Native.Nat.{◌-◌}
 use borrow.Author.Rules.{rules}
 use Rattle.call_register.proofs.Preparing.{ascii}
 use Rattle.call_register.proofs.is_ascii.Goals as goal

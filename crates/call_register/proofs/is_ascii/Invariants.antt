@@ -1,6 +1,6 @@
 use Prim.Native.Nat.{◌≤◌, ◌-◌}
 use lib.ListN.{length}
-use Rattle.call_register.proofs.Preparing.{Testing, ascii}
+use Rattle.call_register.proofs.Preparing.{Testing}
 use Rattle.call_register.proofs.is_ascii.Given as goal
 
 abbrev pub invariant-loop-i : goal.invariant-loop-i

@@ -1,11 +1,4 @@
 use Rattle.call_register.proofs.Calls.{typed_refused, ascii_registered, read_refused, read_registered}
-use Rattle.call_register.proofs.register.Reads as reads
-use Rattle.call_register.proofs.register.Lts as lts
-use Rattle.call_register.proofs.is_ascii.Reads as is-ascii-reads
-use Rattle.call_register.proofs.register_rows.Reads as register-rows-reads
-use Rattle.call_register.proofs.register_typed.Reads as register-typed-reads
-use Rattle.register_text_verdict.proofs.judge_typed.Reads as judge-typed-reads
-use Rattle.register_text_verdict.proofs.read_rows.Reads as read-rows-reads
 use Rattle.call_register.proofs.register.Goals as goal
 
 -- src/lib.rt:114:13

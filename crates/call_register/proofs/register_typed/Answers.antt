@@ -1,8 +1,4 @@
 use Rattle.call_register.proofs.Calls.{composed_refused, composed_registered}
-use Rattle.call_register.proofs.register_typed.Reads as reads
-use Rattle.call_register.proofs.register_typed.Lts as lts
-use Rattle.call_register.proofs.register_rows.Reads as register-rows-reads
-use Rattle.register_text_entries.proofs.composing.compose.Reads as compose-reads
 use Rattle.call_register.proofs.register_typed.Goals as goal
 
 -- src/lib.rt:87:9

@@ -1,13 +1,5 @@
-use Prim.Native.Nat.{◌-◌}
 use native.Mathlib.Omega.{arith}
 use Rattle.names.proofs.NamePutting.{put_front, put_size, put_next, put_stopped, put_done}
-use Rattle.names.proofs.compose_from.Reads as reads
-use Rattle.names.proofs.compose_from.Lts as lts
-use Rattle.buffer.proofs.put_bytes.Reads as put-bytes-reads
-use Rattle.names.proofs.letter_at.Reads as letter-at-reads
-use Rattle.names.proofs.put_code.Reads as put-code-reads
-use Rattle.names.proofs.size_of.Reads as size-of-reads
-use Rattle.text.proofs.part.Reads as part-reads
 use Rattle.names.proofs.compose_from.Goals as goal
 
 -- src/lib.rt:185:5

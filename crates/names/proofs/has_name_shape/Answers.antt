@@ -1,4 +1,3 @@
-use borrow.Author.Rules.{rules}
 use Rattle.names.proofs.Naming.{shape_empty, shape_is}
 use Rattle.names.proofs.has_name_shape.Goals as goal
 

@@ -1,10 +1,5 @@
 use Rattle.names.proofs.Naming.{unshaped}
 use Rattle.names.proofs.NamePutting.{own_name, walked_name}
-use Rattle.names.proofs.is_name.Reads as reads
-use Rattle.names.proofs.is_name.Lts as lts
-use Rattle.names.proofs.compose_rest.Reads as compose-rest-reads
-use Rattle.names.proofs.has_name_shape.Reads as has-name-shape-reads
-use Rattle.names.proofs.own_form.own_front.Reads as own-front-reads
 use Rattle.names.proofs.is_name.Goals as goal
 
 -- src/lib.rt:215:9

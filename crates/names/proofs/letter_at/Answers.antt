@@ -1,8 +1,4 @@
 use Rattle.names.proofs.Walking.{told_past, told_here}
-use Rattle.names.proofs.letter_at.Reads as reads
-use Rattle.names.proofs.letter_at.Lts as lts
-use Rattle.names.proofs.letter_of.Reads as letter-of-reads
-use Rattle.text.proofs.byte_at.Reads as byte-at-reads
 use Rattle.names.proofs.letter_at.Goals as goal
 
 -- src/lib.rt:95:9

@@ -1,9 +1,4 @@
 use Rattle.names.proofs.Letters.{told_alone, told_unmarked, told_marked}
-use Rattle.names.proofs.letter_of.Reads as reads
-use Rattle.names.proofs.letter_of.Lts as lts
-use Rattle.names.proofs.lone_letter.Reads as lone-letter-reads
-use Rattle.names.proofs.table.composed_letter.Reads as composed-letter-reads
-use Rattle.tables.proofs.wide.Reads as wide-reads
 use Rattle.names.proofs.letter_of.Goals as goal
 
 -- src/lib.rt:77:9

@@ -1,7 +1,4 @@
 use Rattle.names.proofs.Letters.{pair_there, pair_missing}
-use Rattle.names.proofs.letter_pair.Reads as reads
-use Rattle.names.proofs.letter_pair.Lts as lts
-use Rattle.tables.proofs.wide.Reads as wide-reads
 use Rattle.names.proofs.letter_pair.Goals as goal
 
 -- src/lib.rt:35:1

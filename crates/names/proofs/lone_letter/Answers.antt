@@ -1,9 +1,4 @@
 use Rattle.names.proofs.Letters.{lone_plain, lone_missing, lone_wide}
-use Rattle.names.proofs.lone_letter.Reads as reads
-use Rattle.names.proofs.lone_letter.Lts as lts
-use Rattle.names.proofs.letter_pair.Reads as letter-pair-reads
-use Rattle.names.proofs.own_form.is_plain.Reads as is-plain-reads
-use Rattle.tables.proofs.wide.Reads as wide-reads
 use Rattle.names.proofs.lone_letter.Goals as goal
 
 -- src/lib.rt:51:9

@@ -1,10 +1,4 @@
 use Rattle.names.proofs.NamePutting.{put_own, put_typed, put_some}
-use Rattle.names.proofs.put_composed.Reads as reads
-use Rattle.names.proofs.put_composed.Lts as lts
-use Rattle.buffer.proofs.least.Reads as least-reads
-use Rattle.buffer.proofs.put_bytes.Reads as put-bytes-reads
-use Rattle.names.proofs.compose_rest.Reads as compose-rest-reads
-use Rattle.names.proofs.own_form.own_front.Reads as own-front-reads
 use Rattle.names.proofs.put_composed.Goals as goal
 
 -- src/lib.rt:246:9

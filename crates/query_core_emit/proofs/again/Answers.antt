@@ -1,6 +1,4 @@
 use mathlib.Core.Path.{sym}
-use Rattle.query_core_emit.proofs.again.Reads as reads
-use Rattle.query_core_emit.proofs.again.Lts as lts
 use Rattle.query_core_emit.proofs.again.Goals as goal
 
 pub returns-in-At : goal.returns-in-At

@@ -1,6 +1,4 @@
 use mathlib.Core.Path.{sym}
-use Rattle.query_text_heads.proofs.again.Reads as reads
-use Rattle.query_text_heads.proofs.again.Lts as lts
 use Rattle.query_text_heads.proofs.again.Goals as goal
 
 pub returns-in-Got : goal.returns-in-Got

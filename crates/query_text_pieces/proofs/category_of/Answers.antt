@@ -1,5 +1,4 @@
 use Rattle.query_text_pieces.proofs.Laws.{category_yes, category_no}
-use borrow.Author.Rules.{rules}
 use Rattle.query_text_pieces.proofs.category_of.Goals as goal
 
 -- lost: slice-aggregate-same-bytes : tie.Need-slice-aggregate-same-bytes

@@ -1,5 +1,4 @@
 use Rattle.query_text_pieces.specs.Places.{from}
-use borrow.Author.Rules.{rules}
 use Rattle.query_text_pieces.proofs.ends_head.Goals as goal
 
 -- lost: slice-aggregate-word-at : tie.Need-slice-aggregate-word-at

@@ -1,6 +1,4 @@
 use mathlib.Core.Path.{refl, sym, ◌∙◌}
-use Prim.Native.Nat.{◌-◌}
-use borrow.Author.Rules.{rules}
 use Rattle.query_text_pieces.proofs.Laws.{head_here, head_none, head_step, head_over}
 use Rattle.query_text_pieces.proofs.head_end.Goals as goal
 

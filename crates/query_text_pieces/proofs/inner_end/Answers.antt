@@ -1,5 +1,4 @@
 use Rattle.query_text_pieces.proofs.Laws.{ways, inner_yes}
-use borrow.Author.Rules.{rules}
 use Rattle.query_text_pieces.proofs.inner_end.Goals as goal
 
 -- lost: slice-aggregate-token : tie.Need-slice-aggregate-token

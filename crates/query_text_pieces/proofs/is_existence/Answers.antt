@@ -1,4 +1,3 @@
-use borrow.Author.Rules.{rules}
 use Rattle.query_text_pieces.proofs.is_existence.Goals as goal
 
 -- lost: slice-aggregate-same-bytes : tie.Need-slice-aggregate-same-bytes

@@ -1,5 +1,4 @@
 use Rattle.query_text_pieces.proofs.Laws.{read_namespace, read_no_namespace, read_reference, read_no_reference}
-use borrow.Author.Rules.{rules}
 use Rattle.query_text_pieces.proofs.read_piece.Goals as goal
 
 -- lost: slice-aggregate-same-bytes : tie.Need-slice-aggregate-same-bytes

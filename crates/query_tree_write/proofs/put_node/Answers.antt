@@ -1,13 +1,5 @@
 use native.Mathlib.Omega.{arith}
 use Rattle.query_tree_write.proofs.Laws.{name_is, put_short, put_full, put_long, put_longer, same_long, put_is, in_room}
-use Rattle.query_tree_write.proofs.put_node.Reads as reads
-use Rattle.query_tree_write.proofs.put_node.Lts as lts
-use Rattle.language.proofs.comparator_code.Reads as comparator-code-reads
-use Rattle.query_tree_write.proofs.entry_of.Reads as entry-of-reads
-use Rattle.query_tree_write.proofs.has_room.Reads as has-room-reads
-use Rattle.query_tree_write.proofs.put_row.Reads as put-row-reads
-use Rattle.query_tree_write.proofs.put_string.Reads as put-string-reads
-use Rattle.text.proofs.part.Reads as part-reads
 use Rattle.query_tree_write.proofs.put_node.Goals as goal
 
 -- src/lib.rt:124:9

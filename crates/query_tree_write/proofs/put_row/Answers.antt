@@ -1,8 +1,6 @@
 use native.Mathlib.Omega.{arith}
 use lib.ListN.{length-set}
 use Rattle.query_tree_write.proofs.Laws.{row_written}
-use Rattle.query_tree_write.proofs.put_row.Reads as reads
-use Rattle.query_tree_write.proofs.put_row.Lts as lts
 use Rattle.query_tree_write.proofs.put_row.Goals as goal
 
 pub bounds-tree-at-2 : goal.bounds-tree-at-2

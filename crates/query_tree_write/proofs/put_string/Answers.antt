@@ -1,8 +1,4 @@
 use Rattle.query_tree_write.proofs.Laws.{empty_put, typed_put, name_put}
-use Rattle.query_tree_write.proofs.put_string.Reads as reads
-use Rattle.query_tree_write.proofs.put_string.Lts as lts
-use Rattle.buffer.proofs.put_bytes.Reads as put-bytes-reads
-use Rattle.names.proofs.put_composed.Reads as put-composed-reads
 use Rattle.query_tree_write.proofs.put_string.Goals as goal
 
 -- src/lib.rt:81:9

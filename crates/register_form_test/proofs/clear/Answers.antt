@@ -1,4 +1,3 @@
-use Prim.Native.Nat.{◌-◌}
 use mathlib.Core.Path.{refl}
 use Rattle.register_form_test.proofs.Loops.{written_more}
 use native.Mathlib.Omega.{arith}

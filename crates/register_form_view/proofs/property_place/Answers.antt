@@ -1,4 +1,3 @@
-use Prim.Native.Nat.{◌-◌}
 use native.Mathlib.Omega.{arith}
 use Rattle.register_form_view.proofs.Names.{passed_none, place_here, place_more, place_none}
 use Rattle.register_form_view.proofs.property_place.Goals as goal

@@ -1,4 +1,3 @@
-use Prim.Native.Nat.{◌-◌}
 use native.Mathlib.Omega.{arith}
 use Rattle.register_join_draft.proofs.Ways.{identifiers_none, identifiers_next, identifiers_all}
 use Rattle.register_join_draft.proofs.put_identifiers.Goals as goal

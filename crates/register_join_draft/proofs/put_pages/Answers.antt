@@ -1,4 +1,3 @@
-use Prim.Native.Nat.{◌-◌}
 use native.Mathlib.Omega.{arith}
 use Rattle.register_join_draft.proofs.Writing.{pages_none, pages_next, pages_all, row_is}
 use Rattle.register_join_draft.proofs.put_pages.Goals as goal

@@ -1,4 +1,3 @@
-use Prim.Native.Nat.{◌-◌}
 use native.Mathlib.Omega.{arith}
 use Rattle.register_join_draft.proofs.Ways.{properties_none, properties_next, properties_all}
 use Rattle.register_join_draft.proofs.put_properties.Goals as goal

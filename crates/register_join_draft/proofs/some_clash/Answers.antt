@@ -1,5 +1,3 @@
-use Prim.Native.Nat.{◌-◌}
-use mathlib.Core.Bool.{false}
 use native.Mathlib.Omega.{arith}
 use Rattle.register_join_draft.proofs.Clashing.{clash_start, clash_more, clash_found, clash_all}
 use Rattle.register_join_draft.proofs.some_clash.Goals as goal

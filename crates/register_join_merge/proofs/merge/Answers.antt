@@ -1,4 +1,3 @@
-use Prim.Native.Nat.{◌-◌}
 use native.Mathlib.Omega.{arith}
 use Rattle.register_join_merge.proofs.Orders.{left_over, none_left}
 use Rattle.register_join_merge.proofs.Run.{run_none, run_less, run_next, run_all}

@@ -4,9 +4,9 @@ use Rattle.register_join_merge.proofs.Run.{Run}
 use Rattle.register_join_merge.proofs.merge.Given as goal
 
 abbrev pub invariant-loop-i : goal.invariant-loop-i
-invariant-loop-i l = 
+invariant-loop-i l =
     Run l.h l.g l.initial.heap l.initial.starts l.initial.lens l.initial.items1 l.initial.items2 l.heap l.starts l.lens l.items1 l.items2 l.i l.j l.k l.end
 
 abbrev pub decreases-loop-i : goal.decreases-loop-i
-decreases-loop-i l = 
+decreases-loop-i l =
     (text_count l.h - l.i) + (text_count l.g - l.j)

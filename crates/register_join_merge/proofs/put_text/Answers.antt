@@ -1,4 +1,3 @@
-use Prim.Native.Nat.{◌-◌}
 use Rattle.register_join_merge.proofs.Ways.{pasted_past, pasted_full, copied_none, copied_more, copied_all}
 use Rattle.register_join_merge.proofs.put_text.Goals as goal
 

@@ -1,4 +1,3 @@
-use Prim.Native.Nat.{◌-◌}
 use native.Mathlib.Omega.{arith}
 use Rattle.register_text_entries.proofs.Reading.{going_start, goings}
 use Rattle.register_text_entries.proofs.read_all.Goals as goal

@@ -1,6 +1,5 @@
 use Rattle.register_text_verdict.proofs.Loops.{collect_start, collect_fits, collect_more, collect_end}
 use native.Mathlib.Omega.{arith}
-use Prim.Native.Nat.{◌-◌}
 use Rattle.register_text_verdict.proofs.collect.Goals as goal
 
 pub loop-i-init : goal.loop-i-init

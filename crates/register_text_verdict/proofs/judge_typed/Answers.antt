@@ -1,9 +1,5 @@
 use mathlib.Core.List.{[], ◌∷◌}
 use Rattle.register_text_verdict.proofs.Judging.{typed_refused, typed_unruled, typed_ruled}
-use Rattle.register_text_verdict.proofs.judge_typed.Reads as reads
-use Rattle.register_text_verdict.proofs.judge_typed.Lts as lts
-use Rattle.register_text_verdict.proofs.read_rows.Reads as read-rows-reads
-use Rattle.register_text_verdict.proofs.tests.some_row.Reads as some-row-reads
 use Rattle.register_text_verdict.proofs.judge_typed.Goals as goal
 
 -- src/lib.rt:140:9

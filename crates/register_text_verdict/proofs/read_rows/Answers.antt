@@ -1,7 +1,4 @@
 use Rattle.register_text_verdict.proofs.Judging.{read_long, read_broken, read_whole_lem}
-use Rattle.register_text_verdict.proofs.read_rows.Reads as reads
-use Rattle.register_text_verdict.proofs.read_rows.Lts as lts
-use Rattle.register_text_entries.proofs.read_all.Reads as read-all-reads
 use Rattle.register_text_verdict.proofs.read_rows.Goals as goal
 
 -- src/lib.rt:122:9

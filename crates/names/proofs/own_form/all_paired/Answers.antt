@@ -1,10 +1,5 @@
-use Prim.Native.Nat.{◌-◌}
 use native.Mathlib.Omega.{arith}
 use Rattle.names.proofs.OwnForm.{paired_none, paired_first, paired_more, paired_all}
-use Rattle.names.proofs.own_form.all_paired.Reads as reads
-use Rattle.names.proofs.own_form.all_paired.Lts as lts
-use Rattle.names.proofs.own_form.does_follow.Reads as does-follow-reads
-use Rattle.names.proofs.own_form.is_lead.Reads as is-lead-reads
 use Rattle.names.proofs.own_form.all_paired.Goals as goal
 
 -- src/own_form.rt:78:9

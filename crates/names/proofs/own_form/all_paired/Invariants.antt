@@ -1,10 +1,6 @@
 use Prim.Native.Nat.{◌-◌}
 use lib.ListN.{length}
 use Rattle.names.proofs.OwnForm.{PairedTo}
-use Rattle.names.proofs.own_form.all_paired.Reads as reads
-use Rattle.names.proofs.own_form.all_paired.Lts as lts
-use Rattle.names.proofs.own_form.does_follow.Reads as does-follow-reads
-use Rattle.names.proofs.own_form.is_lead.Reads as is-lead-reads
 use Rattle.names.proofs.own_form.all_paired.Given as goal
 
 abbrev pub invariant-loop-i : goal.invariant-loop-i

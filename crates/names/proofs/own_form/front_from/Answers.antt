@@ -1,10 +1,5 @@
-use Prim.Native.Nat.{◌-◌}
 use native.Mathlib.Omega.{arith}
 use Rattle.names.proofs.Fronts.{front_more, front_marked, front_ends, front_whole}
-use Rattle.names.proofs.own_form.front_from.Reads as reads
-use Rattle.names.proofs.own_form.front_from.Lts as lts
-use Rattle.names.proofs.lone_letter.Reads as lone-letter-reads
-use Rattle.text.proofs.byte_at.Reads as byte-at-reads
 use Rattle.names.proofs.own_form.front_from.Goals as goal
 
 -- src/own_form.rt:25:5

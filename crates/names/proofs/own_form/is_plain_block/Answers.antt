@@ -1,9 +1,5 @@
-use Prim.Native.Nat.{◌-◌}
 use native.Mathlib.Omega.{arith}
 use Rattle.names.proofs.Fronts.{block_none, block_more, block_all}
-use Rattle.names.proofs.own_form.is_plain_block.Reads as reads
-use Rattle.names.proofs.own_form.is_plain_block.Lts as lts
-use Rattle.names.proofs.own_form.is_plain.Reads as is-plain-reads
 use Rattle.names.proofs.own_form.is_plain_block.Goals as goal
 
 -- src/own_form.rt:52:5

@@ -1,8 +1,5 @@
 use Prim.Native.Nat.{◌-◌}
 use Rattle.names.proofs.Fronts.{BlockTo}
-use Rattle.names.proofs.own_form.is_plain_block.Reads as reads
-use Rattle.names.proofs.own_form.is_plain_block.Lts as lts
-use Rattle.names.proofs.own_form.is_plain.Reads as is-plain-reads
 use Rattle.names.proofs.own_form.is_plain_block.Given as goal
 
 abbrev pub invariant-loop-i : goal.invariant-loop-i

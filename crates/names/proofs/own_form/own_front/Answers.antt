@@ -1,11 +1,5 @@
-use Prim.Native.Nat.{◌-◌}
 use native.Mathlib.Omega.{arith}
 use Rattle.names.proofs.Fronts.{front_none, plain_more, plain_whole}
-use Rattle.names.proofs.own_form.own_front.Reads as reads
-use Rattle.names.proofs.own_form.own_front.Lts as lts
-use Rattle.names.proofs.own_form.front_from.Reads as front_from_reads
-use Rattle.names.proofs.own_form.is_plain.Reads as is-plain-reads
-use Rattle.names.proofs.own_form.plain_blocks.Reads as plain-blocks-reads
 use Rattle.names.proofs.own_form.own_front.Goals as goal
 
 -- src/own_form.rt:80:5

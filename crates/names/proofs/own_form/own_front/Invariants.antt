@@ -1,11 +1,6 @@
 use Prim.Native.Nat.{◌-◌}
 use lib.ListN.{length}
 use Rattle.names.specs.Steps.{PlainTo}
-use Rattle.names.proofs.own_form.own_front.Reads as reads
-use Rattle.names.proofs.own_form.own_front.Lts as lts
-use Rattle.names.proofs.own_form.front_from.Reads as front_from_reads
-use Rattle.names.proofs.own_form.is_plain.Reads as is-plain-reads
-use Rattle.names.proofs.own_form.plain_blocks.Reads as plain-blocks-reads
 use Rattle.names.proofs.own_form.own_front.Given as goal
 
 abbrev pub invariant-loop-i : goal.invariant-loop-i

@@ -1,11 +1,7 @@
-use Prim.Native.Nat.{◌-◌}
 use mathlib.Core.Path.{sym, ◌∙◌}
 use native.Mathlib.Omega.{arith}
 use borrow.Author.Tests.{not-false}
 use Rattle.names.proofs.Fronts.{plain_none, plain_run}
-use Rattle.names.proofs.own_form.plain_blocks.Reads as reads
-use Rattle.names.proofs.own_form.plain_blocks.Lts as lts
-use Rattle.names.proofs.own_form.is_plain_block.Reads as is-plain-block-reads
 use Rattle.names.proofs.own_form.plain_blocks.Goals as goal
 
 -- src/own_form.rt:64:5

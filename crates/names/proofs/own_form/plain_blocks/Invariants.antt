@@ -1,9 +1,6 @@
 use Prim.Native.Nat.{◌-◌}
 use lib.ListN.{length}
 use Rattle.names.specs.Steps.{PlainTo}
-use Rattle.names.proofs.own_form.plain_blocks.Reads as reads
-use Rattle.names.proofs.own_form.plain_blocks.Lts as lts
-use Rattle.names.proofs.own_form.is_plain_block.Reads as is-plain-block-reads
 use Rattle.names.proofs.own_form.plain_blocks.Given as goal
 
 abbrev pub invariant-loop-i : goal.invariant-loop-i

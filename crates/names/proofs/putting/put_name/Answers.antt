@@ -1,11 +1,4 @@
 use Rattle.names.proofs.NamePutting.{put_unshaped, put_whole, put_form}
-use Rattle.names.proofs.putting.put_name.Reads as reads
-use Rattle.names.proofs.putting.put_name.Lts as lts
-use Rattle.buffer.proofs.put_bytes.Reads as put-bytes-reads
-use Rattle.names.proofs.compose_from.Reads as compose-from-reads
-use Rattle.names.proofs.has_name_shape.Reads as has-name-shape-reads
-use Rattle.names.proofs.own_form.own_front.Reads as own-front-reads
-use Rattle.tables.proofs.widen.Reads as widen-reads
 use Rattle.names.proofs.putting.put_name.Goals as goal
 
 -- src/putting.rt:24:9

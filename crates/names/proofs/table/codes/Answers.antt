@@ -1,8 +1,6 @@
 use mathlib.Core.Path.{refl}
 use Rattle.names.specs.Table.{table}
 use Rattle.names.specs.Steps.{composed_letters}
-use Rattle.names.proofs.table.codes.Reads as reads
-use Rattle.names.proofs.table.codes.Lts as lts
 use Rattle.names.proofs.table.codes.Goals as goal
 
 -- src/table.rt:35:1

@@ -1,11 +1,5 @@
 use mathlib.Core.Path.{◌∙◌}
 use Rattle.names.proofs.Places.{lent_found, lent_missing}
-use Rattle.names.proofs.table.composed_letter.Reads as reads
-use Rattle.names.proofs.table.composed_letter.Lts as lts
-use Rattle.tables.proofs.get.Reads as get-reads
-use Rattle.tables.proofs.widen.Reads as widen-reads
-use Rattle.text.proofs.byte_at.Reads as byte-at-reads
-use Rattle.text.proofs.widen.Reads as widen-reads'
 use Rattle.names.proofs.table.composed_letter.Goals as goal
 
 -- src/table.rt:42:1

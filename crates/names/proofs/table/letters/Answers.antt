@@ -1,8 +1,6 @@
 use mathlib.Core.Path.{refl}
 use Rattle.names.specs.Table.{table}
 use Rattle.names.specs.Steps.{letters}
-use Rattle.names.proofs.table.letters.Reads as reads
-use Rattle.names.proofs.table.letters.Lts as lts
 use Rattle.names.proofs.table.letters.Goals as goal
 
 -- src/table.rt:23:1

@@ -1,8 +1,6 @@
 use mathlib.Core.Path.{refl}
 use Rattle.names.specs.Table.{table}
 use Rattle.names.specs.Steps.{marks}
-use Rattle.names.proofs.table.marks.Reads as reads
-use Rattle.names.proofs.table.marks.Lts as lts
 use Rattle.names.proofs.table.marks.Goals as goal
 
 -- src/table.rt:29:1

@@ -2,8 +2,6 @@ use mathlib.Core.Path.{refl}
 use Rattle.text.specs.Table.{tabulate}
 use Rattle.names.specs.Table.{table}
 use Rattle.names.specs.Steps.{places, place}
-use Rattle.names.proofs.table.places.Reads as reads
-use Rattle.names.proofs.table.places.Lts as lts
 use Rattle.names.proofs.table.places.Goals as goal
 
 -- src/table.rt:17:1

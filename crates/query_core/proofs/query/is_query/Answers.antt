@@ -1,4 +1,3 @@
-use Prim.Native.Nat.{◌-◌}
 use native.Mathlib.Omega.{arith}
 use Rattle.query_core.proofs.Stacks.{height_zero, query_unsized, query_broken, query_done, height_unread, height_lacks, height_step}
 use Rattle.query_core.proofs.query.is_query.Goals as goal

@@ -1,5 +1,3 @@
-use Prim.Native.Nat.{◌-◌}
-use mathlib.Core.Bool.{false}
 use native.Mathlib.Omega.{arith}
 use Rattle.query_core_fit.proofs.Undeclared.{none_yet, none_more, some_here, none_all}
 use Rattle.query_core_fit.proofs.properties.some_undeclared.Goals as goal

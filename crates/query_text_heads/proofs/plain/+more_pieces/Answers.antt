@@ -1,6 +1,5 @@
 use borrow.Author.Rules.{rules}
 use Rattle.query_text_heads.proofs.Bodies.{pieces, pieces_on, fall_pieces}
-use Prim.Native.Nat.{ℕ}
 use Rattle.query_text_heads.proofs.plain.+more_pieces.Goals as goal
 
 -- lost: more-pieces-slice-aggregate-after : (t : ℕ) → more-pieces-lts.Need-slice-aggregate-after (more_pieces_calls t) (more_pieces_at t) more-pieces.Post

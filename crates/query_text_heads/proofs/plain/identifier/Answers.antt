@@ -1,10 +1,4 @@
 use Rattle.query_text_heads.proofs.Bodies.{identifier_is}
-use Rattle.query_text_heads.proofs.plain.identifier.Reads as reads
-use Rattle.query_text_heads.proofs.plain.identifier.Lts as lts
-use Rattle.query_text_heads.proofs.adding.add.Reads as add_reads
-use Rattle.query_text_heads.proofs.adding.flag.Reads as flag-reads
-use Rattle.query_text_heads.proofs.plain.identifier_node.Reads as identifier-node-reads
-use Rattle.query_text_heads.proofs.plain.is_broken.Reads as is-broken-reads
 use Rattle.query_text_heads.proofs.plain.identifier.Goals as goal
 
 pub returns : goal.returns

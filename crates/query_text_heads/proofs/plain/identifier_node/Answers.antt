@@ -1,10 +1,4 @@
 use Rattle.query_text_heads.proofs.Bodies.{node_namespace, node_qualified, node_bare}
-use borrow.Author.Rules.{rules}
-use Rattle.query_text_heads.proofs.plain.identifier_node.Reads as reads
-use Rattle.query_text_heads.proofs.plain.identifier_node.Lts as lts
-use Rattle.language.proofs.is_equal.Reads as is-equal-reads
-use Rattle.text.proofs.part.Reads as part-reads
-use Rattle.text.proofs.same_bytes.Reads as same-bytes-reads
 use Rattle.query_text_heads.proofs.plain.identifier_node.Goals as goal
 
 -- lost: slice-aggregate-same-bytes : tie.Need-slice-aggregate-same-bytes

@@ -1,10 +1,4 @@
 use Rattle.query_text_heads.proofs.Bodies.{piece_category, piece_identifier}
-use Rattle.query_text_heads.proofs.plain.piece.Reads as reads
-use Rattle.query_text_heads.proofs.plain.piece.Lts as lts
-use Rattle.language.proofs.is_equal.Reads as is-equal-reads
-use Rattle.query_text_heads.proofs.plain.category.Reads as category_reads
-use Rattle.query_text_heads.proofs.plain.identifier.Reads as identifier-reads
-use Rattle.query_text_pieces.proofs.split_at.Reads as split-at-reads
 use Rattle.query_text_heads.proofs.plain.piece.Goals as goal
 
 pub returns-then-categories : goal.returns-then-categories

@@ -1,14 +1,4 @@
 use Rattle.query_text_heads.proofs.Bodies.{plain_categories, plain_identifiers}
-use Rattle.query_text_heads.proofs.plain.plain.Reads as reads
-use Rattle.query_text_heads.proofs.plain.plain.Lts as lts
-use Rattle.query_text_heads.proofs.adding.flag.Reads as flag-reads
-use Rattle.query_text_heads.proofs.again.Reads as again-reads
-use Rattle.query_text_heads.proofs.plain.category.Reads as category_reads
-use Rattle.query_text_heads.proofs.plain.identifier.Reads as identifier-reads
-use Rattle.query_text_heads.proofs.plain.more_pieces.Reads as more-pieces-reads
-use Rattle.query_text_pieces.proofs.category_of.Reads as category-of-reads
-use Rattle.query_text_pieces.proofs.piece_at.Reads as piece-at-reads
-use Rattle.query_text_pieces.proofs.split_at.Reads as split-at-reads
 use Rattle.query_text_heads.proofs.plain.plain.Goals as goal
 
 pub returns-in-Category : goal.returns-in-Category

@@ -1,9 +1,7 @@
 use borrow.Author.Rules.{rules}
-use Prim.Native.Nat.{◌+◌}
 use Rattle.query_text_heads.specs.Trees.{effect, effect_in}
 use Rattle.query_text_read.proofs.Ways.{cycle, bracket_got, alternative_group, or_joined, and_joined, more_joined}
 use Rattle.query_text_read.proofs.Falls.{fall, fall_more, fall_or, fall_and, head_fits}
-use Prim.Native.Nat.{ℕ}
 use Rattle.query_text_read.proofs.readers.+alternative_alternatives_bracket_conjunction_more_alternatives_more_conjunctions_more_terms_query_term.Goals as goal
 
 pub alternative-query-requires : goal.alternative-query-requires

@@ -1,6 +1,5 @@
 use mathlib.Core.Path.{◌∙◌}
 use lib.ListN.{length}
-use borrow.Author.Rules.{rules}
 use Rattle.query_tree_test.proofs.Caps.{leaf_sized, cut_plus}
 use Rattle.query_tree_test.proofs.leaves.namespace_item.Goals as goal
 

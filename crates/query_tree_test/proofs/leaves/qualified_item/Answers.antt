@@ -1,6 +1,5 @@
 use mathlib.Core.Path.{◌∙◌}
 use lib.ListN.{length}
-use borrow.Author.Rules.{rules}
 use Rattle.language.specs.Comparators.{word}
 use Rattle.query_tree_spelling.specs.Spelled.{cost_reference}
 use Rattle.query_tree_test.proofs.Caps.{leaf_sized, cuts_plus}

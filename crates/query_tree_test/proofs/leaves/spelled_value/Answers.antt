@@ -1,4 +1,3 @@
-use borrow.Author.Rules.{rules}
 use Rattle.query_tree_spelling.specs.Spelled.{spelled_value}
 use Rattle.query_tree_test.proofs.leaves.spelled_value.Goals as goal
 

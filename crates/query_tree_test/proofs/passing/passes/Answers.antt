@@ -1,4 +1,3 @@
-use Prim.Native.Nat.{◌-◌}
 use mathlib.Core.Path.{refl, ◌∙◌}
 use native.Mathlib.Omega.{arith}
 use Rattle.query_tree_test.proofs.Stacks.{stack_none, stops, run_lacks, run_unmade, run_high, stack_more, not_one, is_one}

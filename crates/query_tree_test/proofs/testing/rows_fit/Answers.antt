@@ -1,4 +1,3 @@
-use Prim.Native.Nat.{◌-◌}
 use native.Mathlib.Omega.{arith}
 use borrow.Author.Tests.{not-true, not-false}
 use Rattle.query_tree_test.proofs.Loops.{rows_none, rows_more, rows_stop, rows_all}

@@ -1,4 +1,3 @@
-use Prim.Native.Nat.{◌-◌}
 use borrow.Author.Rules.{rules}
 use Rattle.register_form_assembly.proofs.Counts.{sized_none, sized_more, sized_all}
 use Rattle.register_form_assembly.proofs.counting.add_sizes.Goals as goal

@@ -1,4 +1,3 @@
-use Prim.Native.Nat.{◌-◌}
 use borrow.Author.Rules.{rules}
 use Rattle.register_form_assembly.proofs.Counts.{summing, summing_more}
 use Rattle.register_form_assembly.proofs.counting.count_each.Goals as goal

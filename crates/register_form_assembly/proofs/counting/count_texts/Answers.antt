@@ -1,4 +1,3 @@
-use Prim.Native.Nat.{◌-◌}
 use borrow.Author.Rules.{rules}
 use Rattle.register_form_assembly.proofs.Counts.{summing}
 use Rattle.register_form_assembly.proofs.counting.count_texts.Goals as goal

@@ -1,4 +1,3 @@
-use Prim.Native.Nat.{◌-◌}
 use Rattle.register_form_assembly.proofs.Coding.{filling_none, filling_more, filling_all}
 use Rattle.register_form_assembly.proofs.counting.put_sizes.Goals as goal
 

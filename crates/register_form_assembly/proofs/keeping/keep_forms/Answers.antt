@@ -1,4 +1,3 @@
-use Prim.Native.Nat.{◌-◌}
 use native.Mathlib.Omega.{arith}
 use Rattle.register_form_assembly.proofs.Keepings.{paging_none, paging_more, paging_all}
 use Rattle.register_form_assembly.proofs.keeping.keep_forms.Goals as goal

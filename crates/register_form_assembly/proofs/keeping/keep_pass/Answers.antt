@@ -1,4 +1,3 @@
-use Prim.Native.Nat.{◌-◌}
 use native.Mathlib.Omega.{arith}
 use Rattle.register_form_assembly.proofs.Keepings.{pass_none, pass_more, pass_all}
 use Rattle.register_form_assembly.proofs.keeping.keep_pass.Goals as goal

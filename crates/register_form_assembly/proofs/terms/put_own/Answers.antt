@@ -1,4 +1,3 @@
-use Prim.Native.Nat.{◌-◌}
 use mathlib.Core.Path.{refl}
 use Rattle.register_form_assembly.proofs.Coding.{filling_none, filling_more, filling_all}
 use Rattle.register_form_assembly.proofs.terms.put_own.Goals as goal

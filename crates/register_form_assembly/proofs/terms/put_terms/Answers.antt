@@ -1,4 +1,3 @@
-use Prim.Native.Nat.{◌-◌}
 use Rattle.register_form_assembly.proofs.Coding.{terms_none, terms_more, terms_all}
 use Rattle.register_form_assembly.proofs.terms.put_terms.Goals as goal
 

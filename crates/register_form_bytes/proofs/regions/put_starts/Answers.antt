@@ -1,4 +1,3 @@
-use Prim.Native.Nat.{◌-◌}
 use borrow.Author.Rules.{rules}
 use Rattle.register_form_bytes.proofs.Looping.{laying, starts_more}
 use native.Mathlib.Omega.{arith}

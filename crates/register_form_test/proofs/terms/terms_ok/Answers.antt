@@ -1,4 +1,3 @@
-use Prim.Native.Nat.{◌-◌}
 use Rattle.register_form_test.proofs.TermWays.{term_more, text_of, bytes_of}
 use Rattle.register_form_test.proofs.Loops.{written_more}
 use native.Mathlib.Omega.{arith}

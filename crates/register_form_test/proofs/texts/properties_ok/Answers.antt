@@ -1,4 +1,3 @@
-use Prim.Native.Nat.{◌-◌}
 use Rattle.register_form_test.proofs.Loops.{written_more}
 use Rattle.register_form_test.proofs.TextWays.{property_more, property_sum}
 use native.Mathlib.Omega.{arith}

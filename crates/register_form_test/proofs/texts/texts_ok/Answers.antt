@@ -1,4 +1,3 @@
-use Prim.Native.Nat.{◌-◌}
 use mathlib.Core.Path.{◌≡◌, ap, ◌∙◌}
 use Rattle.register_form.specs.Form.{text_at}
 use Rattle.buffer.proofs.Testing.{all_more}
@@ -24,9 +23,9 @@ pub loop-x-smaller : goal.loop-x-smaller
 loop-x-smaller c = omega arith
 
 pub loop-x-preserved : goal.loop-x-preserved
-loop-x-preserved c = 
-  let k : c.class_of.result ≡ class_of (text_at c.args.h.now c.loop-x.x) = c.class_of.ensures ∙ ap class_of c.text_at-t.ensures in
-  (omega arith, search (all_more, rules), search (written_more, rules))
+loop-x-preserved c =
+    let k : c.class_of.result ≡ class_of (text_at c.args.h.now c.loop-x.x) = c.class_of.ensures ∙ ap class_of c.text_at-t.ensures in
+    (omega arith, search (all_more, rules), search (written_more, rules))
 
 pub shape_of-classes : goal.shape_of-classes
 shape_of-classes c = search (loops, tests, rules)

@@ -1,6 +1,4 @@
-use Prim.Native.Nat.{◌-◌}
 use mathlib.Core.Path.{◌∙◌}
-use mathlib.Core.Bool.{false}
 use native.Mathlib.Omega.{arith}
 use Rattle.register_form_view.proofs.Looking.{looked_start, looked_more, looked_end}
 use Rattle.register_form_view.proofs.forms.some_marked.Goals as goal

@@ -1,4 +1,3 @@
-use Prim.Native.Nat.{◌-◌}
 use native.Mathlib.Omega.{arith}
 use Rattle.register_form_view.proofs.Looking.{looked_start, looked_more, looked_end}
 use Rattle.register_form_view.proofs.forms.some_within.Goals as goal

@@ -13,9 +13,9 @@ pub returns-in_default-term : goal.returns-in_default-term
 returns-in_default-term c = range_no_term _ _ _ c.binary_search-text.ensures _ c.in-At.is _ c.category_term-term.ensures _ c.in_default-term.is c.no_terms-in_default-term.ensures
 
 pub overflow_add-result : goal.overflow_add-result
-overflow_add-result c = 
-  let bytes : (i : ℕ) → get_or c.args.h.now i 0 < 256 = λ i. omega (arith, c.shared_slice_known-1.given i) in
-  omega (arith, place_small _ _ _ _ bytes c.category_term-term.ensures c.in-At-term.is)
+overflow_add-result c =
+    let bytes : (i : ℕ) → get_or c.args.h.now i 0 < 256 = λ i. omega (arith, c.shared_slice_known-1.given i) in
+    omega (arith, place_small _ _ _ _ bytes c.category_term-term.ensures c.in-At-term.is)
 
 pub returns : goal.returns
 returns c = range_category _ _ _ c.binary_search-text.ensures _ c.in-At.is _ c.category_term-term.ensures _ _ c.in-At-term.is refl refl

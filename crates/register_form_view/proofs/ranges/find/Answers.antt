@@ -1,4 +1,3 @@
-use Prim.Native.Nat.{◌-◌}
 use native.Mathlib.Omega.{arith}
 use Rattle.register_form_view.proofs.Searching.{between_all, between_up, between_down, ranked_between}
 use Rattle.register_form_view.proofs.ranges.find.Goals as goal

@@ -1,4 +1,3 @@
-use Prim.Native.Nat.{◌-◌}
 use Rattle.register_join_draft.proofs.Writing.{forms_none, forms_next, forms_all}
 use Rattle.register_join_draft.proofs.forms.put_each.Goals as goal
 

@@ -1,4 +1,3 @@
-use Prim.Native.Nat.{◌-◌}
 use native.Mathlib.Omega.{arith}
 use Rattle.register_join_draft.proofs.Writing.{terms_none, terms_next, terms_all}
 use Rattle.register_join_draft.proofs.forms.put_terms.Goals as goal

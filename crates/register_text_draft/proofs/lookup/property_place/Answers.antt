@@ -1,4 +1,3 @@
-use Prim.Native.Nat.{◌-◌}
 use Rattle.register_text_draft.proofs.Looking.{found_start, found_past, found_none, found_here, found_later}
 use Rattle.register_text_draft.proofs.lookup.property_place.Goals as goal
 

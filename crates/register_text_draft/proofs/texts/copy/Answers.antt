@@ -1,4 +1,3 @@
-use Prim.Native.Nat.{◌-◌}
 use lib.Seq.{paste-zero}
 use borrow.Author.Rules.{rules}
 use Rattle.register_text_draft.proofs.Ways.{copy_past, copy_short, copy_more, copy_room, copy_end}

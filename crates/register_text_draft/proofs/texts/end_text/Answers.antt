@@ -1,12 +1,4 @@
 use Rattle.register_text_draft.proofs.Filling.{ended}
-use Rattle.register_text_draft.proofs.texts.end_text.Reads as reads
-use Rattle.register_text_draft.proofs.texts.end_text.Lts as lts
-use Rattle.register_text_draft.proofs.texts.middle.Reads as middle-reads
-use Rattle.tables.proofs.narrow.Reads as narrow-reads
-use Rattle.tables.proofs.next.Reads as next-reads
-use Rattle.tables.proofs.put.Reads as put_reads
-use Rattle.tables.proofs.put_start.Reads as put-start-reads
-use Rattle.tables.proofs.widen.Reads as widen-reads
 use Rattle.register_text_draft.proofs.texts.end_text.Goals as goal
 
 -- src/texts.rt:62:1

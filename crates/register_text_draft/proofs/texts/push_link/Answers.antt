@@ -1,9 +1,4 @@
 use Rattle.register_text_draft.proofs.Filling.{link_qualified, link_bare}
-use Rattle.register_text_draft.proofs.texts.push_link.Reads as reads
-use Rattle.register_text_draft.proofs.texts.push_link.Lts as lts
-use Rattle.register_text_draft.proofs.texts.push_names.Reads as push-names-reads
-use Rattle.text.proofs.part.Reads as part-reads
-use Rattle.values.proofs.split_reference.Reads as split-reference-reads
 use Rattle.register_text_draft.proofs.texts.push_link.Goals as goal
 
 -- src/texts.rt:136:9

@@ -1,12 +1,4 @@
 use Rattle.register_text_draft.proofs.Filling.{names_pushed}
-use Rattle.register_text_draft.proofs.texts.push_names.Reads as reads
-use Rattle.register_text_draft.proofs.texts.push_names.Lts as lts
-use Rattle.names.proofs.put_composed.Reads as put-composed-reads
-use Rattle.register_text_draft.proofs.texts.byte.Reads as byte-Reads
-use Rattle.register_text_draft.proofs.texts.end_text.Reads as end-text-reads
-use Rattle.tables.proofs.narrow.Reads as narrow-reads
-use Rattle.tables.proofs.put_byte.Reads as put-byte-reads
-use Rattle.tables.proofs.widen.Reads as widen-reads
 use Rattle.register_text_draft.proofs.texts.push_names.Goals as goal
 
 -- src/texts.rt:96:1

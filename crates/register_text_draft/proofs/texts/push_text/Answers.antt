@@ -1,12 +1,4 @@
 use Rattle.register_text_draft.proofs.Filling.{text_pushed}
-use Rattle.register_text_draft.proofs.texts.push_text.Reads as reads
-use Rattle.register_text_draft.proofs.texts.push_text.Lts as lts
-use Rattle.register_text_draft.proofs.texts.byte.Reads as byte-Reads
-use Rattle.register_text_draft.proofs.texts.copy.Reads as copy-reads
-use Rattle.register_text_draft.proofs.texts.end_text.Reads as end-text-reads
-use Rattle.tables.proofs.narrow.Reads as narrow-reads
-use Rattle.tables.proofs.put_byte.Reads as put-byte-reads
-use Rattle.tables.proofs.widen.Reads as widen-reads
 use Rattle.register_text_draft.proofs.texts.push_text.Goals as goal
 
 -- src/texts.rt:75:1

@@ -1,17 +1,6 @@
-use Prim.Native.Nat.{◌-◌}
 use native.Mathlib.Omega.{arith}
 use borrow.Author.Rules.{rules}
 use Rattle.register_text_entries.proofs.Copying.{going, going_more}
-use Rattle.register_text_entries.proofs.composing.compose.Reads as reads
-use Rattle.register_text_entries.proofs.composing.compose.Lts as lts
-use Rattle.names.proofs.table.codes.Reads as codes-reads
-use Rattle.names.proofs.table.letters.Reads as letters-reads
-use Rattle.names.proofs.table.marks.Reads as marks-reads
-use Rattle.names.proofs.table.places.Reads as places-reads
-use Rattle.register_text_entries.proofs.composing.copy_entry.Reads as copy-entry-reads
-use Rattle.register_text_entries.proofs.table.item_at.Reads as item-at-reads
-use Rattle.register_text_entries.proofs.table.put_item.Reads as put-item-reads
-use Rattle.tables.proofs.narrow.Reads as narrow-reads
 use Rattle.register_text_entries.proofs.composing.compose.Goals as goal
 
 -- src/composing.rt:203:5

@@ -1,19 +1,5 @@
 use native.Mathlib.Omega.{arith}
 use Rattle.register_text_entries.proofs.Copying.{copied_way, gap_size}
-use borrow.Author.Rules.{rules}
-use Rattle.register_text_entries.proofs.composing.copy_entry.Reads as reads
-use Rattle.register_text_entries.proofs.composing.copy_entry.Lts as lts
-use Rattle.names.proofs.putting.put_name.Reads as put-name-reads
-use Rattle.register_text_entries.proofs.composing.gap_size.Reads as gap-size-reads
-use Rattle.register_text_entries.proofs.composing.has_first.Reads as has-first-reads
-use Rattle.register_text_entries.proofs.composing.has_second.Reads as has-second-reads
-use Rattle.register_text_entries.proofs.composing.is_broken.Reads as is-broken-reads
-use Rattle.register_text_entries.proofs.composing.kept.Reads as kept-reads
-use Rattle.register_text_entries.proofs.composing.put_gap.Reads as put-gap-reads
-use Rattle.register_text_entries.proofs.composing.put_second.Reads as put-second-reads
-use Rattle.tables.proofs.narrow.Reads as narrow-reads
-use Rattle.tables.proofs.widen.Reads as widen-reads
-use Rattle.text.proofs.part.Reads as part-reads
 use Rattle.register_text_entries.proofs.composing.copy_entry.Goals as goal
 
 -- lost: -- src/composing.rt:186:19

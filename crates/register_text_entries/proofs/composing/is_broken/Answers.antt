@@ -1,9 +1,5 @@
 use Rattle.register_text_entries.proofs.Copying.{broken}
 use borrow.Author.Rules.{rules}
-use Rattle.register_text_entries.proofs.composing.is_broken.Reads as reads
-use Rattle.register_text_entries.proofs.composing.is_broken.Lts as lts
-use Rattle.text.proofs.all_in.Reads as all-in-reads
-use Rattle.values.proofs.is_value.Reads as is-value-reads
 use Rattle.register_text_entries.proofs.composing.is_broken.Goals as goal
 
 -- src/composing.rt:113:1

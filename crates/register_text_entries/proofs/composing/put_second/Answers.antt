@@ -1,10 +1,4 @@
 use Rattle.register_text_entries.proofs.Copying.{named_put, typed_put}
-use Rattle.register_text_entries.proofs.composing.put_second.Reads as reads
-use Rattle.register_text_entries.proofs.composing.put_second.Lts as lts
-use Rattle.buffer.proofs.put_bytes.Reads as put-bytes-reads
-use Rattle.names.proofs.putting.put_name.Reads as put-name-reads
-use Rattle.register_text_entries.proofs.composing.is_named.Reads as is-named-reads
-use Rattle.tables.proofs.widen.Reads as widen-reads
 use Rattle.register_text_entries.proofs.composing.put_second.Goals as goal
 
 -- src/composing.rt:127:1

@@ -1,5 +1,4 @@
 use Rattle.register_text_entries.proofs.Ways.{quotes}
-use borrow.Author.Rules.{rules}
 use Rattle.register_text_entries.proofs.forms.quoted_at.Goals as goal
 
 -- lost: slice-aggregate-after-word : tie.Need-slice-aggregate-after-word

@@ -1,5 +1,4 @@
 use Rattle.register_text_entries.proofs.Ways.{forms}
-use borrow.Author.Rules.{rules}
 use Rattle.register_text_entries.proofs.forms.val_form.Goals as goal
 
 -- lost: slice-aggregate-framed-at : tie.Need-slice-aggregate-framed-at

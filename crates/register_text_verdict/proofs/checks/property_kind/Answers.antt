@@ -1,5 +1,4 @@
 use Rattle.register_text_verdict.proofs.Ways.{kind_past, kind_none, kind_here, kind_later}
-use Prim.Native.Nat.{◌-◌}
 use mathlib.Core.Path.{refl}
 use Rattle.register_text_verdict.proofs.checks.property_kind.Goals as goal
 

@@ -1,6 +1,5 @@
 use native.Mathlib.Omega.{arith}
 use Rattle.register_text_verdict.proofs.Naming.{joined_fits, joined_is}
-use borrow.Author.Rules.{rules}
 use Rattle.register_text_verdict.proofs.declarations.joined.Goals as goal
 
 -- lost: slice-aggregate-is-closed : tie.Need-slice-aggregate-is-closed

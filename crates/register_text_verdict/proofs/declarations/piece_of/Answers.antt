@@ -1,5 +1,4 @@
 use Rattle.register_text_verdict.proofs.Naming.{piece}
-use borrow.Author.Rules.{rules}
 use Rattle.register_text_verdict.proofs.declarations.piece_of.Goals as goal
 
 -- lost: slice-aggregate-is-closed : tie.Need-slice-aggregate-is-closed

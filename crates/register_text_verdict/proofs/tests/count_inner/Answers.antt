@@ -1,6 +1,5 @@
 use Rattle.register_text_verdict.proofs.Loops.{count_start, count_fits, count_on, count_end, inner_row}
 use native.Mathlib.Omega.{arith}
-use Prim.Native.Nat.{◌-◌}
 use Rattle.register_text_verdict.proofs.tests.count_inner.Goals as goal
 
 pub loop-i-init : goal.loop-i-init

@@ -1,6 +1,5 @@
 use Rattle.register_text_verdict.proofs.Ways.{alike_rows}
 use Rattle.register_text_verdict.proofs.Loops.{any_start, any_more, any_end}
-use Prim.Native.Nat.{◌-◌}
 use Rattle.register_text_verdict.proofs.tests.like_before.Goals as goal
 
 pub loop-a-init : goal.loop-a-init

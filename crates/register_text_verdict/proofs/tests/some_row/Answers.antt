@@ -1,5 +1,4 @@
 use Rattle.register_text_verdict.proofs.Loops.{any_start, any_more, any_end}
-use Prim.Native.Nat.{◌-◌}
 use Rattle.register_text_verdict.proofs.tests.some_row.Goals as goal
 
 pub loop-i-init : goal.loop-i-init

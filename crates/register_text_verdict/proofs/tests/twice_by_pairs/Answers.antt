@@ -1,4 +1,3 @@
-use Prim.Native.Nat.{◌-◌}
 use Rattle.register_text_verdict.proofs.Loops.{twice_start, twice_more, twice_end}
 use Rattle.register_text_verdict.proofs.tests.twice_by_pairs.Goals as goal
 

@@ -1,4 +1,3 @@
-use Prim.Native.Nat.{◌-◌}
 use mathlib.Core.Path.{refl, sym, ◌∙◌}
 use Rattle.values.proofs.Laws.{word_unlike, word_other, word_step, word_end}
 use Rattle.values.proofs.booleans.is_word.Goals as goal

@@ -1,4 +1,3 @@
-use borrow.Author.Rules.{rules}
 use Rattle.values.proofs.Laws.{booleans}
 use Rattle.values.proofs.booleans.read_boolean.Goals as goal
 

@@ -1,4 +1,3 @@
-use Prim.Native.Nat.{◌-◌}
 use mathlib.Core.Path.{refl, ◌∙◌}
 use native.Mathlib.Omega.{arith}
 use Rattle.values.proofs.Decimal.{digits_unfit, digits_small, digits_fit, decimal_end, decimal_step, step_fits}

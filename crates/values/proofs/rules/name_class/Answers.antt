@@ -1,13 +1,5 @@
 use native.Mathlib.Omega.{arith}
 use Rattle.values.proofs.Ruling.{class_unfit, class_plain, class_paired, class_unpaired, class_value, class_neither}
-use borrow.Author.Rules.{rules}
-use Rattle.values.proofs.rules.name_class.Reads as reads
-use Rattle.values.proofs.rules.name_class.Lts as lts
-use Rattle.names.proofs.own_form.all_paired.Reads as all-paired-reads
-use Rattle.text.proofs.byte_at.Reads as byte-at-reads
-use Rattle.values.proofs.has_bare_ends.Reads as has-bare-ends-reads
-use Rattle.values.proofs.is_sized.Reads as is-sized-reads
-use Rattle.values.proofs.rules.ruled_out.Reads as ruled-out-reads
 use Rattle.values.proofs.rules.name_class.Goals as goal
 
 -- src/rules.rt:37:9

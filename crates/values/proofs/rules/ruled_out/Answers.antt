@@ -1,6 +1,4 @@
-use Prim.Native.Nat.{◌-◌}
 use native.Mathlib.Omega.{arith}
-use borrow.Author.Rules.{rules}
 use Rattle.values.proofs.Ruling.{ruled_none, ruled_more, ruled_all}
 use Rattle.values.proofs.rules.ruled_out.Goals as goal
 

@@ -1,6 +1,5 @@
 use Prim.Native.Nat.{◌≤◌, ◌-◌}
 use lib.ListN.{length}
-use borrow.Author.Rules.{rules}
 use Rattle.values.proofs.Ruling.{Ruling}
 use Rattle.values.proofs.rules.ruled_out.Given as goal
 
