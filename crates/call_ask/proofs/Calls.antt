@@ -7,13 +7,13 @@ use mathlib.Core.Option.{Option, some, none}
 use native.Mathlib.Omega.{arith}
 use borrow.Author.Tests.{lt-ltb, le-ltb, not-true, not-false}
 use lib.Dec.{ltb}
-use lib.ListN.{length, get_or, take, drop, replicate, length-replicate, length-map}
+use lib.ListN.{length, get_or, drop, replicate, length-replicate, length-map}
 use Rattle.text.specs.Bytes.{Bytes, part}
 use Rattle.text.specs.Table.{tabulate, count_to}
 use Rattle.text.proofs.Tables.{length_tabulate}
 use Rattle.pageset.specs.declared.PageSet.{PageSet}
 use Rattle.pageset.specs.Marks.{marks_from}
-use Rattle.language.specs.Answer.{Answer, refused, accepted, or_refuse, and_then, only_if}
+use Rattle.language.specs.Answer.{Answer, refused, accepted}
 use Rattle.language.specs.Core.{Core}
 use Rattle.language.specs.Register.{Register}
 use Rattle.language.specs.Semantics.{selects, run}
@@ -22,8 +22,8 @@ use Rattle.language.proofs.Members.{and_true}
 use Rattle.language.specs.Rules.{is_register}
 use Rattle.text.specs.Bytes.{same}
 use Rattle.register_form.specs.Dictionary.{decode_page, decode}
-use Rattle.register_form.specs.Form.{page_count, register_size, page_at, dictionary_in, register_in, form_of, is_form, held_register}
-use Rattle.register_form.specs.Opened.{Places, Opened}
+use Rattle.register_form.specs.Form.{page_count, register_size, page_at, dictionary_in, register_in, form_of, is_form}
+use Rattle.register_form.specs.Opened.{Opened}
 use Rattle.register_form.proofs.Rules.{within}
 use Rattle.register_form_test.specs.Opening.{Opens}
 use Rattle.register_form_test.proofs.Held.{held_none, held_some, held_form}

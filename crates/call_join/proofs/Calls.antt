@@ -1,6 +1,6 @@
 -- The ways through the join call.
-use Prim.Native.Nat.{ℕ, ◌<◌, ◌≤◌}
-use mathlib.Core.Path.{◌≡◌, refl, sym, ap, ap₂, ◌∙◌}
+use Prim.Native.Nat.{ℕ, ◌<◌}
+use mathlib.Core.Path.{◌≡◌, refl, sym, ap, ◌∙◌}
 use mathlib.Core.Bool.{Bool, true, false, not, cond}
 use mathlib.Core.List.{List}
 use mathlib.Core.Option.{some, none}
@@ -8,15 +8,15 @@ use native.Mathlib.Omega.{arith}
 use lib.ListN.{length, get_or, replicate, length-replicate}
 use Rattle.text.specs.Bytes.{Bytes, part}
 use Rattle.text.specs.Table.{tabulate}
-use Rattle.language.specs.Answer.{Answer, refused, Answered}
+use Rattle.language.specs.Answer.{refused, Answered}
 use Rattle.language.specs.Register.{Register}
 use Rattle.language.specs.Rules.{is_within_limits}
 use Rattle.language.specs.Joining.{join, kinds_clash}
 use Rattle.dictionary.specs.Items.{text_at}
 use Rattle.register_form.specs.Form.{stored, dictionary_in, register_in, is_form, held_register}
 use Rattle.register_form.specs.Formed.{Formed}
-use Rattle.register_form.specs.Draft.{drafted, write_into}
-use Rattle.register_form.specs.Tables.{Tables, tables_of, draft_in}
+use Rattle.register_form.specs.Draft.{write_into}
+use Rattle.register_form.specs.Tables.{tables_of}
 use Rattle.register_form.proofs.Forms.{part_bytes, form_formed}
 use Rattle.register_form_write.specs.Writer.{Capacity, OrderedWritten}
 use Rattle.register_join_merge.specs.Merged.{Merged}

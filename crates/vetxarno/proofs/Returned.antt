@@ -1,32 +1,27 @@
 -- What a call returns to C, by the number of its answer.
-use Prim.Native.Nat.{ℕ, zero, suc, ◌≤◌, ◌<◌, ◌^◌}
+use Prim.Native.Nat.{ℕ, zero, suc, ◌≤◌, ◌<◌}
 use mathlib.Core.Path.{◌≡◌, refl, sym, ap, ◌∙◌, subst}
-use mathlib.Core.Bool.{Bool, true, false, cond}
+use mathlib.Core.Bool.{Bool, true, false}
 use mathlib.Core.List.{List, [], ◌∷◌, map}
-use mathlib.Core.Option.{Option, some, none}
 use native.Mathlib.Omega.{arith}
-use lib.Dec.{ltb}
 use lib.ListN.{length, length-map}
 use lib.IntN.{ℤ, pos, neg_ℤ, ◌-ℤ◌, +ℤ_idl}
 use lib.Signed.{mag}
 use mir.Syntax.{w32}
-use mir.Val.{SFits, to_z, of_z, hbits}
+use mir.Val.{SFits, to_z, of_z}
 use mir.ValLaws.{to_z_pos, to_z-of_z}
 use Rattle.text.specs.Bytes.{Bytes}
-use Rattle.text.specs.Table.{bit}
 use Rattle.language.specs.Answer.{Answer, refused, accepted, number_of, Answered, Check}
-use Rattle.language.specs.Register.{Register}
-use Rattle.language.specs.Core.{Core}
-use Rattle.language.specs.Semantics.{selects, run}
+use Rattle.language.specs.Semantics.{selects}
 use Rattle.language.proofs.Rules.{register_rules}
 use Rattle.register_form.proofs.Forms.{held_is}
 use Rattle.register_form.proofs.Rules.{within}
 use Rattle.call_ask.specs.Call.{asked, Asks}
 use Rattle.call_ask.specs.declared.Asked.{Asked}
-use Rattle.call_answers.specs.Calls.{register_call, join_call, query_call, read_call, fit_call, ask_call, marked, marks_in, returned, RegisterCall, JoinCall, QueryCall, ReadCall, FitCall, AskCall}
+use Rattle.call_answers.specs.Calls.{register_call, join_call, query_call, read_call, fit_call, ask_call, marked, returned, RegisterCall, JoinCall, QueryCall, ReadCall, FitCall, AskCall}
 use Rattle.call_answers.specs.Demands.{lowest, rises, register_table, query_table, read_table, ask_table}
 use Rattle.call_answers.proofs.Tables.{refusal_of, register_refuses, register_rises, query_refuses, query_rises, read_refuses, read_rises, ask_refuses, ask_rises, lowest_between, join_few, fit_few}
-use Rattle.call_answers.proofs.First.{run_is, Ran, ran}
+use Rattle.call_answers.proofs.First.{run_is, ran}
 
 -- a small number as 32 bits with a sign
 module _ (n : ℕ) (h : n ≤ 256) where

@@ -1,4 +1,3 @@
-use Prim.Native.Nat.{◌-◌}
 use Rattle.call_query.proofs.Copies.{copying}
 use borrow.Author.Rules.{rules}
 use Rattle.call_query.proofs.copy.Goals as goal

@@ -6,6 +6,6 @@ use Rattle.vetxarno.proofs.Returned.{small_is}
 use Rattle.vetxarno.proofs.count_of.Goals as goal
 
 pub returns : goal.returns
-returns c h = 
-  let same : c.args.n % 257 ≡ c.args.n = omega (arith, h) in
-  small_is (c.args.n % 257) (omega arith) ∙ ap pos same
+returns c h =
+    let same : c.args.n % 257 ≡ c.args.n = omega (arith, h) in
+    small_is (c.args.n % 257) (omega arith) ∙ ap pos same

@@ -9,6 +9,6 @@ pub overflow_sub-result : goal.overflow_sub-result
 overflow_sub-result c = negated_fits (c.args.n % 257) (omega arith)
 
 pub returns : goal.returns
-returns c h = 
-  let same : c.args.n % 257 ≡ c.args.n = omega (arith, h) in
-  negated_is (c.args.n % 257) (omega arith) ∙ ap (λ m. neg_ℤ (pos m)) same
+returns c h =
+    let same : c.args.n % 257 ≡ c.args.n = omega (arith, h) in
+    negated_is (c.args.n % 257) (omega arith) ∙ ap (λ m. neg_ℤ (pos m)) same
