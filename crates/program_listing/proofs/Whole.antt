@@ -1,18 +1,16 @@
 -- No answer is longer than 34,314 bytes: 256 lines of 134 bytes behind a first one of 10.
 use Prim.Native.Nat.{ℕ, zero, suc, ◌+◌, ◌*◌, ◌/◌, ◌%◌, ◌≤◌, ◌<◌}
-use mathlib.Core.Path.{◌≡◌, refl, sym, ap, ap₂, ◌∙◌}
-use mathlib.Core.Bool.{Bool, true, false, cond, ◌&&◌, ◌||◌}
+use mathlib.Core.Path.{◌≡◌, refl, ap, ap₂, ◌∙◌}
+use mathlib.Core.Bool.{Bool, true, false, cond, ◌||◌}
 use mathlib.Core.List.{List, [], ◌∷◌, ◌++◌}
-use mathlib.Core.Option.{Option, some, none}
 use native.Mathlib.Omega.{arith}
-use borrow.Author.Tests.{leb-true, eqb-true}
-use lib.Dec.{ltb, leb, eqb}
+use borrow.Author.Tests.{eqb-true}
+use lib.Dec.{ltb, eqb}
 use lib.ListN.{length, get_or, take, drop, length-append}
 use lib.Seq.{take_at, sets-eq}
 use Rattle.text.specs.Bytes.{Bytes, bytes}
 use Rattle.names.specs.Names.{is_composed_name, is_composed_namespace}
-use Rattle.values.specs.Names.{Identifier}
-use Rattle.names.proofs.Composed.{Named, composed_named}
+use Rattle.names.proofs.Composed.{composed_named}
 use Rattle.language.specs.Answer.{Answer, refused, accepted, and_then}
 use Rattle.language.specs.Register.{Page, Register}
 use Rattle.language.specs.RegisterText.{empty_page, read_register}
@@ -21,14 +19,14 @@ use Rattle.language.specs.Semantics.{run}
 use Rattle.language.specs.Calls.{core_of}
 use Rattle.language.proofs.Members.{and_true, all_at}
 use Rattle.language.proofs.Accepted.{accepted_register}
-use Rattle.language.proofs.Rules.{Ruled, register_rules, page_rules}
+use Rattle.language.proofs.Rules.{register_rules, page_rules}
 use Rattle.register_form.specs.Opened.{page_in}
 use Rattle.register_form.proofs.Lists.{mem_at}
 use Rattle.register_form.proofs.Rules.{within}
 use Rattle.buffer.specs.Writing.{written}
 use Rattle.call_answers.specs.Calls.{marked}
 use Rattle.program_listing.specs.Listing.{decimal, name_line, line_of, lines_to, listing, outcome, asklist, Lists}
-use Rattle.program_listing.specs.Appends.{least, Appends}
+use Rattle.program_listing.specs.Appends.{Appends}
 
 decimal_most : (n : ℕ) → length (decimal n) ≤ 3
 unfolding decimal

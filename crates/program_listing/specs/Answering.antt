@@ -1,5 +1,5 @@
 -- Working definitions: what each step of the answer writes.
-use Rattle.std.specs.Prelude.{ℕ, ◌≤◌, ◌<◌, ◌≡◌, Bool, cond, List, [], ◌∷◌, ◌++◌, eqb, length, get_or}
+use Rattle.std.specs.Prelude.{ℕ, ◌≤◌, ◌<◌, ◌≡◌, Bool, cond, [], ◌∷◌, ◌++◌, eqb, length, get_or}
 use Rattle.std.proofs.Math.Option.{some}
 use Rattle.text.specs.Bytes.{Bytes, bytes}
 use Rattle.language.specs.Answer.{refused, accepted, and_then}

@@ -1,4 +1,3 @@
-use Prim.Native.Nat.{◌-◌}
 use borrow.Author.Rules.{rules}
 use Rattle.program_listing.proofs.Lines.{line-ways}
 use Rattle.program_listing.proofs.pagelist.put_lines.Goals as goal

@@ -1,5 +1,4 @@
 use Rattle.program_listing.proofs.Lines.{list_done}
-use borrow.Author.Rules.{rules}
 use Rattle.program_listing.proofs.pagelist.put_list.Goals as goal
 
 -- lost: slice-aggregate-put : tie.Need-slice-aggregate-put

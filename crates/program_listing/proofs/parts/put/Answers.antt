@@ -1,4 +1,3 @@
-use Prim.Native.Nat.{◌-◌}
 use borrow.Author.Rules.{rules}
 use Rattle.program_listing.proofs.Appending.{append-ways}
 use Rattle.program_listing.proofs.parts.put.Goals as goal
