@@ -30,8 +30,8 @@
  * - The buffers of one call must not overlap. A buffer of length 0 still needs a pointer that is not null.
  * - No state is kept and no memory is allocated. Calls from several threads are fine as long as they share no buffer
  *   that one of them writes.
- * - Stack: vetxarno_register needs up to 0.5 MB, vetxarno_join, vetxarno_query and vetxarno_read 0.4 MB, vetxarno_fit 0.25 MB,
- *   vetxarno_ask 0.15 MB, for 256 nodes nested in one another (docs/BENCHMARKS.md). */
+ * - Stack: vetxarno_register needs up to 0.5 MB, vetxarno_query and vetxarno_read 0.45 MB, vetxarno_join 0.4 MB, vetxarno_fit
+ *   0.25 MB, vetxarno_ask 0.15 MB, for 256 nodes nested in one another (docs/BENCHMARKS.md). */
 #ifndef VETXARNO_H
 #define VETXARNO_H
 
