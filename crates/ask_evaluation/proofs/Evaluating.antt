@@ -1,9 +1,9 @@
 -- The ways through `eval` and `eval_selector`.
+use Rattle.std.specs.Prelude.{Option, Some, None}
 use Prim.Native.Nat.{ℕ, zero, suc, ◌-◌, ◌≤◌, ◌<◌}
 use mathlib.Core.Path.{◌≡◌, refl, sym, ap, ◌∙◌}
 use mathlib.Core.Bool.{Bool, true, false, ◌&&◌, ◌||◌, true≢false, false≢true}
 use mathlib.Core.List.{List, [], ◌∷◌}
-use mathlib.Core.Option.{Option, some, none}
 use native.Mathlib.Omega.{arith}
 use borrow.Author.Tests.{lt-ltb}
 use lib.Dec.{ltb}
@@ -39,9 +39,9 @@ use Rattle.ask_evaluation.specs.declared.Evaluated.{Evaluated}
 
 -- The node m joins the last two queries on the stack by k, which means op.
 record Joins (R : Register) (m : Node) (k : Core → Core → Core) (op : Bool → Bool → Bool) : Type 0 where
-  empty : stepped m [] ≡ none
-  single : (b : Core) → stepped m (b ∷ []) ≡ none
-  pair : (b a : Core) (st : List Core) → stepped m (b ∷ a ∷ st) ≡ some (k a b ∷ st)
+  empty : stepped m [] ≡ None
+  single : (b : Core) → stepped m (b ∷ []) ≡ None
+  pair : (b a : Core) (st : List Core) → stepped m (b ∷ a ∷ st) ≡ Some (k a b ∷ st)
   no_page_lem : op false false ≡ false
   means : (a b : Core) (p : Page) → Q (k a b) no_mixed R p ≡ op (Q a no_mixed R p) (Q b no_mixed R p)
 
@@ -52,23 +52,23 @@ module _ (R : Register) (q : Bytes) where
   marks_agree c marks few e j l = rw (e, get_d_tabulate 256 (λ i. ltb i (pages_of R) && Q c no_mixed R (page_in R i)) false j (omega arith), lt-ltb j (pages_of R) l)
 
   -- a selector that takes nothing from the stack
-  means_leaf : (at : ℕ) (m : Node) (k : Core.Selector) (r : Evaluated) → ((st : List Core) → stepped m st ≡ some (Core.select k ∷ st))
+  means_leaf : (at : ℕ) (m : Node) (k : Core.Selector) (r : Evaluated) → ((st : List Core) → stepped m st ≡ Some (Core.select k ∷ st))
       → marks_from r.set.words ≡ tabulate 256 (λ j. ltb j (pages_of R) && S k no_mixed R (page_in R j)) → r.next ≡ at → Means R (pages_of R) q (suc at) (stack_at q at >>= stepped m) r
   unfolding Means marks_of Q
   means_leaf at m k r f e g = go (stack_at q at) refl
     where
       go : (o : Option (List Core)) → stack_at q at ≡ o → Means R (pages_of R) q (suc at) (o >>= stepped m) r
-      go none p = tt
-      go (some st) p = rw (f st) (e, rw g p, omega arith)
+      go None p = tt
+      go (Some st) p = rw (f st) (e, rw g p, omega arith)
 
   -- a subquery, by what its query means
   means_within : (at : ℕ) (x : Bytes) (o : Option (List Core)) (inner r : Evaluated) → pages_of R ≤ 256 → Means R (pages_of R) q at o inner
       → ((test : Page → Bool) → Agrees R (marks_from inner.set.words) test → marks_from r.set.words ≡ tabulate 256 (λ j. ltb j (pages_of R) && holds x (follows no_mixed R test) (page_in R j)))
       → r.next ≡ inner.next → Means R (pages_of R) q (suc at) (o >>= stepped (Node.subquery x)) r
   unfolding Means marks_of Q stepped
-  means_within at x none inner r few i f g = tt
-  means_within at x (some []) inner r few i f g = tt
-  means_within at x (some (c ∷ st)) inner r few i f g =
+  means_within at x None inner r few i f g = tt
+  means_within at x (Some []) inner r few i f g = tt
+  means_within at x (Some (c ∷ st)) inner r few i f g =
       (f (λ p. Q c no_mixed R p) (marks_agree c (marks_from inner.set.words) few i.0), rw g i.1, omega (arith, i.2))
 
   -- a node that joins two queries by k, which means op
@@ -85,19 +85,19 @@ module _ (R : Register) (q : Bytes) where
 
     means_cut : (at last : ℕ) (o : Option (List Core)) (right r : Evaluated) → Means R (pages_of R) q last o right → last ≤ right.next → Means R (pages_of R) q at (o >>= stepped m) r
     unfolding Means
-    means_cut at last none right r i l = tt
-    means_cut at last (some []) right r i l = rw j.empty tt
-    means_cut at last (some (b ∷ [])) right r i l = rw (j.single b) tt
-    means_cut at last (some (b ∷ a ∷ st)) right r i l = absurd (omega (arith, i.2))
+    means_cut at last None right r i l = tt
+    means_cut at last (Some []) right r i l = rw j.empty tt
+    means_cut at last (Some (b ∷ [])) right r i l = rw (j.single b) tt
+    means_cut at last (Some (b ∷ a ∷ st)) right r i l = absurd (omega (arith, i.2))
 
     means_both : (at last : ℕ) (o : Option (List Core)) (right left r : Evaluated) → last < at → Means R (pages_of R) q last o right → Means R (pages_of R) q right.next (stack_at q right.next) left
         → marks_from r.set.words ≡ tabulate 256 (λ i. op (get_or (marks_from left.set.words) i false) (get_or (marks_from right.set.words) i false)) → r.next ≡ left.next → Means R (pages_of R) q at (o >>= stepped m) r
     unfolding Means
-    means_both at last none right left r l i w e g = tt
-    means_both at last (some []) right left r l i w e g = rw j.empty tt
-    means_both at last (some (b ∷ [])) right left r l i w e g = rw (j.single b) tt
-    means_both at last (some (b ∷ a ∷ st)) right left r l i w e g =
-        let z : Means R (pages_of R) q right.next (some (a ∷ st)) left = rw i.1 at w in
+    means_both at last None right left r l i w e g = tt
+    means_both at last (Some []) right left r l i w e g = rw j.empty tt
+    means_both at last (Some (b ∷ [])) right left r l i w e g = rw (j.single b) tt
+    means_both at last (Some (b ∷ a ∷ st)) right left r l i w e g =
+        let z : Means R (pages_of R) q right.next (Some (a ∷ st)) left = rw i.1 at w in
         rw (j.pair b a st) (e ∙ marks_both a b (marks_from left.set.words) (marks_from right.set.words) z.0 i.0, rw g z.1, omega (arith, i.2, z.2))
 
 and_joins : (R : Register) → Joins R Node.conjunction Core.conjunction ◌&&◌
@@ -131,7 +131,7 @@ module _ (h : Bytes) (places : List ℕ) (q : Bytes) where
     eval_leaf inner set e f g R o =
         go selector (sym is ∙ e) (g R o (λ p. false) (no_pages R (marks_from inner.words) f))
       where
-        leaf : (m : Node) (k : Core.Selector) → ((st : List Core) → stepped m st ≡ some (Core.select k ∷ st))
+        leaf : (m : Node) (k : Core.Selector) → ((st : List Core) → stepped m st ≡ Some (Core.select k ∷ st))
             → marks_from set.words ≡ tabulate 256 (λ j. ltb j (pages_of R) && S k no_mixed R (page_in R j)) → Means R (pages_of R) q (suc at) (stack_at q at >>= stepped m) (record { set = set; next = at })
         leaf m k p z = means_leaf R q at m k (record { set = set; next = at }) p z refl
 
@@ -178,9 +178,9 @@ module _ (h : Bytes) (places : List ℕ) (q : Bytes) where
     unfolding Evaluates Means
     eval_unread r f R o = rw (← back, stack_suc q (at - 1), u.is, f) (go (stack_at q (at - 1)))
       where
-        go : (o : Option (List Core)) → Means R (pages_of R) q (suc (at - 1)) (o >>= λ st. none) r
-        go none = tt
-        go (some st) = tt
+        go : (o : Option (List Core)) → Means R (pages_of R) q (suc (at - 1)) (o >>= λ st. None) r
+        go None = tt
+        go (Some st) = tt
 
     -- a selector, or two queries
     module _ (node : DeclaredNode) (f : read ≡ NodeRead.Is node) (b : Bool) (is : b ≡ is_selection node.connective) where

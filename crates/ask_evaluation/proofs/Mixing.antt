@@ -1,9 +1,9 @@
 -- Mismatches: what a node expects, and that the nodes of a query mix kinds where the query does.
+use Rattle.std.specs.Prelude.{Option, Some, None}
 use Prim.Native.Nat.{ℕ, zero, suc, ◌+◌, ◌≤◌}
 use mathlib.Core.Path.{◌≡◌, refl, sym, ap₂, ◌∙◌}
 use mathlib.Core.Bool.{Bool, true, false, not, ◌||◌, or-true, or-false, or_comm, true≢false}
 use mathlib.Core.List.{List, [], ◌∷◌}
-use mathlib.Core.Option.{Option, some, none}
 use native.Mathlib.Numerals.{add-one}
 use native.Mathlib.Omega.{arith}
 use borrow.Author.Tests.{not-true}
@@ -87,13 +87,13 @@ module _ (R : Register) where
   both_sides false false true = refl
   both_sides false false false = refl
 
-  leaf_mixes : (k : Selectors.Selector) (st after : List Core) (x : Bool) → some (Core.select k ∷ st) ≡ some after → mismatch_in k R ≡ x → mixed after ≡ (mixed st || x)
+  leaf_mixes : (k : Selectors.Selector) (st after : List Core) (x : Bool) → Some (Core.select k ∷ st) ≡ Some after → mismatch_in k R ≡ x → mixed after ≡ (mixed st || x)
   unfolding any mismatch
   leaf_mixes k st after x e f =
       let w : Core.select k ∷ st ≡ after = cc in
       rw (← w, f) (or_comm x (mixed st))
 
-  step_mixes : (m : Node) (st after : List Core) → stepped m st ≡ some after → mixed after ≡ (mixed st || mixes R m)
+  step_mixes : (m : Node) (st after : List Core) → stepped m st ≡ Some after → mixed after ≡ (mixed st || mixes R m)
   unfolding stepped any mismatch
   step_mixes Node.conjunction [] after e = cc
   step_mixes Node.conjunction (b ∷ []) after e = cc
@@ -116,18 +116,18 @@ module _ (R : Register) where
   step_mixes (Node.value x c v) st after e = leaf_mixes (Selectors.Selector.value x c v) st after (some_other R x (kind_of_constant v)) e refl
   step_mixes (Node.link x c r) st after e = leaf_mixes (Selectors.Selector.link x c r) st after (some_other R x Kind.Page) e refl
 
-  stack_mixes : (h : Bytes) (i : ℕ) (st : List Core) → stack_at h i ≡ some st → any_to i (mixes_in R h) ≡ mixed st
+  stack_mixes : (h : Bytes) (i : ℕ) (st : List Core) → stack_at h i ≡ Some st → any_to i (mixes_in R h) ≡ mixed st
   unfolding any_to any mixes_in
   stack_mixes h zero st e =
       let w : [] ≡ st = cc (stack_zero h) in
       rw (← w)
   stack_mixes h (suc i) st e = go (stack_at h i) (node_in h i) (λ k f. stack_mixes h i k f) (sym (stack_suc h i) ∙ e)
     where
-      go : (o : Option (List Core)) (n : Option Node) → ((k : List Core) → o ≡ some k → any_to i (mixes_in R h) ≡ mixed k)
-          → (o >>= λ st. n >>= λ m. stepped m st) ≡ some st → (any_to i (mixes_in R h) || found n (mixes R) false) ≡ mixed st
-      go none n f g = cc
-      go (some k) none f g = cc
-      go (some k) (some m) f g = rw (f k refl) (sym (step_mixes m k st g))
+      go : (o : Option (List Core)) (n : Option Node) → ((k : List Core) → o ≡ Some k → any_to i (mixes_in R h) ≡ mixed k)
+          → (o >>= λ st. n >>= λ m. stepped m st) ≡ Some st → (any_to i (mixes_in R h) || found n (mixes R) false) ≡ mixed st
+      go None n f g = cc
+      go (Some k) None f g = cc
+      go (Some k) (Some m) f g = rw (f k refl) (sym (step_mixes m k st g))
 
 -- a node that expects no kind mixes none
 mixes_quiet : (R : Register) (m : Node) → expects_kind m ≡ false → mixes R m ≡ false
@@ -147,9 +147,9 @@ module _ (h q : Bytes) where
   unfolding Mixes mixes_in TestsNode
   mixes_plain i b f e places R o = go (node_in q i) f
     where
-      go : (o : Option Node) → ((m : Node) → o ≡ some m → b ≡ expects_kind m) → false ≡ found o (mixes R) false
-      go none f = refl
-      go (some m) f = sym (mixes_quiet R m (sym (f m refl) ∙ not-true b e))
+      go : (o : Option Node) → ((m : Node) → o ≡ Some m → b ≡ expects_kind m) → false ≡ found o (mixes R) false
+      go None f = refl
+      go (Some m) f = sym (mixes_quiet R m (sym (f m refl) ∙ not-true b e))
 
   module _ (i : ℕ) (read : NodeRead) (u : ReadsNode (heap_in q) (node_in q i) read) where
     pub mixes_unread : read ≡ NodeRead.Nothing → Mixes h q i false

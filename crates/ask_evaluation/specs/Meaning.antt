@@ -1,6 +1,5 @@
 -- Working definitions: what evaluating the nodes of a held query answers.
-use Rattle.std.specs.Prelude.{ℕ, ◌≤◌, ◌<◌, ◌≡◌, Bool, true, false, ◌&&◌, ◌||◌, List, [], ◌∷◌, ltb, length, get_or}
-use Rattle.std.proofs.Math.Option.{Option, some, none}
+use Rattle.std.specs.Prelude.{ℕ, ◌≤◌, ◌<◌, ◌≡◌, Bool, true, false, ◌&&◌, ◌||◌, List, [], ◌∷◌, ltb, length, get_or, Option, Some, None}
 use Rattle.text.specs.Bytes.{Bytes, same, any}
 use Rattle.text.specs.Parts.{part_of}
 use Rattle.text.specs.Table.{tabulate}
@@ -82,9 +81,9 @@ marks_of R n c = tabulate 256 (λ i. ltb i n && selects c R (page_in R i))
 
 -- The last query on the stack, where there is one, means the set; the stack without it is the one in the place next, before at.
 unfoldable pub Means : Register → ℕ → Bytes → ℕ → Option (List Core) → Evaluated → Type 0
-Means R n q at none r = Unit {0}
-Means R n q at (some []) r = Unit {0}
-Means R n q at (some (c ∷ st)) r = (marks_from r.set.words ≡ marks_of R n c) × (stack_at q r.next ≡ some st) × (r.next < at)
+Means R n q at None r = Unit {0}
+Means R n q at (Some []) r = Unit {0}
+Means R n q at (Some (c ∷ st)) r = (marks_from r.set.words ≡ marks_of R n c) × (stack_at q r.next ≡ Some st) × (r.next < at)
 
 unfoldable pub Evaluates : Bytes → List ℕ → Bytes → ℕ → Option (List Core) → Evaluated → Type 0
 Evaluates h places q at o r = (R : Register) → Opened h places R → Means R (length R.pages) q at o r

@@ -7,7 +7,6 @@ use crate::{Expected, query_heap};
 use buffer::two_at;
 use query_core::{Connective, Constant, Node, NodeRead, Selector, expects_kind_at, node_at};
 use register_form_view::other_kind;
-use tables::widen;
 use text::part;
 use values::Kind;
 
@@ -57,7 +56,7 @@ fn mixes_at(q: &[u8], i: usize, h: &[u8]) -> bool
 pub fn has_mismatch(q: &[u8], h: &[u8]) -> bool
     ensures { Mismatches h.now q.now result }
 {
-    let n = widen(two_at(q, 0));
+    let n = usize::from(two_at(q, 0));
     let mut some = false;
     let mut i: usize = 0;
     while i < n {

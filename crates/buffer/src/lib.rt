@@ -6,20 +6,20 @@ ghost use Rattle.buffer.specs.Numbers.{two_bytes, eight_bytes, two_at, eight_at,
 ghost use Rattle.buffer.specs.Tests.{zeros_at, zeros_to};
 ghost use Rattle.buffer.specs.Writing.{written};
 
-use tables::{long, wide};
-use text::{byte_at, part};
+use tables::get_or;
+use text::part;
 
 // The number in two bytes, the low byte first, and in eight.
 pub fn two_at(h: &[u8], i: usize) -> u16
     ensures { result ≡ two_at h.now i }
 {
     if h.len() < 2 {
-        return wide(byte_at(h, i));
+        return u16::from(get_or(h, i, 0));
     }
     if h.len() - 2 < i {
-        return wide(byte_at(h, i));
+        return u16::from(get_or(h, i, 0));
     }
-    wide(h[i]) + 256 * wide(h[i + 1])
+    u16::from(h[i]) + 256 * u16::from(h[i + 1])
 }
 
 pub fn eight_at(h: &[u8], i: usize) -> u64
@@ -28,10 +28,10 @@ pub fn eight_at(h: &[u8], i: usize) -> u64
     if h.len() <= i {
         return 0;
     }
-    let a = long(two_at(h, i));
-    let b = long(two_at(h, i + 2));
-    let c = long(two_at(h, i + 4));
-    let d = long(two_at(h, i + 6));
+    let a = u64::from(two_at(h, i));
+    let b = u64::from(two_at(h, i + 2));
+    let c = u64::from(two_at(h, i + 4));
+    let d = u64::from(two_at(h, i + 6));
     a + 65536 * (b + 65536 * (c + 65536 * d))
 }
 

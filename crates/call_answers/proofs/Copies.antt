@@ -1,10 +1,10 @@
 -- "A held input is its first bytes of that size, and a shorter one is a form of nothing"; "Docs/ must make 255 in every byte a form of
 -- nothing". Of held registers both are in register_form; here of held queries.
+use Rattle.std.specs.Prelude.{Some}
 use Prim.Native.Nat.{ℕ, zero, suc, ◌+◌, ◌*◌, ◌≤◌, ◌<◌}
 use mathlib.Core.Path.{◌≡◌, refl, sym, ap, ap₂, ◌∙◌}
 use mathlib.Core.Bool.{Bool, true, false, ◌&&◌}
 use mathlib.Core.List.{◌++◌}
-use mathlib.Core.Option.{some}
 use native.Mathlib.Omega.{arith}
 use borrow.Author.Tests.{leb-true, le-leb}
 use lib.Dec.{leb}
@@ -54,7 +54,7 @@ module _ (h z : Bytes) (long : query_size ≤ length h) where
           ap (λ o. o >>= read_back) (ap (nodes_to (h ++ z)) (two_before 0 (omega arith)) ∙ nodes_before (count_in h) few)
 
 -- 255 everywhere is no query.
-pub query_255 : (n : ℕ) (q : Core) → held_query (replicate n 255) ≡ some q → ⊥
+pub query_255 : (n : ℕ) (q : Core) → held_query (replicate n 255) ≡ Some q → ⊥
 unfolding two_at
 query_255 n q e = omega (arith, held.few, count)
   where

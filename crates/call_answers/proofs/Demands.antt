@@ -1,11 +1,11 @@
 -- The second and the third demand, from the calls' contracts, and that reading then fitting is the query call. Registers and queries
 -- are held in any buffers, however they were made.
+use Rattle.std.specs.Prelude.{Option, Some, None}
 use Prim.Native.Nat.{ℕ, ◌≤◌, ◌<◌}
 use mathlib.Core.Path.{◌≡◌, refl, ap, ◌∙◌}
 use mathlib.Core.Bool.{Bool, true, false, cond, false≢true}
 use mathlib.Core.List.{List, [], ◌++◌, map}
 use mathlib.Core.Logic.{◌↔◌}
-use mathlib.Core.Option.{Option, some, none}
 use native.Mathlib.Omega.{arith}
 use borrow.Author.Tests.{le-ltb}
 use lib.Dec.{ltb}
@@ -45,21 +45,21 @@ use Rattle.call_answers.proofs.Tables.{ask_refuses, ask_rises}
 use Rattle.call_answers.proofs.First.{run_is, ran, query_stores, join_stores, taken, by_table, marks_bytes}
 
 -- an ask of a held query on a held register
-pub asked_is : (q h b : Bytes) (c : Core) (W : Register) → held_query q ≡ some c → held_register h ≡ some W
+pub asked_is : (q h b : Bytes) (c : Core) (W : Register) → held_query q ≡ Some c → held_register h ≡ Some W
     → ask_call q h b ≡ and_then (run c W) (λ m. cond (ltb (length b) (length W.pages)) (refused 24) (accepted m))
 unfolding ask_call
 asked_is q h b c W e p = rw (e, p)
 
 -- an accepted query text has a surface query, which is elaborated
-core_is : (s : Bytes) (R : Register) (c : Core) → core_of R s ≡ accepted c → (q : Query) × (accepted_of (read_text s) ≡ some q) × (elaborate q (kinds_of R) ≡ some c)
+core_is : (s : Bytes) (R : Register) (c : Core) → core_of R s ≡ accepted c → (q : Query) × (accepted_of (read_text s) ≡ Some q) × (elaborate q (kinds_of R) ≡ Some c)
 unfolding core_of
 core_is s R c e = go (read_text s) e
   where
-    go : (a : Answer Query) → and_then a (fit (kinds_of R)) ≡ accepted c → (q : Query) × (accepted_of a ≡ some q) × (elaborate q (kinds_of R) ≡ some c)
+    go : (a : Answer Query) → and_then a (fit (kinds_of R)) ≡ accepted c → (q : Query) × (accepted_of a ≡ Some q) × (elaborate q (kinds_of R) ≡ Some c)
     go (refused n) e = absurd (let y : ◌≡◌ {A = ℕ} 0 1 = cc in omega arith)
     go (accepted q) e = (q, refl, fitted_is (kinds_of R) q c e)
 
-one_held : {A : Type 0} (o : Option A) (a b : A) → o ≡ some a → o ≡ some b → a ≡ b
+one_held : {A : Type 0} (o : Option A) (a b : A) → o ≡ Some a → o ≡ Some b → a ≡ b
 one_held o a b e p = cc
 
 module _ (g : Page → Bool) (l : List Page) where
@@ -81,7 +81,7 @@ mark_is false fact e =
 
 -- The second demand: a query that was stored for the register R, held in q as well, and asked of the register W.
 pub second : (h k s b stored q m after : Bytes) (n : ℕ) (R W : Register)
-    → held_register h ≡ some R → held_register k ≡ some W → QueryCall h s b stored (pos 0) → held_query q ≡ held_query stored → AskCall q k m after (pos n)
+    → held_register h ≡ Some R → held_register k ≡ Some W → QueryCall h s b stored (pos 0) → held_query q ≡ held_query stored → AskCall q k m after (pos n)
     → SecondDemand s R W m after (pos n)
 second h k s b stored q m after n R W e p fits same asks =
     let c = query_stores h s b stored fits in
@@ -128,7 +128,7 @@ module _ (g : Page → Bool) (l : List Page) (b after : Bytes) (long : length l 
 -- register of the run, W. "each property it names has the same kind in both, or isn't declared in the second, and the answer
 -- buffer has a byte for every page"
 pub third : (s h k stored store q b after : Bytes) (r : ℤ) (R W : Register)
-    → held_register h ≡ some R → held_register k ≡ some W → QueryCall h s store stored (pos 0) → held_query q ≡ held_query stored
+    → held_register h ≡ Some R → held_register k ≡ Some W → QueryCall h s store stored (pos 0) → held_query q ≡ held_query stored
     → text_agrees (kinds_of R) W s ≡ true → length W.pages ≤ length b
     → AskCall q k b after r → ThirdDemand q s W b after r
 third s h k stored store q b after r R W e p fits same agrees long asks =
@@ -138,7 +138,7 @@ third s h k stored store q b after r R W e p fits same agrees long asks =
     let kinds = (register_rules W (held_is k W p).0).kinds in
     let runs : run c.core W ≡ accepted (direct_marks s W) = text_agreement s R c.core W core kinds agrees in
     let room : ltb (length b) (length W.pages) ≡ false = le-ltb (length b) (length W.pages) long in
-    let held : held_query q ≡ some c.core = same ∙ c.left.held in
+    let held : held_query q ≡ Some c.core = same ∙ c.left.held in
     let is : ask_call q k b ≡ accepted (direct_marks s W) = asked_is q k b c.core W held p ∙ rw (runs, room) in
     let left : after ≡ map bit (direct_marks s W) ++ drop (length (direct_marks s W)) b = asks.buffer ∙ ap (marks_in b) is in
     let unmixed = (run_is c.core W (direct_marks s W) runs).0 in
@@ -164,14 +164,14 @@ own_text R s = go (read_text s)
 
 -- The third demand on the register that the text was fitted to: nothing is asked of its kinds.
 pub third_own : (s h stored store q b after : Bytes) (r : ℤ) (R : Register)
-    → held_register h ≡ some R → QueryCall h s store stored (pos 0) → held_query q ≡ held_query stored
+    → held_register h ≡ Some R → QueryCall h s store stored (pos 0) → held_query q ≡ held_query stored
     → length R.pages ≤ length b → AskCall q h b after r → ThirdDemand q s R b after r
 third_own s h stored store q b after r R e fits same long asks =
     third s h h stored store q b after r R R e e fits same (own_text R s) long asks
 
 -- "Marked pages of a query are those of the joined pages": the third demand with a join as the register of the run.
 pub third_joined : (s h k l room j stored store q b after : Bytes) (r : ℤ) (R S T : Register)
-    → held_register h ≡ some R → held_register k ≡ some S → held_register l ≡ some T → JoinCall k l room j (pos 0)
+    → held_register h ≡ Some R → held_register k ≡ Some S → held_register l ≡ Some T → JoinCall k l room j (pos 0)
     → QueryCall h s store stored (pos 0) → held_query q ≡ held_query stored
     → text_agrees (kinds_of R) (join S T) s ≡ true → length (join S T).pages ≤ length b
     → AskCall q j b after r → ThirdDemand q s (join S T) b after r
@@ -179,7 +179,7 @@ third_joined s h k l room j stored store q b after r R S T e f g makes fits same
     let m = join_stores k l room j makes in
     let one : m.first ≡ S = one_held (held_register k) m.first S m.holds_first f in
     let two : m.second ≡ T = one_held (held_register l) m.second T m.holds_second g in
-    let held : held_register j ≡ some (join S T) = m.left.held ∙ ap some (ap (λ x. join x m.second) one ∙ ap (join S) two) in
+    let held : held_register j ≡ Some (join S T) = m.left.held ∙ ap Some (ap (λ x. join x m.second) one ∙ ap (join S) two) in
     third s h j stored store q b after r R (join S T) e held fits same agrees long asks
 
 -- Reading then fitting is the old call.
@@ -190,13 +190,13 @@ read_then_fit h s u b long = record { is = go (held_register h) refl }
     stored : Core → Answer Bytes
     stored c = written_in 20 query_size (query_of c) b
 
-    read : (R : Register) (o : Option Register) → held_register h ≡ o → o ≡ some R → (a : Answer Query) → read_text s ≡ a → and_then (and_then a (fit (kinds_of R))) stored ≡ and_then (and_then a (λ q. written_in 33 tree_size (tree_of q) u)) (λ t. fit_call t h b)
+    read : (R : Register) (o : Option Register) → held_register h ≡ o → o ≡ Some R → (a : Answer Query) → read_text s ≡ a → and_then (and_then a (fit (kinds_of R))) stored ≡ and_then (and_then a (λ q. written_in 33 tree_size (tree_of q) u)) (λ t. fit_call t h b)
     read R o e f (refused n) g = refl
     read R o e f (accepted q) g =
         let room : ltb (length u) tree_size ≡ false = le-ltb (length u) tree_size long in
-        let tree : held_tree (tree_of q ++ drop tree_size u) ≡ some q = tree-held q (drop tree_size u) (accepted_has_text s q g) in
+        let tree : held_tree (tree_of q ++ drop tree_size u) ≡ Some q = tree-held q (drop tree_size u) (accepted_has_text s q g) in
         rw (room, e ∙ f, tree)
 
     go : (o : Option Register) → held_register h ≡ o → and_then (or_refuse 11 o) (λ R. and_then (core_of R s) stored) ≡ and_then (or_refuse 11 o) (λ R. and_then (read_call s u) (λ t. fit_call t h b))
-    go none e = refl
-    go (some R) e = read R (some R) e refl (read_text s) refl
+    go None e = refl
+    go (Some R) e = read R (Some R) e refl (read_text s) refl

@@ -1,9 +1,9 @@
 -- The first demand of the calls, from their contracts: what is refused, and what is left.
+use Rattle.std.specs.Prelude.{Option, Some, None}
 use Prim.Native.Nat.{ℕ, zero, suc, ◌<◌}
 use mathlib.Core.Path.{◌≡◌, refl, sym, ap, ◌∙◌, subst}
 use mathlib.Core.Bool.{Bool, true, false, cond, not}
 use mathlib.Core.List.{List, ◌++◌, map}
-use mathlib.Core.Option.{Option, some, none}
 use native.Mathlib.Omega.{arith}
 use lib.Dec.{ltb}
 use lib.IntN.{ℤ, pos, pos-ne-negsuc}
@@ -82,9 +82,9 @@ then_accepted : {A B : Type 0} (a : Answer A) (f : A → Answer B) (x : B) → a
 then_accepted (refused n) f x e = absurd (let y : ◌≡◌ {A = ℕ} 0 1 = cc in omega arith)
 then_accepted (accepted y) f x e = (y, refl, e)
 
-or_accepted : {A : Type 0} (n : ℕ) (o : Option A) (x : A) → or_refuse n o ≡ accepted x → o ≡ some x
-or_accepted n none x e = absurd (let y : ◌≡◌ {A = ℕ} 0 1 = cc in omega arith)
-or_accepted n (some y) x e = let i : y ≡ x = cc in ap some i
+or_accepted : {A : Type 0} (n : ℕ) (o : Option A) (x : A) → or_refuse n o ≡ accepted x → o ≡ Some x
+or_accepted n None x e = absurd (let y : ◌≡◌ {A = ℕ} 0 1 = cc in omega arith)
+or_accepted n (Some y) x e = let i : y ≡ x = cc in ap Some i
 
 register_left : (t b after x : Bytes) → register_call t b ≡ accepted x → after ≡ x → LeftRegister t b 0 after
 unfolding register_call
@@ -179,8 +179,8 @@ run_is c W m e = go (mismatch c W) e
 pub record Ran (q h : Bytes) (m : List Bool) : Type 0 where
   pub core : Core
   pub register : Register
-  pub asks : held_query q ≡ some core
-  pub holds : held_register h ≡ some register
+  pub asks : held_query q ≡ Some core
+  pub holds : held_register h ≡ Some register
   pub runs : run core register ≡ accepted m
 
 pub ran : (q h b : Bytes) (m : List Bool) → ask_call q h b ≡ accepted m → Ran q h m

@@ -1,10 +1,10 @@
 -- Each call refuses by the first of its table whose condition holds; of the three calls of document 01 the tables are in the order of
 -- their numbers.
+use Rattle.std.specs.Prelude.{Option, Some, None}
 use Prim.Native.Nat.{ℕ, ◌≤◌, ◌<◌}
 use mathlib.Core.Path.{◌≡◌, refl, sym, ap, ◌∙◌}
 use mathlib.Core.Bool.{Bool, true, false, cond, not}
 use mathlib.Core.List.{List, [], ◌∷◌, ◌++◌, map}
-use mathlib.Core.Option.{Option, some, none}
 use native.Mathlib.Omega.{arith}
 use borrow.Author.Tests.{ltb-true}
 use lib.Dec.{ltb}
@@ -33,8 +33,8 @@ use Rattle.call_answers.specs.Calls.{register_call, joined, join_call, written_i
 use Rattle.call_answers.specs.Demands.{lacks, lowest, rises, register_table, join_table, fit_table, query_table, read_table, fit_call_table, ask_table}
 
 abbrev pub refusal_of : {A : Type 0} → Answer A → Option ℕ
-refusal_of (refused n) = some n
-refusal_of (accepted a) = none
+refusal_of (refused n) = Some n
+refusal_of (accepted a) = None
 
 -- one check
 last : {B : Type 0} (n : ℕ) (b : Bool) (c : B) → refusal_of (cond b (refused n) (accepted c)) ≡ lowest (n if b ∷ [])
@@ -57,12 +57,12 @@ module _ {A B C : Type 0} where
       → refusal_of (and_then (cond b (refused n) (found o (λ c. judge (checks c) (made c)) (refused m))) f) ≡ lowest (n if b ∷ m if lacks o ∷ (found o checks [] ++ (found (accepted_of (cond b (refused n) (found o (λ c. judge (checks c) (made c)) (refused m)))) F [] ++ k)))
   unfolding lowest
   read_then n m true o checks made F k f e = refl
-  read_then n m false none checks made F k f e = refl
-  read_then n m false (some c) checks made F k f e = judge_then (checks c) k F (made c) f (e (made c))
+  read_then n m false None checks made F k f e = refl
+  read_then n m false (Some c) checks made F k f e = judge_then (checks c) k F (made c) f (e (made c))
 
 nothing : {A : Type 0} (o : Option A) (k : List Check) → found o (λ a. []) [] ++ k ≡ k
-nothing none k = refl
-nothing (some a) k = refl
+nothing None k = refl
+nothing (Some a) k = refl
 
 pub register_refuses : (t h : Bytes) → refusal_of (register_call t h) ≡ lowest (register_table t h)
 unfolding register_call stored placed read_register register_table
@@ -74,25 +74,25 @@ pub join_refuses : (h k b : Bytes) → refusal_of (join_call h k b) ≡ lowest (
 unfolding join_call joined stored placed join_table lowest
 join_refuses h k b = go (held_register h) (held_register k)
   where
-    both : (c l : Bool) (R S : Register) → refusal_of (cond c (refused 32) (cond l (refused 7) (stored (join R S) b))) ≡ cond c (some 32) (cond l (some 7) (cond (ltb (length b) register_size) (some 8) none))
+    both : (c l : Bool) (R S : Register) → refusal_of (cond c (refused 32) (cond l (refused 7) (stored (join R S) b))) ≡ cond c (Some 32) (cond l (Some 7) (cond (ltb (length b) register_size) (Some 8) None))
     both true l R S = refl
     both false true R S = refl
     both false false R S = last 8 (ltb (length b) register_size) _
 
     go : (o w : Option Register) → refusal_of (and_then (or_refuse 22 o) (λ R. and_then (or_refuse 22 w) (λ S. joined R S b))) ≡ lowest (22 if lacks o ∷ 22 if lacks w ∷ found o (λ R. found w (λ S. 32 if kinds_clash R S ∷ 7 if not (is_within_limits (join R S)) ∷ 8 if ltb (length b) register_size ∷ []) []) [])
-    go none w = refl
-    go (some R) none = refl
-    go (some R) (some S) = both (kinds_clash R S) (not (is_within_limits (join R S))) R S
+    go None w = refl
+    go (Some R) None = refl
+    go (Some R) (Some S) = both (kinds_clash R S) (not (is_within_limits (join R S))) R S
 
 -- fitting, answered on
 fit_then : {B : Type 0} (b : Bool) (o : Option Core) (g : Core → Bool) (k : List Check) (f : Core → Answer B) → ((c : Core) → refusal_of (f c) ≡ lowest k)
     → refusal_of (and_then (cond b (refused 17) (found o (λ c. cond (g c) (refused 19) (accepted c)) (refused 18))) f) ≡ lowest (17 if b ∷ 18 if lacks o ∷ 19 if found o g false ∷ k)
 unfolding lowest
 fit_then true o g k f e = refl
-fit_then false none g k f e = refl
-fit_then {B} false (some c) g k f e = go (g c)
+fit_then false None g k f e = refl
+fit_then {B} false (Some c) g k f e = go (g c)
   where
-    go : (b : Bool) → refusal_of (and_then (cond b (refused 19) (accepted c)) f) ≡ cond b (some 19) (lowest k)
+    go : (b : Bool) → refusal_of (and_then (cond b (refused 19) (accepted c)) f) ≡ cond b (Some 19) (lowest k)
     go true = refl
     go false = e c
 
@@ -113,8 +113,8 @@ unfolding query_call written_in query_table lowest
 query_refuses h s b = go (held_register h)
   where
     go : (o : Option Register) → refusal_of (and_then (or_refuse 11 o) (λ R. and_then (core_of R s) (λ c. written_in 20 query_size (query_of c) b))) ≡ lowest (11 if lacks o ∷ 12 if ltb 1024 (length s) ∷ 13 if lacks (read_whole s) ∷ (found (read_whole s) QueryText.checks [] ++ (found o (λ R. found (accepted_of (read_text s)) (fit_table (kinds_of R)) []) [] ++ (20 if ltb (length b) query_size ∷ []))))
-    go none = refl
-    go (some R) = core_then s R (20 if ltb (length b) query_size ∷ []) (λ c. written_in 20 query_size (query_of c) b) (λ c. last 20 (ltb (length b) query_size) (query_of c ++ drop query_size b))
+    go None = refl
+    go (Some R) = core_then s R (20 if ltb (length b) query_size ∷ []) (λ c. written_in 20 query_size (query_of c) b) (λ c. last 20 (ltb (length b) query_size) (query_of c ++ drop query_size b))
 
 pub read_refuses : (s b : Bytes) → refusal_of (read_call s b) ≡ lowest (read_table s b)
 unfolding read_call written_in read_text read_table
@@ -127,18 +127,18 @@ unfolding fit_call written_in fit fit_call_table fit_table lowest
 fit_refuses t h b = go (held_register h) (held_tree t)
   where
     go : (o : Option Register) (w : Option Query) → refusal_of (and_then (or_refuse 11 o) (λ R. and_then (or_refuse 34 w) (λ q. and_then (fit (kinds_of R) q) (λ c. written_in 20 query_size (query_of c) b)))) ≡ lowest (11 if lacks o ∷ 34 if lacks w ∷ (found o (λ R. found w (fit_table (kinds_of R)) []) [] ++ (20 if ltb (length b) query_size ∷ [])))
-    go none w = refl
-    go (some R) none = refl
-    go (some R) (some q) = fit_then (any (is_undeclared (kinds_of R)) (properties_of q)) (elaborate q (kinds_of R)) (λ c. ltb 256 (nodes c)) (20 if ltb (length b) query_size ∷ []) (λ c. written_in 20 query_size (query_of c) b) (λ c. last 20 (ltb (length b) query_size) (query_of c ++ drop query_size b))
+    go None w = refl
+    go (Some R) None = refl
+    go (Some R) (Some q) = fit_then (any (is_undeclared (kinds_of R)) (properties_of q)) (elaborate q (kinds_of R)) (λ c. ltb 256 (nodes c)) (20 if ltb (length b) query_size ∷ []) (λ c. written_in 20 query_size (query_of c) b) (λ c. last 20 (ltb (length b) query_size) (query_of c ++ drop query_size b))
 
 ask_then : {A : Type 0} (o : Option Core) (w : Option Register) (m : Core → Register → Bool) (g : Register → Bool) (a : Core → Register → A)
     → refusal_of (and_then (or_refuse 21 o) (λ c. and_then (or_refuse 22 w) (λ R. and_then (cond (m c R) (refused 23) (accepted (a c R))) (λ x. cond (g R) (refused 24) (accepted x))))) ≡ lowest (21 if lacks o ∷ 22 if lacks w ∷ found w (λ R. 23 if found o (λ c. m c R) false ∷ 24 if g R ∷ []) [])
 unfolding lowest
-ask_then none w m g a = refl
-ask_then (some c) none m g a = refl
-ask_then {A} (some c) (some R) m g a = go (m c R)
+ask_then None w m g a = refl
+ask_then (Some c) None m g a = refl
+ask_then {A} (Some c) (Some R) m g a = go (m c R)
   where
-    go : (b : Bool) → refusal_of (and_then (cond b (refused 23) (accepted (a c R))) (λ x. cond (g R) (refused 24) (accepted x))) ≡ cond b (some 23) (lowest (24 if g R ∷ []))
+    go : (b : Bool) → refusal_of (and_then (cond b (refused 23) (accepted (a c R))) (λ x. cond (g R) (refused 24) (accepted x))) ≡ cond b (Some 23) (lowest (24 if g R ∷ []))
     go true = refl
     go false = last 24 (g R) (a c R)
 
@@ -152,36 +152,36 @@ unfolding register_table rises
 register_rises t h = go (entries t)
   where
     go : (o : Option (List Entry)) → rises 2 25 (found o RegisterText.checks [] ++ (8 if ltb (length h) register_size ∷ [])) ≡ true
-    go none = refl
-    go (some l) = refl
+    go None = refl
+    go (Some l) = refl
 
 pub query_rises : (h s b : Bytes) → rises 0 25 (query_table h s b) ≡ true
 unfolding query_table fit_table rises
 query_rises h s b = go (read_whole s) (held_register h) (accepted_of (read_text s))
   where
     go : (o : Option RawQuery) (w : Option Register) (q : Option Query) → rises 13 25 (found o QueryText.checks [] ++ (found w (λ R. found q (fit_table (kinds_of R)) []) [] ++ (20 if ltb (length b) query_size ∷ []))) ≡ true
-    go none none q = refl
-    go none (some R) none = refl
-    go none (some R) (some q) = refl
-    go (some o) none q = refl
-    go (some o) (some R) none = refl
-    go (some o) (some R) (some q) = refl
+    go None None q = refl
+    go None (Some R) None = refl
+    go None (Some R) (Some q) = refl
+    go (Some o) None q = refl
+    go (Some o) (Some R) None = refl
+    go (Some o) (Some R) (Some q) = refl
 
 pub read_rises : (s b : Bytes) → rises 0 34 (read_table s b) ≡ true
 unfolding read_table rises
 read_rises s b = go (read_whole s)
   where
     go : (o : Option RawQuery) → rises 13 34 (found o QueryText.checks [] ++ (33 if ltb (length b) tree_size ∷ [])) ≡ true
-    go none = refl
-    go (some q) = refl
+    go None = refl
+    go (Some q) = refl
 
 pub ask_rises : (q h b : Bytes) → rises 0 25 (ask_table q h b) ≡ true
 unfolding ask_table rises
 ask_rises q h b = go (held_register h)
   where
     go : (w : Option Register) → rises 22 25 (found w (λ R. 23 if found (held_query q) (λ c. mismatch c R) false ∷ 24 if ltb (length b) (length R.pages) ∷ []) []) ≡ true
-    go none = refl
-    go (some R) = refl
+    go None = refl
+    go (Some R) = refl
 
 rises_far : (low high : ℕ) (l : List Check) → rises low high l ≡ true → low < high
 unfolding rises
@@ -191,7 +191,7 @@ rises_far low high (n if b ∷ l) h =
     omega (arith, ltb-true low n t.0, rises_far n high l t.1)
 
 -- A refusal's number is one of the table's.
-pub lowest_between : (low high n : ℕ) (l : List Check) → rises low high l ≡ true → lowest l ≡ some n → (low < n) × (n < high)
+pub lowest_between : (low high n : ℕ) (l : List Check) → rises low high l ≡ true → lowest l ≡ Some n → (low < n) × (n < high)
 unfolding rises lowest
 lowest_between low high n [] h e = absurd (let y : ◌≡◌ {A = ℕ} 0 1 = cc in omega arith)
 lowest_between low high n (m if true ∷ l) h e =
@@ -221,22 +221,22 @@ join_few h k b n e = go (held_register h) (held_register k) e
     both false false a f e = f e
 
     go : (o w : Option Register) → and_then (or_refuse 22 o) (λ R. and_then (or_refuse 22 w) (λ S. joined R S b)) ≡ refused n → (0 < n) × (n ≤ 32)
-    go none w e = is 22 (omega arith) (omega arith) e
-    go (some R) none e = is 22 (omega arith) (omega arith) e
-    go (some R) (some S) e = both (kinds_clash R S) (not (is_within_limits (join R S))) _ (λ f. short (ltb (length b) register_size) _ f) e
+    go None w e = is 22 (omega arith) (omega arith) e
+    go (Some R) None e = is 22 (omega arith) (omega arith) e
+    go (Some R) (Some S) e = both (kinds_clash R S) (not (is_within_limits (join R S))) _ (λ f. short (ltb (length b) register_size) _ f) e
 
 -- A refusal by fitting has one of its numbers.
 pub fit_few : (t h b : Bytes) (n : ℕ) → fit_call t h b ≡ refused n → (0 < n) × (n ≤ 34)
 unfolding fit_call_table fit_table rises lowest
 fit_few t h b n e = go (held_register h) (held_tree t) (sym (fit_refuses t h b) ∙ ap refusal_of e)
   where
-    is : (m : ℕ) → 0 < m → m ≤ 34 → ◌≡◌ {A = Option ℕ} (some m) (some n) → (0 < n) × (n ≤ 34)
+    is : (m : ℕ) → 0 < m → m ≤ 34 → ◌≡◌ {A = Option ℕ} (Some m) (Some n) → (0 < n) × (n ≤ 34)
     is m l u e = let i : m ≡ n = cc in (omega arith, omega arith)
 
-    behind : (l : List Check) → rises 11 34 l ≡ true → lowest l ≡ some n → (0 < n) × (n ≤ 34)
+    behind : (l : List Check) → rises 11 34 l ≡ true → lowest l ≡ Some n → (0 < n) × (n ≤ 34)
     behind l r f = let k = lowest_between 11 34 n l r f in (omega (arith, k.0), omega (arith, k.1))
 
-    go : (o : Option Register) (w : Option Query) → lowest (11 if lacks o ∷ 34 if lacks w ∷ (found o (λ R. found w (fit_table (kinds_of R)) []) [] ++ (20 if ltb (length b) query_size ∷ []))) ≡ some n → (0 < n) × (n ≤ 34)
-    go none w f = is 11 (omega arith) (omega arith) f
-    go (some R) none f = is 34 (omega arith) (omega arith) f
-    go (some R) (some q) f = behind (fit_table (kinds_of R) q ++ (20 if ltb (length b) query_size ∷ [])) refl f
+    go : (o : Option Register) (w : Option Query) → lowest (11 if lacks o ∷ 34 if lacks w ∷ (found o (λ R. found w (fit_table (kinds_of R)) []) [] ++ (20 if ltb (length b) query_size ∷ []))) ≡ Some n → (0 < n) × (n ≤ 34)
+    go None w f = is 11 (omega arith) (omega arith) f
+    go (Some R) None f = is 34 (omega arith) (omega arith) f
+    go (Some R) (Some q) f = behind (fit_table (kinds_of R) q ++ (20 if ltb (length b) query_size ∷ [])) refl f

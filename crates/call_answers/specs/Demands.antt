@@ -1,6 +1,5 @@
 -- What the user demands of the calls together.
-use Rattle.std.specs.Prelude.{ℕ, ◌<◌, ◌≡◌, Bool, true, false, cond, not, ◌&&◌, List, [], ◌∷◌, ◌++◌, map, ◌↔◌, ltb, ℤ, pos, neg_ℤ, length, get_or, drop}
-use Rattle.std.proofs.Math.Option.{Option, some, none}
+use Rattle.std.specs.Prelude.{ℕ, ◌<◌, ◌≡◌, Bool, true, false, cond, not, ◌&&◌, List, [], ◌∷◌, ◌++◌, map, ◌↔◌, ltb, ℤ, pos, neg_ℤ, length, get_or, drop, Option, Some, None}
 use Rattle.text.specs.Bytes.{Bytes, any}
 use Rattle.text.specs.Table.{bit}
 use Rattle.values.specs.Names.{Identifier}
@@ -28,13 +27,13 @@ use Rattle.call_answers.specs.Calls.{query_call, read_call, fit_call, marked}
 
 -- There is none.
 abbrev pub lacks : {A : Type 0} → Option A → Bool
-lacks none = true
-lacks (some a) = false
+lacks None = true
+lacks (Some a) = false
 
 -- "the lowest number whose condition holds": the checks stand in the order in which they are judged.
 unfoldable pub lowest : List Check → Option ℕ
-lowest [] = none
-lowest (n if b ∷ l) = cond b (some n) (lowest l)
+lowest [] = None
+lowest (n if b ∷ l) = cond b (Some n) (lowest l)
 
 -- The numbers rise, strictly between two.
 unfoldable pub rises : ℕ → ℕ → List Check → Bool
@@ -103,8 +102,8 @@ ask_table q h b =
 -- The first demand: "Refused, each by its own number and with the lent buffers untouched"; "Everything else is accepted". Left says
 -- what an accepted call returns, and what it leaves in the buffer.
 abbrev pub Judged : Option ℕ → (ℕ → Bytes → Type 0) → Bytes → Bytes → ℤ → Type 0
-Judged none Left b after r = (k : ℕ) × (r ≡ pos k) × Left k after
-Judged (some n) Left b after r = (r ≡ neg_ℤ (pos n)) × (after ≡ b)
+Judged None Left b after r = (k : ℕ) × (r ≡ pos k) × Left k after
+Judged (Some n) Left b after r = (r ≡ neg_ℤ (pos n)) × (after ≡ b)
 
 pub record FirstDemand (table : List Check) (Left : ℕ → Bytes → Type 0) (b after : Bytes) (r : ℤ) : Type 0 where
   pub judged : Judged (lowest table) Left b after r
@@ -113,7 +112,7 @@ pub record FirstDemand (table : List Check) (Left : ℕ → Bytes → Type 0) (b
 pub record LeftForm (R : Register) (b : Bytes) (k : ℕ) (after : Bytes) : Type 0 where
   pub zero : k ≡ 0
   pub bytes : after ≡ form_of R ++ drop register_size b
-  pub held : held_register after ≡ some R
+  pub held : held_register after ≡ Some R
 
 -- of the register call, that of the register of its text t;
 pub record LeftRegister (t b : Bytes) (k : ℕ) (after : Bytes) : Type 0 where
@@ -125,21 +124,21 @@ pub record LeftRegister (t b : Bytes) (k : ℕ) (after : Bytes) : Type 0 where
 pub record LeftJoin (h k b : Bytes) (n : ℕ) (after : Bytes) : Type 0 where
   pub first : Register
   pub second : Register
-  pub holds_first : held_register h ≡ some first
-  pub holds_second : held_register k ≡ some second
+  pub holds_first : held_register h ≡ Some first
+  pub holds_second : held_register k ≡ Some second
   pub left : LeftForm (join first second) b n after
 
 -- the form of a core query at the front of the buffer b, and 0:
 pub record LeftCore (c : Core) (b : Bytes) (k : ℕ) (after : Bytes) : Type 0 where
   pub zero : k ≡ 0
   pub bytes : after ≡ query_of c ++ drop query_size b
-  pub held : held_query after ≡ some c
+  pub held : held_query after ≡ Some c
 
 -- of the query call, that of the core query of its text s;
 pub record LeftQuery (h s b : Bytes) (k : ℕ) (after : Bytes) : Type 0 where
   pub register : Register
   pub core : Core
-  pub holds : held_register h ≡ some register
+  pub holds : held_register h ≡ Some register
   pub fits : core_of register s ≡ accepted core
   pub left : LeftCore core b k after
 
@@ -149,15 +148,15 @@ pub record LeftTree (s b : Bytes) (k : ℕ) (after : Bytes) : Type 0 where
   pub query : Query
   pub reads : read_text s ≡ accepted query
   pub bytes : after ≡ tree_of query ++ drop tree_size b
-  pub held : held_tree after ≡ some query
+  pub held : held_tree after ≡ Some query
 
 -- of the fit call, that of the core query of its tree t;
 pub record LeftFit (t h b : Bytes) (k : ℕ) (after : Bytes) : Type 0 where
   pub register : Register
   pub query : Query
   pub core : Core
-  pub holds : held_register h ≡ some register
-  pub tree : held_tree t ≡ some query
+  pub holds : held_register h ≡ Some register
+  pub tree : held_tree t ≡ Some query
   pub fits : fit (kinds_of register) query ≡ accepted core
   pub left : LeftCore core b k after
 
@@ -165,8 +164,8 @@ pub record LeftFit (t h b : Bytes) (k : ℕ) (after : Bytes) : Type 0 where
 pub record LeftMarks (q h b : Bytes) (k : ℕ) (after : Bytes) : Type 0 where
   pub register : Register
   pub core : Core
-  pub holds : held_register h ≡ some register
-  pub asks : held_query q ≡ some core
+  pub holds : held_register h ≡ Some register
+  pub asks : held_query q ≡ Some core
   pub count : k ≡ marked (map (selects core register) register.pages)
   pub bytes : after ≡ map bit (map (selects core register) register.pages) ++ drop (length register.pages) b
 
@@ -184,8 +183,8 @@ page_at W i = get_or W.pages i (empty_page [] [])
 pub record SecondDemand (s : Bytes) (R W : Register) (b after : Bytes) (r : ℤ) : Type 0 where
   pub surface : Query
   pub core : Core
-  pub reads : accepted_of (read_text s) ≡ some surface
-  pub elaborates : elaborate surface (kinds_of R) ≡ some core
+  pub reads : accepted_of (read_text s) ≡ Some surface
+  pub elaborates : elaborate surface (kinds_of R) ≡ Some core
   pub bytes : after ≡ map bit (map (selects core W) W.pages) ++ drop (length W.pages) b
   pub count : r ≡ pos (marked (map (selects core W) W.pages))
   -- the pages marked are those in the thesis' page set of the core query (4.5.3), and all in that set are pages of W
@@ -206,7 +205,7 @@ pub record ThirdDemand (q s : Bytes) (W : Register) (b after : Bytes) (r : ℤ) 
   pub size : length after ≡ length b
   -- "never compares values of two kinds", as in the second demand
   pub core : Core
-  pub holds : held_query q ≡ some core
+  pub holds : held_query q ≡ Some core
   pub unmixed : mismatch core W ≡ false
   pub free : (u w : Mixed) → map (Q core u W) W.pages ≡ map (Q core w W) W.pages
 

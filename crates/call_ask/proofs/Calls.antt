@@ -1,9 +1,9 @@
 -- The ways through the run and the ask call.
+use Rattle.std.specs.Prelude.{Option, Some, None}
 use Prim.Native.Nat.{ℕ, ◌≤◌, ◌<◌}
 use mathlib.Core.Path.{◌≡◌, refl, sym, ap, ap₂, ◌∙◌}
 use mathlib.Core.Bool.{Bool, true, false, not, cond, true≢false, false≢true}
 use mathlib.Core.List.{List, [], ◌∷◌, ◌++◌, map}
-use mathlib.Core.Option.{Option, some, none}
 use native.Mathlib.Omega.{arith}
 use borrow.Author.Tests.{lt-ltb, le-ltb, not-true, not-false}
 use lib.Dec.{ltb}
@@ -40,13 +40,13 @@ use Rattle.call_ask.specs.declared.Asked.{Asked}
 use Rattle.call_ask.proofs.Writing.{marks_bytes, marks_count}
 
 -- the query, where there is one
-no_query : (o : Option Core) → is_some o ≡ false → o ≡ none
-no_query none e = refl
-no_query (some c) e = absurd (true≢false e)
+no_query : (o : Option Core) → is_some o ≡ false → o ≡ None
+no_query None e = refl
+no_query (Some c) e = absurd (true≢false e)
 
-some_query : (o : Option Core) → is_some o ≡ true → (c : Core) × (o ≡ some c)
-some_query none e = absurd (false≢true e)
-some_query (some c) e = (c, refl)
+some_query : (o : Option Core) → is_some o ≡ true → (c : Core) × (o ≡ Some c)
+some_query None e = absurd (false≢true e)
+some_query (Some c) e = (c, refl)
 
 -- what an answer is, once it is known
 answers : (a d : Answer (List Bool)) (b after : Bytes) (r : Asked) → a ≡ d → r ≡ asked d → after ≡ marks_in b d → Answers a b after r
@@ -100,7 +100,7 @@ pub selected_by : (h : Bytes) (places : List ℕ) (q : Bytes) (n : ℕ) (r : Eva
 unfolding Selected Evaluates Means
 selected_by h places q n r is found R v c k = means.0
   where
-    means : Means R (length R.pages) q n (some (c ∷ [])) r
+    means : Means R (length R.pages) q n (Some (c ∷ [])) r
     means = rw (ap (stack_at q) is ∙ k.stack) at (found R v)
 
 -- ask
@@ -113,7 +113,7 @@ module _ (q h b : Bytes) (queried : Bool) (is : queried ≡ is_some (held_query 
   ask_unqueried e = asks (refused 21) b _ (rw (no_query (held_query q) (sym is ∙ not-true queried e))) refl refl
 
   module _ (e : not queried ≡ false) where
-    held : (c : Core) × (held_query q ≡ some c)
+    held : (c : Core) × (held_query q ≡ Some c)
     held = some_query (held_query q) (sym is ∙ not-false queried e)
 
     module _ (g : Bytes) (places : List ℕ) (opened : Bool) (f : g ≡ part h 0 register_size) (opens : Opens g (replicate 2368 0) places opened) where

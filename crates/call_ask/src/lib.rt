@@ -13,7 +13,6 @@ use buffer::two_at;
 use pageset::{PageSet, mark_at};
 use query_core::is_query;
 use register_form::{REGISTER_BYTES, page_count};
-use tables::widen;
 use text::part;
 
 // What the ask call answers: the number that refuses it, or how many pages are marked.
@@ -34,7 +33,7 @@ fn byte_of(b: bool) -> u8
 fn write_marks(set: PageSet, n: u16, out: &mut [u8])
     ensures { MarksWritten (marks_from set.words) n out.old out.new }
 {
-    let end = widen(capped(n));
+    let end = usize::from(capped(n));
     if out.len() < end {
         return;
     }
@@ -50,7 +49,7 @@ fn write_marks(set: PageSet, n: u16, out: &mut [u8])
 fn select(q: &[u8], h: &[u8], places: &[u16]) -> PageSet
     ensures { Selected h.now places.now q.now (marks_from result.words) }
 {
-    let n = widen(two_at(q, 0));
+    let n = usize::from(two_at(q, 0));
     let found = eval(q, n, h, places);
     found.set
 }
@@ -63,7 +62,7 @@ fn run(q: &[u8], h: &[u8], places: &[u16], out: &mut [u8]) -> Asked
         return Asked::Refused(23);
     }
     let n = page_count(h);
-    if out.len() < widen(n) {
+    if out.len() < usize::from(n) {
         return Asked::Refused(24);
     }
     let set = select(q, h, places);

@@ -1,9 +1,9 @@
 -- The ways through the join call.
+use Rattle.std.specs.Prelude.{Some, None}
 use Prim.Native.Nat.{ℕ, ◌<◌}
 use mathlib.Core.Path.{◌≡◌, refl, sym, ap, ◌∙◌}
 use mathlib.Core.Bool.{Bool, true, false, not, cond}
 use mathlib.Core.List.{List}
-use mathlib.Core.Option.{some, none}
 use native.Mathlib.Omega.{arith}
 use lib.ListN.{length, get_or, replicate, length-replicate}
 use Rattle.text.specs.Bytes.{Bytes, part}
@@ -103,16 +103,16 @@ module _ (h g b : Bytes) where
 
 -- One of the inputs is none, or both are.
 module _ (first second b : Bytes) where
-  pub join_no_first : held_register first ≡ none → Answered (join_call first second b) b 22 b
+  pub join_no_first : held_register first ≡ None → Answered (join_call first second b) b 22 b
   unfolding join_call
   join_no_first e = record { number = rw e; bytes = rw e }
 
-  pub join_no_second : (R : Register) → held_register first ≡ some R → held_register second ≡ none → Answered (join_call first second b) b 22 b
+  pub join_no_second : (R : Register) → held_register first ≡ Some R → held_register second ≡ None → Answered (join_call first second b) b 22 b
   unfolding join_call
   join_no_second R e f = record { number = rw (e, f); bytes = rw (e, f) }
 
   -- h and g are the first bytes of the inputs
-  pub join_both : (h g : Bytes) (n r : ℕ) (after : Bytes) → held_register first ≡ some (register_in h) → held_register second ≡ some (register_in g)
+  pub join_both : (h g : Bytes) (n r : ℕ) (after : Bytes) → held_register first ≡ Some (register_in h) → held_register second ≡ Some (register_in g)
       → is_form h ≡ true → is_form g ≡ true → h ≡ part first 0 n → g ≡ part second 0 n → ((i : ℕ) → get_or first i 0 < 256) → ((i : ℕ) → get_or second i 0 < 256)
       → Joins h g b r after → Answered (join_call first second b) b r after
   unfolding join_call

@@ -1,9 +1,9 @@
 -- The ways through the three calls.
+use Rattle.std.specs.Prelude.{Option, Some, None}
 use Prim.Native.Nat.{ℕ, ◌≤◌, ◌<◌}
 use mathlib.Core.Path.{◌≡◌, refl, sym, ap, subst, ◌∙◌}
 use mathlib.Core.Bool.{Bool, true, false, not, true≢false}
 use mathlib.Core.List.{List}
-use mathlib.Core.Option.{Option, some, none}
 use borrow.Author.Tests.{lt-ltb, le-ltb, not-true, not-false}
 use lib.ListN.{length, take, replicate}
 use Rattle.text.specs.Bytes.{Bytes, part}
@@ -42,7 +42,7 @@ pub opened_is : (h g : Bytes) (before after : List ℕ) (r : Bool) → g ≡ par
 opened_is h g before after r e o = go r refl
   where
     go : (b : Bool) → r ≡ b → TestsRegister h b
-    go true f = held_some h g e before after r o (rw f) ∙ ap (λ (x : Bytes). some (register_in x)) e
+    go true f = held_some h g e before after r o (rw f) ∙ ap (λ (x : Bytes). Some (register_in x)) e
     go false f = held_none h g e before after r o (rw f)
 
 -- A number other than 0 refuses.
@@ -124,7 +124,7 @@ module _ (s u : Bytes) (r : Reading) (n : ℕ) (R : ReadsText s (replicate 5112 
 
   -- then fitting
   module _ (h b : Bytes) (o : Bool) (H : TestsRegister h o) (held : not o ≡ false) where
-    open_is : held_register h ≡ some (register_in (take register_size h))
+    open_is : held_register h ≡ Some (register_in (take register_size h))
     open_is = subst (TestsRegister h) (not-false o held) H
 
     pub query_unread : (n ≡ 0 → ⊥) → Answered (query_call h s b) b n b
@@ -148,7 +148,7 @@ module _ (t h b : Bytes) (o : Bool) (H : TestsRegister h o) where
   fit_unheld e = rw (subst (TestsRegister h) (not-true o e) H) (record { number = refl; bytes = refl })
 
   module _ (held : not o ≡ false) (y : Bool) (T : y ≡ found (held_tree t) (λ q. true) false) where
-    is_open : held_register h ≡ some (register_in (take register_size h))
+    is_open : held_register h ≡ Some (register_in (take register_size h))
     is_open = subst (TestsRegister h) (not-false o held) H
 
     pub fit_no_tree : not y ≡ true → Answered (fit_call t h b) b 34 b
@@ -156,16 +156,16 @@ module _ (t h b : Bytes) (o : Bool) (H : TestsRegister h o) where
     fit_no_tree e = go (held_tree t) refl
       where
         go : (w : Option Query) → held_tree t ≡ w → Answered (fit_call t h b) b 34 b
-        go none f = rw (is_open, f) (record { number = refl; bytes = refl })
-        go (some q) f = absurd (true≢false (sym (T ∙ ap (λ (w : Option Query). found w (λ q. true) false) f) ∙ not-true y e))
+        go None f = rw (is_open, f) (record { number = refl; bytes = refl })
+        go (Some q) f = absurd (true≢false (sym (T ∙ ap (λ (w : Option Query). found w (λ q. true) false) f) ∙ not-true y e))
 
     pub fit_tree : (u g b' : Bytes) (m : ℕ) → not y ≡ false → u ≡ part t 0 5112 → g ≡ part h 0 register_size → FitsInto u g b m b' → Answered (fit_call t h b) b m b'
     unfolding fit_call FitsInto fitted_in
     fit_tree u g b' m e i j F = go (held_tree t) refl
       where
         go : (w : Option Query) → held_tree t ≡ w → Answered (fit_call t h b) b m b'
-        go none f = absurd (true≢false (sym (not-false y e) ∙ T ∙ ap (λ (w : Option Query). found w (λ q. true) false) f))
-        go (some q) f =
+        go None f = absurd (true≢false (sym (not-false y e) ∙ T ∙ ap (λ (w : Option Query). found w (λ q. true) false) f))
+        go (Some q) f =
             let d = (held_tree_lem t q).0 f in
             rw (is_open, f) (subst (λ (x : Bytes). Answered (fitted_in (kinds_of (register_in x)) q b) b m b') j (F q d.has (i ∙ d.bytes)))
 

@@ -1,9 +1,9 @@
 -- Reading and fitting refuse by no number 0.
+use Rattle.std.specs.Prelude.{Option, Some, None}
 use Prim.Native.Nat.{max}
 use mathlib.Core.Path.{◌≡◌, refl}
 use mathlib.Core.Bool.{Bool, true, false, cond}
 use mathlib.Core.List.{[], ◌∷◌}
-use mathlib.Core.Option.{Option, some, none}
 use native.Mathlib.Omega.{arith}
 use lib.Dec.{ltb}
 use lib.ListN.{length}
@@ -31,8 +31,8 @@ zero_read s = long (ltb 1024 (length s))
     judged false false false q e = (q, refl)
 
     read : (o : Option RawQuery) → Zero (found o (λ q. judge (checks q) (composed_query (surface q))) (refused 13))
-    read none e = absurd (omega arith)
-    read (some q) e = judged (ltb 8 (max (depth q) (longest q))) (breaks q) (breaks_value q) (composed_query (surface q)) e
+    read None e = absurd (omega arith)
+    read (Some q) e = judged (ltb 8 (max (depth q) (longest q))) (breaks q) (breaks_value q) (composed_query (surface q)) e
 
     long : (b : Bool) → Zero (cond b (refused 12) (found (read_whole s) (λ q. judge (checks q) (composed_query (surface q))) (refused 13)))
     long true e = absurd (omega arith)
@@ -47,8 +47,8 @@ zero_fit Γ q = go (any (is_undeclared Γ) (properties_of q))
     counted false c e = (c, refl)
 
     elaborated : (o : Option Core) → Zero (found o (λ c. cond (ltb 256 (nodes c)) (refused 19) (accepted c)) (refused 18))
-    elaborated none e = absurd (omega arith)
-    elaborated (some c) e = counted (ltb 256 (nodes c)) c e
+    elaborated None e = absurd (omega arith)
+    elaborated (Some c) e = counted (ltb 256 (nodes c)) c e
 
     go : (b : Bool) → Zero (cond b (refused 17) (found (elaborate q Γ) (λ c. cond (ltb 256 (nodes c)) (refused 19) (accepted c)) (refused 18)))
     go true e = absurd (omega arith)

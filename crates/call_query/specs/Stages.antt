@@ -1,6 +1,5 @@
 -- Working definitions: the stages of the query call.
-use Rattle.std.specs.Prelude.{ℕ, ◌≡◌, Bool, true, false, take}
-use Rattle.std.proofs.Math.Option.{some, none}
+use Rattle.std.specs.Prelude.{ℕ, ◌≡◌, Bool, true, false, take, Some, None}
 use Rattle.text.specs.Bytes.{Bytes}
 use Rattle.language.specs.Answer.{Answer, Answered, and_then}
 use Rattle.language.specs.Register.{Typing, kinds_of}
@@ -15,8 +14,8 @@ use Rattle.call_answers.specs.Calls.{written_in}
 
 -- Whether bytes hold a register, and which.
 abbrev pub TestsRegister : Bytes → Bool → Type 0
-TestsRegister h true = held_register h ≡ some (register_in (take register_size h))
-TestsRegister h false = held_register h ≡ none
+TestsRegister h true = held_register h ≡ Some (register_in (take register_size h))
+TestsRegister h false = held_register h ≡ None
 
 -- A query fitted to kinds and stored: the lowest of 17 to 20, or the bytes that are left in the buffer b.
 unfoldable pub fitted_in : Typing → Query → Bytes → Answer Bytes

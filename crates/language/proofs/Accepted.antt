@@ -1,9 +1,9 @@
 -- What an accepted text gives is a register.
+use Rattle.std.specs.Prelude.{Option, Some, None}
 use Prim.Native.Nat.{ℕ, ◌+◌, ◌≤◌}
 use mathlib.Core.Path.{◌≡◌, refl, subst}
 use mathlib.Core.Bool.{Bool, true, false, cond, not, ◌&&◌, ◌||◌}
 use mathlib.Core.List.{List, [], ◌∷◌}
-use mathlib.Core.Option.{Option, some, none}
 use native.Mathlib.Omega.{arith}
 use lib.Dec.{ltb}
 use lib.ListN.{length}
@@ -33,30 +33,30 @@ use Rattle.language.proofs.Sameness.{held_eq, held_refl}
 use Rattle.language.proofs.Rules.{RuledPage, rules_page}
 
 -- A value that was read from a text that keeps the rule for values keeps its own.
-link_storable : (s : Bytes) (i : Identifier) → is_value s ≡ true → read_link s ≡ some i → is_storable (link i) ≡ true
+link_storable : (s : Bytes) (i : Identifier) → is_value s ≡ true → read_link s ≡ Some i → is_storable (link i) ≡ true
 unfolding is_storable is_identifier spelling
 link_storable s i h e =
     let r = link_read s i e in
     let k = subst (λ i. is_composed_namespace i.namespace && is_composed_name i.article ≡ true) r.1 (reference_keeps (reference s) r.0) in
     both_true k (spelled_is_value i k (omega (arith, spelled_link_le s i e, value_short s h)))
 
-pub read_storable : (k : Kind) (s : Bytes) (v : Value) → is_value s ≡ true → read_value k s ≡ some v → is_storable v ≡ true
+pub read_storable : (k : Kind) (s : Bytes) (v : Value) → is_value s ≡ true → read_value k s ≡ Some v → is_storable v ≡ true
 unfolding is_storable
 read_storable k s v h =
     of_read (λ v. is_storable v ≡ true) s (λ i. link_storable s i h) (λ k. read_in_range k s) h k v
 
 -- What holds of whatever a text writes in any kind holds of a val's value.
-pub on_value : (P : Value → Type 0) (ps : List Property) (x s : Bytes) → ((k : Kind) (v : Value) → read_value k s ≡ some v → P v) → OnSome P (value_of ps x s)
+pub on_value : (P : Value → Type 0) (ps : List Property) (x s : Bytes) → ((k : Kind) (v : Value) → read_value k s ≡ Some v → P v) → OnSome P (value_of ps x s)
 unfolding value_of
 on_value P ps x s f = go (kind_among ps x)
   where
     read : (k : Kind) (o : Option Value) → read_value k s ≡ o → OnSome P o
-    read k none e = tt
-    read k (some v) e = f k v e
+    read k None e = tt
+    read k (Some v) e = f k v e
 
     go : (o : Option Kind) → OnSome P (o >>= λ k. read_value k s)
-    go none = tt
-    go (some k) = read k (read_value k s) refl
+    go None = tt
+    go (Some k) = read k (read_value k s) refl
 
 pub empty_ruled : (n x : Bytes) → is_composed_namespace n && is_composed_name x ≡ true → RuledPage (empty_page n x)
 unfolding is_identifier all distinct

@@ -1,10 +1,10 @@
 -- The two meanings of a query are one: the theorem behind demand 3.
+use Rattle.std.specs.Prelude.{Option, Some, None}
 use mathlib.Core.Path.{◌≡◌, refl, sym, ap, ap₂, ◌∙◌, subst}
 use mathlib.Core.Bool.{Bool, true, false, cond, not, ◌&&◌, ◌||◌, false≢true}
 use mathlib.Core.List.{List, [], ◌++◌, map, Memᴰ}
-use mathlib.Core.Option.{Option, some, none}
 use Rattle.text.specs.Bytes.{Bytes, bytes, order_of, same, all}
-use Rattle.text.specs.declared.Order.{Order}
+use Rattle.std.specs.declared.cmp.Ordering.{Ordering}
 use Rattle.text.proofs.Laws.{same_eq, all_append}
 use Rattle.values.specs.declared.Kind.{Kind}
 use Rattle.values.specs.Names.{Reference, bare, qualified, reference, is_reference, composed_reference}
@@ -36,9 +36,9 @@ by_value : (c : SurfaceComparator) (v : Constant) (a : Value) → by_core (λ d.
 unfolding Cv stands_to
 by_value c v (plain w) = go (order_constants w v)
   where
-    go : (o : Option Order) → by_core (λ d. found o (stands d) false) c ≡ found o (stands_as c) false
-    go none = by_false c
-    go (some o) = stands_each c o
+    go : (o : Option Ordering) → by_core (λ d. found o (stands d) false) c ≡ found o (stands_as c) false
+    go None = by_false c
+    go (Some o) = stands_each c o
 by_value c v (link i) = by_false c
 
 by_holds : (x : Bytes) (f : Comparator → Value → Bool) (p : Page) (c : SurfaceComparator) → by_core (λ d. holds x (f d) p) c ≡ holds x (λ a. by_core (λ d. f d a) c) p
@@ -72,9 +72,9 @@ module _ (R : Register) where
       → ((a b : Core) → Means m a → Means n b → Means (λ p. op (m p) (n p)) (k a b))
       → (a b : Option Core) → OnSome (Means m) a → OnSome (Means n) b → OnSome (Means (λ p. op (m p) (n p))) (joined k a b)
   unfolding joined
-  joined_means k op m n law none b h i = tt
-  joined_means k op m n law (some a) none h i = tt
-  joined_means k op m n law (some a) (some b) h i = law a b h i
+  joined_means k op m n law None b h i = tt
+  joined_means k op m n law (Some a) None h i = tt
+  joined_means k op m n law (Some a) (Some b) h i = law a b h i
 
   -- a comparison as written
   compared_means : (f : Comparator → Core) (g : Comparator → Page → Bool) (c : SurfaceComparator) → ((d : Comparator) → Means (g d) (f d)) → Means (λ p. by_core (λ d. g d p) c) (compared f c)
@@ -107,12 +107,12 @@ module _ (R : Register) where
   unfolding elaborate_reference is_meant namespace_meant
   reference_means c (bare x) = go (is_equal c)
     where
-      go : (t : Bool) → Means (λ p. found (only_if t (some [])) (λ n. same p.identifier.namespace n) true && stands_as c (order_of p.identifier.article x)) (cond t (within [] (article_stands x c)) (article_stands x c))
+      go : (t : Bool) → Means (λ p. found (only_if t (Some [])) (λ n. same p.identifier.namespace n) true && stands_as c (order_of p.identifier.article x)) (cond t (within [] (article_stands x c)) (article_stands x c))
       go true = within_means [] x c
       go false = article_means x c
   reference_means c (qualified n x) = rw (← mark_word c) (go (same (word c) (bytes "!")))
     where
-      go : (t : Bool) → Means (λ p. found (only_if (not t) (some n)) (λ n. same p.identifier.namespace n) true && stands_as c (order_of p.identifier.article x)) (cond t (article_stands x c) (within n (article_stands x c)))
+      go : (t : Bool) → Means (λ p. found (only_if (not t) (Some n)) (λ n. same p.identifier.namespace n) true && stands_as c (order_of p.identifier.article x)) (cond t (article_stands x c) (within n (article_stands x c)))
       go true = article_means x c
       go false = within_means n x c
 
@@ -174,29 +174,29 @@ module _ (Γ : Typing) (R : Register) (kinds : kinds_hold R ≡ true) where
   rightly p m h n = all_at (λ h. has_kind (kinds_of R h.property) (kind_of h.value)) (all_at _ kinds m) n
 
   -- every value under x has the kind that x was fitted with
-  fitted : (x : Bytes) (k : Kind) → Agree x → Γ x ≡ some k → (p : Page) → Memᴰ p R.pages → (h : Held) → Memᴰ h p.values → same h.property x ≡ true → same_kind (kind_of h.value) k ≡ true
+  fitted : (x : Bytes) (k : Kind) → Agree x → Γ x ≡ Some k → (p : Page) → Memᴰ p R.pages → (h : Held) → Memᴰ h p.values → same h.property x ≡ true → same_kind (kind_of h.value) k ≡ true
   fitted x k g e p m h n s =
       go (kinds_of R x) (subst (λ k. agree k (kinds_of R x) ≡ true) e g) (subst (λ y. has_kind (kinds_of R y) (kind_of h.value) ≡ true) (same_eq h.property x s) (rightly p m h n))
     where
-      go : (o : Option Kind) → agree (some k) o ≡ true → has_kind o (kind_of h.value) ≡ true → same_kind (kind_of h.value) k ≡ true
-      go none a b = absurd (false≢true b)
-      go (some l) a b = rw (← kind_eq l (kind_of h.value) b, ← kind_eq k l a) (kind_refl k)
+      go : (o : Option Kind) → agree (Some k) o ≡ true → has_kind o (kind_of h.value) ≡ true → same_kind (kind_of h.value) k ≡ true
+      go None a b = absurd (false≢true b)
+      go (Some l) a b = rw (← kind_eq l (kind_of h.value) b, ← kind_eq k l a) (kind_refl k)
 
-  none_other : (x : Bytes) (k : Kind) → Agree x → Γ x ≡ some k → some_other R x k ≡ false
+  none_other : (x : Bytes) (k : Kind) → Agree x → Γ x ≡ Some k → some_other R x k ≡ false
   unfolding some_other
   none_other x k g e =
       any_none _ R.pages (λ p m. holds_none x (λ v. not (same_kind (kind_of v) k)) p (λ h n s. ap not (fitted x k g e p m h n s)))
 
   -- under a property that the register does not declare nothing is held
-  nothing_held : (x : Bytes) → kinds_of R x ≡ none → (f : Value → Bool) (p : Page) → Memᴰ p R.pages → holds x f p ≡ false
+  nothing_held : (x : Bytes) → kinds_of R x ≡ None → (f : Value → Bool) (p : Page) → Memᴰ p R.pages → holds x f p ≡ false
   nothing_held x e f p m =
       holds_none x f p (λ h n s. absurd (false≢true (subst (λ k. has_kind k (kind_of h.value) ≡ true) (ap (kinds_of R) (same_eq h.property x s) ∙ e) (rightly p m h n))))
 
-  none_of : (x : Bytes) → kinds_of R x ≡ none → (c : SurfaceComparator) (p : Page) → Memᴰ p R.pages → (o : Option Constant) → found o (λ w. holds x (stands_to c w) p) false ≡ false
-  none_of x e c p m none = refl
-  none_of x e c p m (some w) = nothing_held x e (stands_to c w) p m
+  none_of : (x : Bytes) → kinds_of R x ≡ None → (c : SurfaceComparator) (p : Page) → Memᴰ p R.pages → (o : Option Constant) → found o (λ w. holds x (stands_to c w) p) false ≡ false
+  none_of x e c p m None = refl
+  none_of x e c p m (Some w) = nothing_held x e (stands_to c w) p m
 
-  nothing_meant : (x : Bytes) → kinds_of R x ≡ none → (c : SurfaceComparator) (v : Bytes) (k : Kind) (p : Page) → Memᴰ p R.pages → means_value x c v (some k) p ≡ false
+  nothing_meant : (x : Bytes) → kinds_of R x ≡ None → (c : SurfaceComparator) (v : Bytes) (k : Kind) (p : Page) → Memᴰ p R.pages → means_value x c v (Some k) p ≡ false
   unfolding means_value
   nothing_meant x e c v Kind.Page p m = go (is_reference (reference v))
     where
@@ -207,15 +207,15 @@ module _ (Γ : Typing) (R : Register) (kinds : kinds_hold R ≡ true) where
   nothing_meant x e c v Kind.String p m = none_of x e c p m (read_constant Kind.String v)
 
   constants : (x : Bytes) (c : SurfaceComparator) (k : Kind) → some_other R x k ≡ false → (o : Option Constant) → OnSome (λ v. kind_of_constant v ≡ k) o → OnSome (Means R (λ p. found o (λ w. holds x (stands_to c w) p) false)) (map_option (elaborate_constant x c) o)
-  constants x c k h none e = tt
-  constants x c k h (some v) e = constant_means R x c v (rw e h)
+  constants x c k h None e = tt
+  constants x c k h (Some v) e = constant_means R x c v (rw e h)
 
   -- a piece, where the register declares its property with the kind fitted
-  value_means : (x : Bytes) (c : SurfaceComparator) (v : Bytes) (k : Kind) → some_other R x k ≡ false → OnSome (Means R (means_value x c v (some k))) (elaborate_value x c v k)
+  value_means : (x : Bytes) (c : SurfaceComparator) (v : Bytes) (k : Kind) → some_other R x k ≡ false → OnSome (Means R (means_value x c v (Some k))) (elaborate_value x c v k)
   unfolding elaborate_value means_value
   value_means x c v Kind.Page o = go (is_reference (reference v))
     where
-      go : (b : Bool) → OnSome (Means R (λ p. cond b (holds x (means_link c (composed_reference (reference v))) p) false)) (cond b (some (Core.select (Selector.link x c (composed_reference (reference v))))) none)
+      go : (b : Bool) → OnSome (Means R (λ p. cond b (holds x (means_link c (composed_reference (reference v))) p) false)) (cond b (Some (Core.select (Selector.link x c (composed_reference (reference v))))) None)
       go true = link_means R x c (composed_reference (reference v)) o
       go false = tt
   value_means x c v (Kind.Scalar k) o = constants x c (Kind.Scalar k) o (read_constant (Kind.Scalar k) v) (constant_kind (Kind.Scalar k) v)
@@ -226,25 +226,25 @@ module _ (Γ : Typing) (R : Register) (kinds : kinds_hold R ≡ true) where
   unfolding means_value
   piece_means x c v g = fit (Γ x) refl
     where
-      declared : (k : Kind) → Γ x ≡ some k → (o : Option Kind) → kinds_of R x ≡ o → (q : Option Core) → OnSome (Means R (means_value x c v (some k))) q → OnSome (Means R (means_value x c v o)) q
-      declared k e o f none h = tt
-      declared k e none f (some d) h = means_same R _ _ d h (λ p m. nothing_meant x f c v k p m)
-      declared k e (some l) f (some d) h = subst (λ l. Means R (means_value x c v (some l)) d) (kind_eq k l (subst (λ j. agree j (some l) ≡ true) e (subst (λ o. agree (Γ x) o ≡ true) f g))) h
+      declared : (k : Kind) → Γ x ≡ Some k → (o : Option Kind) → kinds_of R x ≡ o → (q : Option Core) → OnSome (Means R (means_value x c v (Some k))) q → OnSome (Means R (means_value x c v o)) q
+      declared k e o f None h = tt
+      declared k e None f (Some d) h = means_same R _ _ d h (λ p m. nothing_meant x f c v k p m)
+      declared k e (Some l) f (Some d) h = subst (λ l. Means R (means_value x c v (Some l)) d) (kind_eq k l (subst (λ j. agree j (Some l) ≡ true) e (subst (λ o. agree (Γ x) o ≡ true) f g))) h
 
       fit : (o : Option Kind) → Γ x ≡ o → OnSome (Means R (means_value x c v (kinds_of R x))) (o >>= elaborate_value x c v)
-      fit none e = tt
-      fit (some k) e = declared k e (kinds_of R x) refl (elaborate_value x c v k) (value_means x c v k (none_other x k g e))
+      fit None e = tt
+      fit (Some k) e = declared k e (kinds_of R x) refl (elaborate_value x c v k) (value_means x c v k (none_other x k g e))
 
   inside_means : (x : Bytes) (m : Page → Bool) → Agree x → (q : Option Core) → OnSome (Means R m) q → OnSome (Means R (holds x (leads R m))) (inside x (Γ x) q)
   unfolding inside
   inside_means x m g q h = go (Γ x) refl q h
     where
       go : (o : Option Kind) → Γ x ≡ o → (q : Option Core) → OnSome (Means R m) q → OnSome (Means R (holds x (leads R m))) (inside x o q)
-      go none e q h = tt
-      go (some Kind.Page) e none h = tt
-      go (some Kind.Page) e (some c) h = subquery_means R x m c (none_other x Kind.Page g e) h
-      go (some (Kind.Scalar k)) e q h = tt
-      go (some Kind.String) e q h = tt
+      go None e q h = tt
+      go (Some Kind.Page) e None h = tt
+      go (Some Kind.Page) e (Some c) h = subquery_means R x m c (none_other x Kind.Page g e) h
+      go (Some (Kind.Scalar k)) e q h = tt
+      go (Some Kind.String) e q h = tt
 
   along_means : (c : Chain) (f : Bytes → Option Core) (m : Bytes → Page → Bool) → all (λ x. agree (Γ x) (kinds_of R x)) (names_of c) ≡ true
       → ((x : Bytes) → Agree x → OnSome (Means R (m x)) (f x)) → OnSome (Means R (means_chain R c m)) (along Γ c f)
@@ -287,7 +287,7 @@ module _ (Γ : Typing) (R : Register) (kinds : kinds_hold R ≡ true) where
 
 -- The theorem. A query that elaborates by the kinds Γ, run on a register whose kinds agree where it declares a property that
 -- the query names: the run has no mismatch, and its marks are those of the direct meaning.
-pub agreement : (q : Query) (Γ : Typing) (c : Core) (R : Register) → elaborate q Γ ≡ some c → kinds_hold R ≡ true → kinds_agree Γ R q ≡ true
+pub agreement : (q : Query) (Γ : Typing) (c : Core) (R : Register) → elaborate q Γ ≡ Some c → kinds_hold R ≡ true → kinds_agree Γ R q ≡ true
     → run c R ≡ accepted (map (means q R) R.pages)
 unfolding kinds_agree run
 agreement q Γ c R e k g =

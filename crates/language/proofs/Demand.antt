@@ -1,9 +1,9 @@
 -- The third demand, as far as it is about definitions: texts, registers and marks.
+use Rattle.std.specs.Prelude.{Option, Some, None}
 use Prim.Native.Nat.{ℕ}
 use mathlib.Core.Path.{◌≡◌, refl, ap}
 use mathlib.Core.Bool.{Bool, true, false, cond}
 use mathlib.Core.List.{List, [], ◌∷◌, map}
-use mathlib.Core.Option.{Option, some, none}
 use native.Mathlib.Omega.{arith}
 use lib.Dec.{ltb}
 use Rattle.text.specs.Bytes.{Bytes, any, all}
@@ -23,7 +23,7 @@ use Rattle.values.proofs.Sameness.{kind_refl}
 use Rattle.language.proofs.Agreement.{agreement}
 
 -- an accepted query was elaborated
-pub fitted_is : (Γ : Typing) (q : Query) (c : Core) → fit Γ q ≡ accepted c → elaborate q Γ ≡ some c
+pub fitted_is : (Γ : Typing) (q : Query) (c : Core) → fit Γ q ≡ accepted c → elaborate q Γ ≡ Some c
 unfolding fit
 fitted_is Γ q c h = declared (any (is_undeclared Γ) (properties_of q)) h
   where
@@ -31,11 +31,11 @@ fitted_is Γ q c h = declared (any (is_undeclared Γ) (properties_of q)) h
     small d true h = absurd (let y : ◌≡◌ {A = ℕ} 0 1 = cc in omega arith)
     small d false h = cc
 
-    fits : (o : Option Core) → found o (λ c. cond (ltb 256 (nodes c)) (refused 19) (accepted c)) (refused 18) ≡ accepted c → o ≡ some c
-    fits none h = absurd (let y : ◌≡◌ {A = ℕ} 0 1 = cc in omega arith)
-    fits (some d) h = ap some (small d (ltb 256 (nodes d)) h)
+    fits : (o : Option Core) → found o (λ c. cond (ltb 256 (nodes c)) (refused 19) (accepted c)) (refused 18) ≡ accepted c → o ≡ Some c
+    fits None h = absurd (let y : ◌≡◌ {A = ℕ} 0 1 = cc in omega arith)
+    fits (Some d) h = ap Some (small d (ltb 256 (nodes d)) h)
 
-    declared : (b : Bool) → cond b (refused 17) (found (elaborate q Γ) (λ c. cond (ltb 256 (nodes c)) (refused 19) (accepted c)) (refused 18)) ≡ accepted c → elaborate q Γ ≡ some c
+    declared : (b : Bool) → cond b (refused 17) (found (elaborate q Γ) (λ c. cond (ltb 256 (nodes c)) (refused 19) (accepted c)) (refused 18)) ≡ accepted c → elaborate q Γ ≡ Some c
     declared true h = absurd (let y : ◌≡◌ {A = ℕ} 0 1 = cc in omega arith)
     declared false h = fits (elaborate q Γ) h
 
@@ -45,8 +45,8 @@ unfolding kinds_agree all
 own_kinds R q = each (properties_of q)
   where
     same_kind_lem : (k : Option Kind) → agree k k ≡ true
-    same_kind_lem none = refl
-    same_kind_lem (some k) = kind_refl k
+    same_kind_lem None = refl
+    same_kind_lem (Some k) = kind_refl k
 
     each : (l : List Bytes) → all (λ x. agree (kinds_of R x) (kinds_of R x)) l ≡ true
     each [] = refl

@@ -7,7 +7,7 @@ use native.Mathlib.Omega.{arith}
 use lib.Dec.{eqb, leb}
 use Rattle.text.specs.Bytes.{Bytes, bytes, same, all, is_blank, span, starts}
 use Rattle.text.specs.Class.{is_other}
-use Rattle.text.specs.declared.Order.{Order}
+use Rattle.std.specs.declared.cmp.Ordering.{Ordering}
 use Rattle.language.specs.Comparators.{word, typed, first_typed, is_equal, comparator_code, last_comparator, comparator_from, in_any_namespace}
 use Rattle.language.specs.Semantics.{stands}
 use Rattle.language.specs.References.{stands_as}
@@ -99,22 +99,22 @@ mark_word SurfaceComparator.Less = refl
 mark_word SurfaceComparator.AtLeast = refl
 mark_word SurfaceComparator.AtMost = refl
 
-pub stands_each : (c : SurfaceComparator) (o : Order) → by_core (λ d. stands d o) c ≡ stands_as c o
-stands_each SurfaceComparator.Equal Order.Less = refl
-stands_each SurfaceComparator.Equal Order.Equal = refl
-stands_each SurfaceComparator.Equal Order.Greater = refl
-stands_each SurfaceComparator.Unequal Order.Less = refl
-stands_each SurfaceComparator.Unequal Order.Equal = refl
-stands_each SurfaceComparator.Unequal Order.Greater = refl
-stands_each SurfaceComparator.Greater Order.Less = refl
-stands_each SurfaceComparator.Greater Order.Equal = refl
-stands_each SurfaceComparator.Greater Order.Greater = refl
-stands_each SurfaceComparator.Less Order.Less = refl
-stands_each SurfaceComparator.Less Order.Equal = refl
-stands_each SurfaceComparator.Less Order.Greater = refl
-stands_each SurfaceComparator.AtLeast Order.Less = refl
-stands_each SurfaceComparator.AtLeast Order.Equal = refl
-stands_each SurfaceComparator.AtLeast Order.Greater = refl
-stands_each SurfaceComparator.AtMost Order.Less = refl
-stands_each SurfaceComparator.AtMost Order.Equal = refl
-stands_each SurfaceComparator.AtMost Order.Greater = refl
+pub stands_each : (c : SurfaceComparator) (o : Ordering) → by_core (λ d. stands d o) c ≡ stands_as c o
+stands_each SurfaceComparator.Equal Ordering.Less = refl
+stands_each SurfaceComparator.Equal Ordering.Equal = refl
+stands_each SurfaceComparator.Equal Ordering.Greater = refl
+stands_each SurfaceComparator.Unequal Ordering.Less = refl
+stands_each SurfaceComparator.Unequal Ordering.Equal = refl
+stands_each SurfaceComparator.Unequal Ordering.Greater = refl
+stands_each SurfaceComparator.Greater Ordering.Less = refl
+stands_each SurfaceComparator.Greater Ordering.Equal = refl
+stands_each SurfaceComparator.Greater Ordering.Greater = refl
+stands_each SurfaceComparator.Less Ordering.Less = refl
+stands_each SurfaceComparator.Less Ordering.Equal = refl
+stands_each SurfaceComparator.Less Ordering.Greater = refl
+stands_each SurfaceComparator.AtLeast Ordering.Less = refl
+stands_each SurfaceComparator.AtLeast Ordering.Equal = refl
+stands_each SurfaceComparator.AtLeast Ordering.Greater = refl
+stands_each SurfaceComparator.AtMost Ordering.Less = refl
+stands_each SurfaceComparator.AtMost Ordering.Equal = refl
+stands_each SurfaceComparator.AtMost Ordering.Greater = refl

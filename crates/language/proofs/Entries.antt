@@ -1,8 +1,8 @@
 -- The reader of the register text without its bound, and the equations that its definition writes.
+use Rattle.std.specs.Prelude.{Option, Some, None}
 use Prim.Native.Nat.{ℕ, zero, suc, ◌+◌, ◌≤◌, ◌<◌}
 use mathlib.Core.Path.{◌≡◌, refl, sym, ap, ◌∙◌}
 use mathlib.Core.List.{List, [], ◌∷◌}
-use mathlib.Core.Option.{Option, some, none}
 use native.Mathlib.Omega.{arith}
 use lib.ListN.{length, drop, length-take, length-drop}
 use Rattle.text.specs.Bytes.{Bytes, bytes, span, behind, starts, after}
@@ -34,9 +34,9 @@ kind_leaves : (s : Bytes) → OnSome (Less s) (kind_word_at s)
 unfolding kind_word_at
 kind_leaves s = go (kind_at s) refl
   where
-    go : (o : Option Kind) → kind_at s ≡ o → OnSome (Less s) (o >>= λ k. some (k, drop (length (kind_word k)) s))
-    go none e = tt
-    go (some k) e =
+    go : (o : Option Kind) → kind_at s ≡ o → OnSome (Less s) (o >>= λ k. Some (k, drop (length (kind_word k)) s))
+    go None e = tt
+    go (Some k) e =
         let h = starts_fits (kind_word k) s (kind_stands k s e) in
         let w = word_filled k in omega (arith, length-drop (length (kind_word k)) s)
 
@@ -66,8 +66,8 @@ module _ (p : Place) (s : Bytes) where
   on_quoted : (r : Bytes) (f : Bytes × Bytes → Option Read) → ((x : Bytes × Bytes) → Unquoted r x → OnSome (Six p s) (f x)) → OnSome (Six p s) (quoted r >>= f)
   on_quoted r f k = on_bind (Unquoted r) (Six p s) (quoted r) f (quoted_leaves r) k
 
-  first_of : (a b : Option Read) → OnSome (Six p s) a → OnSome (Six p s) b → OnSome (Six p s) (found a some b)
-  first_of a b h k = on_found (Six p s) (Six p s) a some b h (λ x l. l) k
+  first_of : (a b : Option Read) → OnSome (Six p s) a → OnSome (Six p s) b → OnSome (Six p s) (found a Some b)
+  first_of a b h k = on_found (Six p s) (Six p s) a Some b h (λ x l. l) k
 
 module _ (s : Bytes) where
   six_prop : OnSome (Six line s) (prop_form s)
@@ -114,7 +114,7 @@ module _ (s : Bytes) where
 
 -- an entry, then the others
 abbrev pub with_rest : (Place → Bytes → Option (List Entry)) → Read → Option (List Entry)
-with_rest more e = more e.place e.rest >>= λ l. some (e.entry ∷ l)
+with_rest more e = more e.place e.rest >>= λ l. Some (e.entry ∷ l)
 
 entries_step : (n : ℕ) (p : Place) (s : Bytes) → length s ≤ n → entries_within (suc n) p s ≡ entries_within n p s
 unfolding entries_within next_entry cat_form val_form closing after starts
@@ -125,17 +125,17 @@ entries_step zero inner (b ∷ s) h = absurd (omega arith)
 entries_step (suc n) line [] h = refl
 entries_step (suc n) line (b ∷ s) h =
     same_bind (Six line (b ∷ s)) (next_entry line (b ∷ s)) _ _ (six_next (b ∷ s) line)
-    (λ e l. ap (λ o. o >>= λ l. some (e.entry ∷ l)) (entries_step n e.place e.rest (omega (arith, l.shorter))))
+    (λ e l. ap (λ o. o >>= λ l. Some (e.entry ∷ l)) (entries_step n e.place e.rest (omega (arith, l.shorter))))
 entries_step (suc n) inner s h =
     same_bind (Six inner s) (next_entry inner s) _ _ (six_next s inner)
-    (λ e l. ap (λ o. o >>= λ l. some (e.entry ∷ l)) (entries_step n e.place e.rest (omega (arith, l.shorter))))
+    (λ e l. ap (λ o. o >>= λ l. Some (e.entry ∷ l)) (entries_step n e.place e.rest (omega (arith, l.shorter))))
 
 entries_settled : (n : ℕ) (p : Place) (s : Bytes) → length s ≤ n → entries_within n p s ≡ entries_from p s
 unfolding entries_from
 entries_settled n p s h = settled (λ m. entries_within m p s) _ (λ m. entries_step m p s) n _ h (omega arith)
 
 -- the equations
-pub entries_end : entries_from line [] ≡ some []
+pub entries_end : entries_from line [] ≡ Some []
 unfolding entries_from entries_within
 entries_end = refl
 
@@ -144,14 +144,14 @@ unfolding entries_within
 entries_line b s =
     sym (entries_settled (suc (length (b ∷ s))) line (b ∷ s) (omega arith))
     ∙ same_bind (Six line (b ∷ s)) (next_entry line (b ∷ s)) _ _ (six_next (b ∷ s) line)
-    (λ e l. ap (λ o. o >>= λ l. some (e.entry ∷ l)) (entries_settled (length (b ∷ s)) e.place e.rest (omega (arith, l.shorter))))
+    (λ e l. ap (λ o. o >>= λ l. Some (e.entry ∷ l)) (entries_settled (length (b ∷ s)) e.place e.rest (omega (arith, l.shorter))))
 
 pub entries_inner : (s : Bytes) → entries_from inner s ≡ (next_entry inner s >>= with_rest entries_from)
 unfolding entries_within
 entries_inner s =
     sym (entries_settled (suc (length s)) inner s (omega arith))
     ∙ same_bind (Six inner s) (next_entry inner s) _ _ (six_next s inner)
-    (λ e l. ap (λ o. o >>= λ l. some (e.entry ∷ l)) (entries_settled (length s) e.place e.rest (omega (arith, l.shorter))))
+    (λ e l. ap (λ o. o >>= λ l. Some (e.entry ∷ l)) (entries_settled (length s) e.place e.rest (omega (arith, l.shorter))))
 
 -- the entries weigh no more than the text has bytes
 entries_within_weigh : (n : ℕ) (p : Place) (s : Bytes) → OnSome (λ l. total weight l ≤ length s) (entries_within n p s)

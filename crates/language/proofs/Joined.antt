@@ -1,9 +1,9 @@
 -- The join of two registers is a register, and what it holds. Request 9, "Two regions join".
+use Rattle.std.specs.Prelude.{Option, Some, None}
 use Prim.Native.Nat.{ℕ, ◌+◌, ◌≤◌, ◌<◌}
 use mathlib.Core.Path.{◌≡◌, refl, sym, ap, ap₂, ◌∙◌}
 use mathlib.Core.Bool.{Bool, true, false, cond, ◌&&◌, ◌||◌, false≢true}
 use mathlib.Core.List.{List, [], ◌∷◌, ◌++◌, map, append-nil, Memᴰ}
-use mathlib.Core.Option.{Option, some, none}
 use native.Mathlib.Omega.{arith}
 use borrow.Author.Tests.{not-false}
 use lib.ListN.{length, get_or, length-append, length-map, get_or-append}
@@ -57,8 +57,8 @@ unfolding joined_with
 joined_with_lem P m p a b = go (like_in same_page p m) (like_found same_page p m)
   where
     go : (o : Option Page) → OnSome (λ q. Memᴰ q m × (same_page p q ≡ true)) o → P (found o (join_page p) p)
-    go none h = a
-    go (some q) h = b q h.0
+    go None h = a
+    go (Some q) h = b q h.0
 
 pub joined_identifier : (m : List Page) (p : Page) → (joined_with m p).identifier ≡ p.identifier
 joined_identifier m p = joined_with_lem (λ r. r.identifier ≡ p.identifier) m p refl (λ q i. refl)
@@ -78,29 +78,29 @@ unfolding kind_among like_in
 kind_found x [] = refl
 kind_found x (p ∷ l) = rw (same_property_likeness.turned p (named x)) (go (same x p.name) (kind_found x l))
   where
-    go : (c : Bool) → kind_among l x ≡ kind_in (like_in same_property (named x) l) → cond c (some p.kind) (kind_among l x) ≡ kind_in (cond c (some p) (like_in same_property (named x) l))
+    go : (c : Bool) → kind_among l x ≡ kind_in (like_in same_property (named x) l) → cond c (Some p.kind) (kind_among l x) ≡ kind_in (cond c (Some p) (like_in same_property (named x) l))
     go true h = refl
     go false h = h
 
 -- What is in one of two places, or what f makes of both.
 abbrev pub in_either : {A : Type 0} → (A → A → A) → Option A → Option A → Option A
-in_either f none o = o
-in_either f (some a) none = some a
-in_either f (some a) (some b) = some (f a b)
+in_either f None o = o
+in_either f (Some a) None = Some a
+in_either f (Some a) (Some b) = Some (f a b)
 
 module _ (R S : Register) where
   -- The kind that the first register gives a property, else that of the second.
-  pub kinds_joined : (x : Bytes) → kinds_of (join R S) x ≡ found (kinds_of R x) some (kinds_of S x)
+  pub kinds_joined : (x : Bytes) → kinds_of (join R S) x ≡ found (kinds_of R x) Some (kinds_of S x)
   unfolding join
   kinds_joined x =
       kind_found x (union same_property R.properties S.properties)
       ∙ ap kind_in (like_union same_property_likeness (named x) R.properties S.properties)
       ∙ go (like_in same_property (named x) R.properties) (like_in same_property (named x) S.properties)
-      ∙ sym (ap₂ (λ k l. found k some l) (kind_found x R.properties) (kind_found x S.properties))
+      ∙ sym (ap₂ (λ k l. found k Some l) (kind_found x R.properties) (kind_found x S.properties))
     where
-      go : (o w : Option Property) → kind_in (found o some w) ≡ found (kind_in o) some (kind_in w)
-      go none w = refl
-      go (some p) w = refl
+      go : (o w : Option Property) → kind_in (found o Some w) ≡ found (kind_in o) Some (kind_in w)
+      go None w = refl
+      go (Some p) w = refl
 
   -- Where the kinds do not clash, the second register gives no other kind than the first.
   pub no_clash : kinds_clash R S ≡ false → (x : Bytes) → OnSome (λ k. is_other_kind k (kinds_of S x) ≡ false) (kinds_of R x)
@@ -114,7 +114,7 @@ module _ (R S : Register) where
           go (same p.name x) refl t.0 (among l t.1)
         where
           go : (c : Bool) → same p.name x ≡ c → is_other_kind p.kind (kinds_of S p.name) ≡ false → OnSome (λ k. is_other_kind k (kinds_of S x) ≡ false) (kind_among l x)
-              → OnSome (λ k. is_other_kind k (kinds_of S x) ≡ false) (cond c (some p.kind) (kind_among l x))
+              → OnSome (λ k. is_other_kind k (kinds_of S x) ≡ false) (cond c (Some p.kind) (kind_among l x))
           go true e n i = ap (λ y. is_other_kind p.kind (kinds_of S y)) (sym (same_eq p.name x e)) ∙ n
           go false e n i = i
 
@@ -122,17 +122,17 @@ module _ (R S : Register) where
   kind_first : (x : Bytes) (k : Kind) → has_kind (kinds_of R x) k ≡ true → has_kind (kinds_of (join R S) x) k ≡ true
   kind_first x k h = rw (kinds_joined x) (go (kinds_of R x) h)
     where
-      go : (o : Option Kind) → has_kind o k ≡ true → has_kind (found o some (kinds_of S x)) k ≡ true
-      go none h = absurd (false≢true h)
-      go (some j) h = h
+      go : (o : Option Kind) → has_kind o k ≡ true → has_kind (found o Some (kinds_of S x)) k ≡ true
+      go None h = absurd (false≢true h)
+      go (Some j) h = h
 
   kind_second : kinds_clash R S ≡ false → (x : Bytes) (k : Kind) → has_kind (kinds_of S x) k ≡ true → has_kind (kinds_of (join R S) x) k ≡ true
   kind_second clear x k h = rw (kinds_joined x) (go (kinds_of R x) (kinds_of S x) (no_clash clear x) h)
     where
-      go : (o w : Option Kind) → OnSome (λ j. is_other_kind j w ≡ false) o → has_kind w k ≡ true → has_kind (found o some w) k ≡ true
-      go none w n h = h
-      go (some j) none n h = absurd (false≢true h)
-      go (some j) (some l) n h = rw (kind_eq j l (not-false _ n)) h
+      go : (o w : Option Kind) → OnSome (λ j. is_other_kind j w ≡ false) o → has_kind w k ≡ true → has_kind (found o Some w) k ≡ true
+      go None w n h = h
+      go (Some j) None n h = absurd (false≢true h)
+      go (Some j) (Some l) n h = rw (kind_eq j l (not-false _ n)) h
 
   -- A test that each page of both passes, and the join of two that pass it, is passed by each page of the join.
   pub joined_all : (test : Page → Bool) → all test R.pages ≡ true → all test S.pages ≡ true
@@ -172,17 +172,17 @@ module _ (R S : Register) where
   pages_joined a =
       ap (like_in same_page a) join_pages_lem
       ∙ like_union same_page_likeness a (map (joined_with S.pages) R.pages) S.pages
-      ∙ ap (λ o. found o some (like_in same_page a S.pages)) (like_kept same_page_likeness (joined_with S.pages) (joined_like S.pages) a R.pages)
+      ∙ ap (λ o. found o Some (like_in same_page a S.pages)) (like_kept same_page_likeness (joined_with S.pages) (joined_like S.pages) a R.pages)
       ∙ first (like_in same_page a R.pages) (like_found same_page a R.pages)
     where
-      second : (p : Page) (o : Option Page) → some (found o (join_page p) p) ≡ in_either join_page (some p) o
-      second p none = refl
-      second p (some q) = refl
+      second : (p : Page) (o : Option Page) → Some (found o (join_page p) p) ≡ in_either join_page (Some p) o
+      second p None = refl
+      second p (Some q) = refl
 
       first : (o : Option Page) → OnSome (λ p. Memᴰ p R.pages × (same_page a p ≡ true)) o
-          → found (map_option (joined_with S.pages) o) some (like_in same_page a S.pages) ≡ in_either join_page o (like_in same_page a S.pages)
-      first none h = refl
-      first (some p) h = rw (like_likewise same_page_likeness a p S.pages h.1) (second p (like_in same_page p S.pages))
+          → found (map_option (joined_with S.pages) o) Some (like_in same_page a S.pages) ≡ in_either join_page o (like_in same_page a S.pages)
+      first None h = refl
+      first (Some p) h = rw (like_likewise same_page_likeness a p S.pages h.1) (second p (like_in same_page p S.pages))
 
   -- Two registers whose kinds do not clash join to a register, if that is within the limits.
   pub join_register : is_register R ≡ true → is_register S ≡ true → kinds_clash R S ≡ false → is_within_limits (join R S) ≡ true → is_register (join R S) ≡ true

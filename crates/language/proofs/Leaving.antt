@@ -1,9 +1,9 @@
 -- Every reader of the query text leaves less of it, or no more.
+use Rattle.std.specs.Prelude.{Option, Some, None}
 use Prim.Native.Nat.{ℕ, zero, suc, ◌+◌, ◌≤◌, ◌<◌}
 use mathlib.Core.Path.{◌≡◌, refl}
 use mathlib.Core.Bool.{Bool, true, false}
 use mathlib.Core.List.{List, [], ◌∷◌}
-use mathlib.Core.Option.{Option, some, none}
 use native.Mathlib.Omega.{arith}
 use lib.ListN.{length, take, drop, length-drop}
 use Rattle.text.specs.Bytes.{Bytes, bytes, all, is_blank, behind, starts, after}
@@ -41,11 +41,11 @@ head_leaves [] = tt
 head_leaves (b ∷ s) = go (starts (bytes "::") (b ∷ s)) (ends_head (b ∷ s)) refl (head_leaves s)
   where
     shifted : (o : Option ℕ) → OnSome (λ k. 2 + k ≤ length s) o → OnSome (λ k. 2 + k ≤ suc (length s)) (map_option suc o)
-    shifted none h = tt
-    shifted (some k) h = omega (arith, h)
+    shifted None h = tt
+    shifted (Some k) h = omega (arith, h)
 
     go : (t u : Bool) → starts (bytes "::") (b ∷ s) ≡ t → OnSome (λ k. 2 + k ≤ length s) (head_length s)
-        → OnSome (λ k. 2 + k ≤ suc (length s)) (elim t [ true ↦ some 0 | false ↦ elim u [ true ↦ none | false ↦ map_option suc (head_length s) ] ])
+        → OnSome (λ k. 2 + k ≤ suc (length s)) (elim t [ true ↦ Some 0 | false ↦ elim u [ true ↦ None | false ↦ map_option suc (head_length s) ] ])
     go true u e h = let f = starts_fits (bytes "::") (b ∷ s) e in omega arith
     go false true e h = tt
     go false false e h = shifted (head_length s) h
@@ -56,9 +56,9 @@ drop_leaves k s h = omega (arith, length-drop (2 + k) s)
 pub next_leaves : (s : Bytes) → OnSome (λ r. length r ≤ length s) (next_term s)
 unfolding next_term
 next_leaves s =
-    at_found (bytes "AND") some _ (omega arith) (λ r l. omega arith)
-    (at_found (bytes "[[") (λ r. some s) _ (omega arith) (λ r l. omega arith)
-    (at_found (bytes "<q>") (λ r. some s) none (omega arith) (λ r l. omega arith) tt))
+    at_found (bytes "AND") Some _ (omega arith) (λ r l. omega arith)
+    (at_found (bytes "[[") (λ r. Some s) _ (omega arith) (λ r l. omega arith)
+    (at_found (bytes "<q>") (λ r. Some s) None (omega arith) (λ r l. omega arith) tt))
   where
     at_found : (w : Bytes) (f : Bytes → Option Bytes) (y : Option Bytes) → 1 ≤ length w → ((r : Bytes) → Behind s r → OnSome (λ r. length r ≤ length s) (f r)) → OnSome (λ r. length r ≤ length s) y → OnSome (λ r. length r ≤ length s) (found (token w s) f y)
     at_found w f y h k z = on_found (Behind s) _ (token w s) f y (token_leaves w s h) k z

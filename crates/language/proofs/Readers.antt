@@ -1,9 +1,9 @@
 -- The readers of the query text without their bounds: with enough, more changes nothing, and each reader has the equation
 -- that its definition writes.
+use Rattle.std.specs.Prelude.{Some}
 use Prim.Native.Nat.{ℕ, zero, suc, ◌+◌, ◌*◌, ◌<◌}
 use mathlib.Core.Path.{◌≡◌, ap, ◌∙◌}
 use mathlib.Core.List.{[], ◌∷◌}
-use mathlib.Core.Option.{some}
 use native.Mathlib.Omega.{arith}
 use native.Mathlib.Nat.{add-suc}
 use lib.ListN.{length, take, drop}
@@ -20,7 +20,7 @@ unfolding pieces_within
 pieces_step zero s h = absurd (omega arith)
 pieces_step (suc n) s h =
     same_found _ (after (bytes "||") (piece_at s).1) _ _ _ (after_leaves (bytes "||") (piece_at s).1)
-    (λ r l. ap (λ o. o >>= λ x. some ((piece_at s).0 ∷ x.0, x.1)) (pieces_step n r (let k = piece_leaves s in omega arith)))
+    (λ r l. ap (λ o. o >>= λ x. Some ((piece_at s).0 ∷ x.0, x.1)) (pieces_step n r (let k = piece_leaves s in omega arith)))
 
 mutual
   unfolding query_within
@@ -141,7 +141,7 @@ module _ (s : Bytes) where
       ∙ same_bind (Less s) (conjunction_within (4 * length s + 3) s) _ _ (conjunction_leaves (4 * length s + 3) s) (λ q l. or_settled (4 * length s + 3) q.1 q.0 (omega arith))
       ∙ ap (λ o. o >>= λ q. read_or q.0 q.1) (conjunction_settled (4 * length s + 3) s (omega arith))
 
-  pub or_eq : (a : RawQuery) → read_or a s ≡ found (token (bytes "OR") s) (λ r. read_conjunction r >>= λ b. read_or (RawQuery.disjunction a b.0) b.1) (some (a, s))
+  pub or_eq : (a : RawQuery) → read_or a s ≡ found (token (bytes "OR") s) (λ r. read_conjunction r >>= λ b. read_or (RawQuery.disjunction a b.0) b.1) (Some (a, s))
   unfolding read_or query_within
   or_eq a =
       one_down (λ m. or_within m a s) 0
@@ -156,7 +156,7 @@ module _ (s : Bytes) where
       ∙ same_bind (Less s) (term_within (4 * length s + 2) s) _ _ (term_leaves (4 * length s + 2) s) (λ q l. and_settled (4 * length s + 2) q.1 q.0 (omega arith))
       ∙ ap (λ o. o >>= λ q. read_and q.0 q.1) (term_settled (4 * length s + 2) s (omega arith))
 
-  pub and_eq : (a : RawQuery) → read_and a s ≡ found (next_term s) (λ r. read_term r >>= λ b. read_and (RawQuery.conjunction a b.0) b.1) (some (a, s))
+  pub and_eq : (a : RawQuery) → read_and a s ≡ found (next_term s) (λ r. read_term r >>= λ b. read_and (RawQuery.conjunction a b.0) b.1) (Some (a, s))
   unfolding read_and query_within
   and_eq a =
       one_down (λ m. and_within m a s) 1
@@ -188,7 +188,7 @@ module _ (s : Bytes) where
       ∙ same_bind (NoMore s) (alternative_within (4 * length s + 1) s) _ _ (alternative_leaves (4 * length s + 1) s) (λ a l. more_settled (4 * length s + 1) a.1 a.0 (omega arith))
       ∙ ap (λ o. o >>= λ a. read_more a.0 a.1) (alternative_settled (4 * length s + 1) s (omega arith))
 
-  pub more_eq : (a : RawAlternatives) → read_more a s ≡ found (after (bytes "||") s) (λ r. read_alternative r >>= λ b. read_more (RawAlternatives.either a b.0) b.1) (some (a, s))
+  pub more_eq : (a : RawAlternatives) → read_more a s ≡ found (after (bytes "||") s) (λ r. read_alternative r >>= λ b. read_more (RawAlternatives.either a b.0) b.1) (Some (a, s))
   unfolding read_more query_within
   more_eq a =
       one_down (λ m. more_within m a s) 0
@@ -196,18 +196,18 @@ module _ (s : Bytes) where
       (λ r l. same_bind (NoMore r) (alternative_within (4 * length s + 0) r) _ _ (alternative_leaves (4 * length s + 0) r) (λ b m. more_settled (4 * length s + 0) b.1 (RawAlternatives.either a b.0) (omega arith))
       ∙ ap (λ o. o >>= λ b. read_more (RawAlternatives.either a b.0) b.1) (alternative_settled (4 * length s + 0) r (omega arith)))
 
-  pub alternative_eq : read_alternative s ≡ found (token (bytes "<q>") s) (λ r. read_query r >>= λ q. closed_inner q.0 q.1) (some (RawAlternatives.piece (piece_at s).0, (piece_at s).1))
+  pub alternative_eq : read_alternative s ≡ found (token (bytes "<q>") s) (λ r. read_query r >>= λ q. closed_inner q.0 q.1) (Some (RawAlternatives.piece (piece_at s).0, (piece_at s).1))
   unfolding read_alternative query_within
   alternative_eq =
       one_down (λ m. alternative_within m s) 0
       ∙ same_found (Behind s) (token (bytes "<q>") s) _ _ _ (token_leaves (bytes "<q>") s (omega arith))
       (λ r l. ap (λ o. o >>= λ q. closed_inner q.0 q.1) (query_settled (4 * length s + 0) r (omega arith)))
 
-  pub pieces_eq : read_pieces s ≡ found (after (bytes "||") (piece_at s).1) (λ r. read_pieces r >>= λ l. some ((piece_at s).0 ∷ l.0, l.1)) (after (bytes "]]") (piece_at s).1 >>= λ r. some ((piece_at s).0 ∷ [], r))
+  pub pieces_eq : read_pieces s ≡ found (after (bytes "||") (piece_at s).1) (λ r. read_pieces r >>= λ l. Some ((piece_at s).0 ∷ l.0, l.1)) (after (bytes "]]") (piece_at s).1 >>= λ r. Some ((piece_at s).0 ∷ [], r))
   unfolding read_pieces pieces_within
   pieces_eq =
       same_found _ (after (bytes "||") (piece_at s).1) _ _ _ (after_leaves (bytes "||") (piece_at s).1)
-      (λ r l. ap (λ o. o >>= λ x. some ((piece_at s).0 ∷ x.0, x.1)) (pieces_settled (length s) r (let k = piece_leaves s in omega arith)))
+      (λ r l. ap (λ o. o >>= λ x. Some ((piece_at s).0 ∷ x.0, x.1)) (pieces_settled (length s) r (let k = piece_leaves s in omega arith)))
 
 -- what each reader leaves of its text
 module _ (s : Bytes) where

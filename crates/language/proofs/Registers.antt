@@ -1,9 +1,9 @@
 -- Accepted register texts give sound registers.
+use Rattle.std.specs.Prelude.{Option, Some, None}
 use Prim.Native.Nat.{ℕ, ◌≤◌}
 use mathlib.Core.Path.{◌≡◌, refl, sym, ap, ◌∙◌, subst}
 use mathlib.Core.Bool.{Bool, true, false, cond, not, ◌||◌}
 use mathlib.Core.List.{List, [], ◌∷◌}
-use mathlib.Core.Option.{Option, some, none}
 use native.Mathlib.Omega.{arith}
 use borrow.Author.Tests.{ltb-false}
 use lib.Dec.{ltb}
@@ -40,12 +40,12 @@ module _ (ps : List Property) where
   value_rightly x v = go (kind_among ps x)
     where
       read : (k : Kind) (o : Option Value) → read_value k v ≡ o → OnSome (λ w. same_kind k (kind_of w) ≡ true) o
-      read k none e = tt
-      read k (some w) e = rw (read_kind k v w e) (kind_refl k)
+      read k None e = tt
+      read k (Some w) e = rw (read_kind k v w e) (kind_refl k)
 
       go : (o : Option Kind) → OnSome (λ w. has_kind o (kind_of w) ≡ true) (o >>= λ k. read_value k v)
-      go none = tt
-      go (some k) = read k (read_value k v) refl
+      go None = tt
+      go (Some k) = read k (read_value k v) refl
 
   -- what the inner forms leave as it was
   pub filled_identifier : (p : Page) (l : List Entry) → (filled ps p l).identifier ≡ p.identifier
@@ -57,8 +57,8 @@ module _ (ps : List Property) where
   filled_identifier p (val x v ∷ l) = filled_identifier _ l ∙ go (value_of ps x v)
     where
       go : (o : Option Value) → (found o (λ w. with_value x w p) p).identifier ≡ p.identifier
-      go none = refl
-      go (some w) = refl
+      go None = refl
+      go (Some w) = refl
   filled_identifier p (close ∷ l) = refl
 
   filled_rightly : (p : Page) (l : List Entry) → all rightly p.values ≡ true → all rightly (filled ps p l).values ≡ true
@@ -70,8 +70,8 @@ module _ (ps : List Property) where
   filled_rightly p (val x v ∷ l) h = filled_rightly _ l (go (value_of ps x v) (value_rightly x v))
     where
       go : (o : Option Value) → OnSome (λ w. has_kind (kind_among ps x) (kind_of w) ≡ true) o → all rightly (found o (λ w. with_value x w p) p).values ≡ true
-      go none r = h
-      go (some w) r =
+      go None r = h
+      go (Some w) r =
           let g : Held = record { property = x; value = w } in
           rw (held_added g p.values) (all_added same_held g p.values rightly r h)
   filled_rightly p (close ∷ l) h = h
@@ -151,7 +151,7 @@ entries_sound l once few =
 -- What the checks of an accepted text found: k are its entries as typed, l those with names composed.
 pub record Passed (s : Bytes) (k l : List Entry) : Type 0 where
   pub short : length s ≤ 32768
-  pub read : entries s ≡ some k
+  pub read : entries s ≡ Some k
   pub ruled : any breaks_rule k ≡ false
   pub composed : composed_entries k ≡ l
   pub once : some_twice l ≡ false
@@ -164,7 +164,7 @@ pub of_accepted : (P : Register → Type 0) (s : Bytes) (R : Register) → read_
 unfolding read_register
 of_accepted P s R h f = long (ltb 32768 (length s)) refl h
   where
-    judged : (k : List Entry) → length s ≤ 32768 → entries s ≡ some k → judge (checks k) (register_of (composed_entries k)) ≡ accepted R → P R
+    judged : (k : List Entry) → length s ≤ 32768 → entries s ≡ Some k → judge (checks k) (register_of (composed_entries k)) ≡ accepted R → P R
     judged k short read h =
         let l = composed_entries k in
         let t3 = judge_passed 3 (any breaks_rule k) _ (register_of l) R h in
@@ -176,8 +176,8 @@ of_accepted P s R h f = long (ltb 32768 (length s)) refl h
         (f k l (record { short = short; read = read; ruled = t3.0; composed = refl; once = t4.0; declared = t5.0; fit = t6.0; few = t7.0 }))
 
     taken : (o : Option (List Entry)) → length s ≤ 32768 → entries s ≡ o → found o (λ l. judge (checks l) (register_of (composed_entries l))) (refused 2) ≡ accepted R → P R
-    taken none short read h = absurd (let y : ◌≡◌ {A = ℕ} 0 1 = cc in omega arith)
-    taken (some l) short read h = judged l short read h
+    taken None short read h = absurd (let y : ◌≡◌ {A = ℕ} 0 1 = cc in omega arith)
+    taken (Some l) short read h = judged l short read h
 
     long : (b : Bool) → ltb 32768 (length s) ≡ b → cond b (refused 1) (found (entries s) (λ l. judge (checks l) (register_of (composed_entries l))) (refused 2)) ≡ accepted R → P R
     long true e h = absurd (let y : ◌≡◌ {A = ℕ} 0 1 = cc in omega arith)

@@ -1,13 +1,13 @@
 -- The meaning page by page is membership in the page sets of the thesis.
+use Rattle.std.specs.Prelude.{Option, Some, None, IsSome}
 use mathlib.Core.Path.{◌≡◌, refl, sym, ap, ◌∙◌, subst}
 use mathlib.Core.Bool.{Bool, true, false, cond, not, ◌&&◌, ◌||◌, true≢false, false≢true}
 use mathlib.Core.List.Memᴰ
 use mathlib.Core.List.{List, [], ◌∷◌, Memᴰ}
 use mathlib.Core.Logic.{◌⊎◌, inl, inr, ⊎_elim, ⊎_map, ◌↔◌}
-use mathlib.Core.Option.{Option, some, none, IsSome}
 use borrow.Author.Tests.{not-true}
 use Rattle.text.specs.Bytes.{Bytes, order_of, same, any}
-use Rattle.text.specs.declared.Order.{Order}
+use Rattle.std.specs.declared.cmp.Ordering.{Ordering}
 use Rattle.text.proofs.Laws.{same_eq, same_refl, order_eq, eq_order}
 use Rattle.values.specs.Names.{Identifier, Reference, same_identifier}
 use Rattle.values.specs.Values.{Constant, Value, plain, link, order_constants, is_equal_order}
@@ -36,28 +36,28 @@ either true b = (λ h. inl refl, λ h. refl)
 either false b = (inr, ⊎_elim (λ e. absurd (false≢true e)) (λ e. e))
 
 -- what a comparator asks of an order
-is_equal_lem : (o : Order) → stands Comparator.Equal o ≡ true → o ≡ Order.Equal
-is_equal_lem Order.Less h = absurd (false≢true h)
-is_equal_lem Order.Equal h = refl
-is_equal_lem Order.Greater h = absurd (false≢true h)
+is_equal_lem : (o : Ordering) → stands Comparator.Equal o ≡ true → o ≡ Ordering.Equal
+is_equal_lem Ordering.Less h = absurd (false≢true h)
+is_equal_lem Ordering.Equal h = refl
+is_equal_lem Ordering.Greater h = absurd (false≢true h)
 
-is_greater : (o : Order) → stands Comparator.Greater o ≡ true → o ≡ Order.Greater
-is_greater Order.Less h = absurd (false≢true h)
-is_greater Order.Equal h = absurd (false≢true h)
-is_greater Order.Greater h = refl
+is_greater : (o : Ordering) → stands Comparator.Greater o ≡ true → o ≡ Ordering.Greater
+is_greater Ordering.Less h = absurd (false≢true h)
+is_greater Ordering.Equal h = absurd (false≢true h)
+is_greater Ordering.Greater h = refl
 
-is_less_lem : (o : Order) → stands Comparator.Less o ≡ true → o ≡ Order.Less
-is_less_lem Order.Less h = refl
-is_less_lem Order.Equal h = absurd (false≢true h)
-is_less_lem Order.Greater h = absurd (false≢true h)
+is_less_lem : (o : Ordering) → stands Comparator.Less o ≡ true → o ≡ Ordering.Less
+is_less_lem Ordering.Less h = refl
+is_less_lem Ordering.Equal h = absurd (false≢true h)
+is_less_lem Ordering.Greater h = absurd (false≢true h)
 
-unequal : (o : Order) → (o ≡ Order.Equal → ⊥) → stands Comparator.Unequal o ≡ true
-unequal Order.Less n = refl
-unequal Order.Equal n = absurd (n refl)
-unequal Order.Greater n = refl
+unequal : (o : Ordering) → (o ≡ Ordering.Equal → ⊥) → stands Comparator.Unequal o ≡ true
+unequal Ordering.Less n = refl
+unequal Ordering.Equal n = absurd (n refl)
+unequal Ordering.Greater n = refl
 
 -- of two things that are equal where their order is
-compared : {A : Type 0} (c : Comparator) (x y : A) (o : Order) → (o ≡ Order.Equal) ↔ (x ≡ y) → (stands c o ≡ true) ↔ compares c x y o
+compared : {A : Type 0} (c : Comparator) (x y : A) (o : Ordering) → (o ≡ Ordering.Equal) ↔ (x ≡ y) → (stands c o ≡ true) ↔ compares c x y o
 compared Comparator.Equal x y o e = (λ h. e.0 (is_equal_lem o h), λ p. ap (stands Comparator.Equal) (e.1 p))
 compared Comparator.Unequal x y o e =
     (λ h p. true≢false (sym h ∙ ap (stands Comparator.Unequal) (e.1 p)), λ n. unequal o (λ p. n (e.0 p)))
@@ -70,7 +70,7 @@ unfolding Ca
 names_compared c x y = compared c x y (order_of x y) (order_eq x y, eq_order x y)
 
 -- 5.3.1, the comparators as written
-written_compared : {A : Type 0} (c : SurfaceComparator) (x y : A) (o : Order) → (o ≡ Order.Equal) ↔ (x ≡ y) → (stands_as c o ≡ true) ↔ compares_as c x y o
+written_compared : {A : Type 0} (c : SurfaceComparator) (x y : A) (o : Ordering) → (o ≡ Ordering.Equal) ↔ (x ≡ y) → (stands_as c o ≡ true) ↔ compares_as c x y o
 written_compared c x y o e = rw (← stands_each c o) (go (or_equal c) refl)
   where
     strict : (stands (strictly c) o ≡ true) ↔ compares (strictly c) x y o
@@ -86,9 +86,9 @@ written_compared c x y o e = rw (← stands_each c o) (go (or_equal c) refl)
     go false q = (λ h. inl (strict.0 h), λ t. ⊎_elim strict.1 (λ k. absurd (false≢true (sym q ∙ k.0))) t)
 
 -- the identifiers that a reference means
-namespace_meant_lem : (o : Option Bytes) (x : Bytes) → (found o (λ n. same x n) true ≡ true) ↔ ((n : Bytes) → o ≡ some n → x ≡ n)
-namespace_meant_lem none x = (λ h n e. let i : ◌≡◌ {A = Option Bytes} none (some n) = e in cc, λ f. refl)
-namespace_meant_lem (some m) x = (λ h n e. let i : m ≡ n = cc in same_eq x m h ∙ i, λ f. (same_is x m).1 (f m refl))
+namespace_meant_lem : (o : Option Bytes) (x : Bytes) → (found o (λ n. same x n) true ≡ true) ↔ ((n : Bytes) → o ≡ Some n → x ≡ n)
+namespace_meant_lem None x = (λ h n e. let i : ◌≡◌ {A = Option Bytes} None (Some n) = e in cc, λ f. refl)
+namespace_meant_lem (Some m) x = (λ h n e. let i : m ≡ n = cc in same_eq x m h ∙ i, λ f. (same_is x m).1 (f m refl))
 
 identifiers_meant : (c : SurfaceComparator) (r : Reference) (i : Identifier) → (is_meant c r i ≡ true) ↔ (i ∈ meant c r)
 unfolding is_meant
@@ -100,9 +100,9 @@ identifiers_meant c r i =
     )
 
 -- 4.5.2
-ordered_equal : (v w : Constant) (o : Order) → order_constants v w ≡ some o → (o ≡ Order.Equal) ↔ (v ≡ w)
+ordered_equal : (v w : Constant) (o : Ordering) → order_constants v w ≡ Some o → (o ≡ Ordering.Equal) ↔ (v ≡ w)
 ordered_equal v w o e =
-    (λ p. inside (value_eq (plain v) (plain w) (ap is_equal_order (e ∙ ap some p))), λ p. is_equal_lem o (ap is_equal_order (sym e ∙ ap (order_constants v) (sym p)) ∙ value_refl (plain v)))
+    (λ p. inside (value_eq (plain v) (plain w) (ap is_equal_order (e ∙ ap Some p))), λ p. is_equal_lem o (ap is_equal_order (sym e ∙ ap (order_constants v) (sym p)) ∙ value_refl (plain v)))
   where
     inside : plain v ≡ plain w → v ≡ w
     inside p = cc
@@ -111,9 +111,9 @@ constants_compared : (c : Comparator) (v w : Constant) → (Cv no_mixed c w (pla
 unfolding Cv
 constants_compared c v w = go (order_constants v w) refl
   where
-    go : (q : Option Order) → order_constants v w ≡ q → (found q (stands c) false ≡ true) ↔ ((o : Order) × (q ≡ some o) × compares c v w o)
-    go none e = (λ h. absurd (false≢true h), λ t. let i : ◌≡◌ {A = Option Order} none (some t.0) = t.1 in cc)
-    go (some o) e =
+    go : (q : Option Ordering) → order_constants v w ≡ q → (found q (stands c) false ≡ true) ↔ ((o : Ordering) × (q ≡ Some o) × compares c v w o)
+    go None e = (λ h. absurd (false≢true h), λ t. let i : ◌≡◌ {A = Option Ordering} None (Some t.0) = t.1 in cc)
+    go (Some o) e =
         let is = compared c v w o (ordered_equal v w o e) in
         (λ h. (o, refl, is.0 h), λ t. let i : t.0 ≡ o = cc in is.1 (subst (compares c v w) i t.2))
 
@@ -165,7 +165,7 @@ links_meant x c r p =
     there (link i) h = (i, refl, (identifiers_meant c r i).0 h)
 
 -- The page that is named: that of the one page with the identifier.
-named : {p : Page} (l : List Page) → distinct same_page l ≡ true → Memᴰ p l → page_named l p.identifier ≡ some (page_of p)
+named : {p : Page} (l : List Page) → distinct same_page l ≡ true → Memᴰ p l → page_named l p.identifier ≡ Some (page_of p)
 unfolding distinct page_named
 named {p = p} [] h x' = elim x' [ ]
 named (x ∷ l) h (Memᴰ.head e) = rw (e, identifier_refl x.identifier)
@@ -182,7 +182,7 @@ known (x ∷ l) i h = go (same_identifier x.identifier i) refl h (known l i)
     Found : List Page → Type 0
     Found l = (p : Page) × Memᴰ p l × (same_identifier p.identifier i ≡ true)
 
-    go : (b : Bool) → same_identifier x.identifier i ≡ b → IsSome (cond b (some (page_of x)) (page_named l i)) → (i ∈ dom (page_named l) → Found l) → Found (x ∷ l)
+    go : (b : Bool) → same_identifier x.identifier i ≡ b → IsSome (cond b (Some (page_of x)) (page_named l i)) → (i ∈ dom (page_named l) → Found l) → Found (x ∷ l)
     go true e h later = (x, Memᴰ.head refl, e)
     go false e h later = let t = later h in (t.0, Memᴰ.tail t.1, t.2)
 

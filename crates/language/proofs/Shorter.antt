@@ -1,8 +1,8 @@
 -- Every reader of a text leaves less of it.
+use Rattle.std.specs.Prelude.{Option, Some, None}
 use Prim.Native.Nat.{ℕ, ◌+◌, ◌≤◌, ◌<◌}
 use mathlib.Core.Path.{◌≡◌, refl}
 use mathlib.Core.Bool.{Bool, true, false, cond}
-use mathlib.Core.Option.{Option, some, none}
 use native.Mathlib.Omega.{arith}
 use lib.ListN.{length, drop, length-drop}
 use Rattle.text.specs.Bytes.{Bytes, span, behind, starts, after}
@@ -22,7 +22,7 @@ pub after_leaves : (w s : Bytes) → OnSome (λ r. length r + length w ≤ lengt
 unfolding after
 after_leaves w s = go (starts w s) refl
   where
-    go : (t : Bool) → starts w s ≡ t → OnSome (λ r. length r + length w ≤ length s) (cond t (some (drop (length w) s)) none)
+    go : (t : Bool) → starts w s ≡ t → OnSome (λ r. length r + length w ≤ length s) (cond t (Some (drop (length w) s)) None)
     go true e = let h = starts_fits w s e in omega (arith, length-drop (length w) s)
     go false e = tt
 
@@ -31,5 +31,5 @@ behind_leaves p s = omega (arith, length-drop (span p s) s)
 
 -- what holds of the one branch or of the other
 pub of_found : {A B : Type 0} (P : B → Type 0) (o : Option A) (f : A → B) (y : B) → OnSome (λ a. P (f a)) o → P y → P (found o f y)
-of_found P none f y h z = z
-of_found P (some a) f y h z = h
+of_found P None f y h z = z
+of_found P (Some a) f y h z = h

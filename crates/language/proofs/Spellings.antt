@@ -1,7 +1,7 @@
 -- Replacing a name in a query by another spelling of it changes no answer.
+use Rattle.std.specs.Prelude.{Some}
 use mathlib.Core.Path.{◌≡◌, refl, ap, ap₂}
 use mathlib.Core.Bool.{true}
-use mathlib.Core.Option.{some}
 use Rattle.text.specs.Bytes.{Bytes}
 use Rattle.names.specs.Names.{composed_name}
 use Rattle.names.proofs.Composed.{two_spellings}
@@ -61,6 +61,6 @@ module _ (v w : Bytes) (h : is_reference (reference v) ≡ true) (k : is_referen
   unfolding elaborate_value
   pieces_one x c = rw (h, k, references_one (reference v) (reference w) t)
 
-  pub meanings_one : (x : Bytes) (c : SurfaceComparator) (p : Page) → means_value x c v (some Kind.Page) p ≡ means_value x c w (some Kind.Page) p
+  pub meanings_one : (x : Bytes) (c : SurfaceComparator) (p : Page) → means_value x c v (Some Kind.Page) p ≡ means_value x c w (Some Kind.Page) p
   unfolding means_value
   meanings_one x c p = rw (h, k, references_one (reference v) (reference w) t)

@@ -1,9 +1,9 @@
 -- Type soundness, thesis 5.3.5: a query that elaborates is well-typed by 4.4.3.
+use Rattle.std.specs.Prelude.{Option, Some, None}
 use Prim.Native.Nat.{ℕ}
 use mathlib.Core.Path.{◌≡◌, refl, ap, subst}
 use mathlib.Core.Bool.{Bool, true, false, cond}
 use mathlib.Core.List.{[]}
-use mathlib.Core.Option.{Option, some, none}
 use Rattle.text.specs.Bytes.{Bytes}
 use Rattle.values.specs.declared.Kind.{Kind}
 use Rattle.values.specs.Names.{Reference, bare, qualified, reference, is_reference, composed_reference}
@@ -28,8 +28,8 @@ constant_kind Kind.Page s = tt
 constant_kind (Kind.Scalar k) s = go (read_scalar k s)
   where
     go : (o : Option ℕ) → OnSome (λ v. kind_of_constant v ≡ Kind.Scalar k) (map_option (scalar k) o)
-    go none = tt
-    go (some c) = refl
+    go None = tt
+    go (Some c) = refl
 constant_kind Kind.String s = refl
 
 module _ (Γ : Typing) where
@@ -70,14 +70,14 @@ module _ (Γ : Typing) where
 
   constant_typed : (x : Bytes) (c : SurfaceComparator) (k : Kind) → has_kind (Γ x) k ≡ true → (o : Option Constant) → OnSome (λ v. kind_of_constant v ≡ k) o → OnSome Typed (map_option (elaborate_constant x c) o)
   unfolding well_typed elaborate_constant
-  constant_typed x c k h none e = tt
-  constant_typed x c k h (some v) e = compared_typed (λ d. Core.select (Selector.value x d v)) c (λ d. rw e h)
+  constant_typed x c k h None e = tt
+  constant_typed x c k h (Some v) e = compared_typed (λ d. Core.select (Selector.value x d v)) c (λ d. rw e h)
 
   value_typed : (x : Bytes) (c : SurfaceComparator) (v : Bytes) (k : Kind) → has_kind (Γ x) k ≡ true → OnSome Typed (elaborate_value x c v k)
   unfolding elaborate_value well_typed
   value_typed x c v Kind.Page h = go (is_reference (reference v))
     where
-      go : (b : Bool) → OnSome Typed (cond b (some (Core.select (Selector.link x c (composed_reference (reference v))))) none)
+      go : (b : Bool) → OnSome Typed (cond b (Some (Core.select (Selector.link x c (composed_reference (reference v))))) None)
       go true = h
       go false = tt
   value_typed x c v (Kind.Scalar k) h = constant_typed x c (Kind.Scalar k) h (read_constant (Kind.Scalar k) v) (constant_kind (Kind.Scalar k) v)
@@ -87,25 +87,25 @@ module _ (Γ : Typing) where
   piece_typed x c v = go (Γ x) refl
     where
       go : (o : Option Kind) → Γ x ≡ o → OnSome Typed (o >>= elaborate_value x c v)
-      go none e = tt
-      go (some k) e = value_typed x c v k (rw e (kind_refl k))
+      go None e = tt
+      go (Some k) e = value_typed x c v k (rw e (kind_refl k))
 
   inside_typed : (x : Bytes) (o : Option Core) → OnSome Typed o → OnSome Typed (inside x (Γ x) o)
   unfolding inside well_typed
   inside_typed x o h = go (Γ x) refl o h
     where
       go : (k : Option Kind) → Γ x ≡ k → (o : Option Core) → OnSome Typed o → OnSome Typed (inside x k o)
-      go none e o h = tt
-      go (some Kind.Page) e none h = tt
-      go (some Kind.Page) e (some c) h = both_true (ap (λ k. has_kind k Kind.Page) e) h
-      go (some (Kind.Scalar k)) e o h = tt
-      go (some Kind.String) e o h = tt
+      go None e o h = tt
+      go (Some Kind.Page) e None h = tt
+      go (Some Kind.Page) e (Some c) h = both_true (ap (λ k. has_kind k Kind.Page) e) h
+      go (Some (Kind.Scalar k)) e o h = tt
+      go (Some Kind.String) e o h = tt
 
   joined_typed : (k : Core → Core → Core) → ((a b : Core) → Typed a → Typed b → Typed (k a b)) → (a b : Option Core) → OnSome Typed a → OnSome Typed b → OnSome Typed (joined k a b)
   unfolding joined
-  joined_typed k law none b h i = tt
-  joined_typed k law (some a) none h i = tt
-  joined_typed k law (some a) (some b) h i = law a b h i
+  joined_typed k law None b h i = tt
+  joined_typed k law (Some a) None h i = tt
+  joined_typed k law (Some a) (Some b) h i = law a b h i
 
   along_typed : (p : Chain) (f : Bytes → Option Core) → ((x : Bytes) → OnSome Typed (f x)) → OnSome Typed (along Γ p f)
   unfolding along
@@ -133,5 +133,5 @@ module _ (Γ : Typing) where
     query_typed (Query.conjunction a b) = joined_typed Core.conjunction and_typed (elaborate a Γ) (elaborate b Γ) (query_typed a) (query_typed b)
 
 -- The theorem.
-pub elaborated_typed : (q : Query) (Γ : Typing) (c : Core) → elaborate q Γ ≡ some c → well_typed c Γ ≡ true
+pub elaborated_typed : (q : Query) (Γ : Typing) (c : Core) → elaborate q Γ ≡ Some c → well_typed c Γ ≡ true
 elaborated_typed q Γ c e = subst (OnSome (Typed Γ)) e (query_typed Γ q)

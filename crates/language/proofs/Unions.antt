@@ -1,9 +1,9 @@
 -- Lists joined by a test of likeness: laws of `only_in`, `union`, `like_in` and `distinct`.
+use Rattle.std.specs.Prelude.{Option, Some, None}
 use mathlib.Core.Path.{◌≡◌, refl, sym, ap, ap₂, ◌∙◌}
 use mathlib.Core.Bool.{Bool, true, false, cond, not, ◌&&◌, ◌||◌, true≢false, false≢true}
 use mathlib.Core.List.Memᴰ
 use mathlib.Core.List.{List, [], ◌∷◌, ◌++◌, map, append-nil, Memᴰ}
-use mathlib.Core.Option.{Option, some, none}
 use borrow.Author.Tests.{not-true}
 use Rattle.text.specs.Bytes.{any, all}
 use Rattle.text.proofs.Laws.{all_append, any_append}
@@ -80,10 +80,10 @@ module _ {A : Type 0} (alike : A → A → Bool) where
   like_found a [] = tt
   like_found a (b ∷ l) = go (alike a b) refl (like_in alike a l) (like_found a l)
     where
-      go : (c : Bool) → alike a b ≡ c → (o : Option A) → OnSome (λ x. Memᴰ x l × (alike a x ≡ true)) o → OnSome (λ x. Memᴰ x (b ∷ l) × (alike a x ≡ true)) (cond c (some b) o)
+      go : (c : Bool) → alike a b ≡ c → (o : Option A) → OnSome (λ x. Memᴰ x l × (alike a x ≡ true)) o → OnSome (λ x. Memᴰ x (b ∷ l) × (alike a x ≡ true)) (cond c (Some b) o)
       go true e o h = (Memᴰ.head refl, e)
-      go false e none h = tt
-      go false e (some x) h = (Memᴰ.tail h.0, h.1)
+      go false e None h = tt
+      go false e (Some x) h = (Memᴰ.tail h.0, h.1)
 
   -- Something is like a where one is found.
   like_any : (a : A) (l : List A) → any (alike a) l ≡ found (like_in alike a l) (λ b. true) false
@@ -91,16 +91,16 @@ module _ {A : Type 0} (alike : A → A → Bool) where
   like_any a [] = refl
   like_any a (b ∷ l) = go (alike a b) (like_any a l)
     where
-      go : (c : Bool) → any (alike a) l ≡ found (like_in alike a l) (λ x. true) false → c || any (alike a) l ≡ found (cond c (some b) (like_in alike a l)) (λ x. true) false
+      go : (c : Bool) → any (alike a) l ≡ found (like_in alike a l) (λ x. true) false → c || any (alike a) l ≡ found (cond c (Some b) (like_in alike a l)) (λ x. true) false
       go true h = refl
       go false h = h
 
-  like_append : (a : A) (l m : List A) → like_in alike a (l ++ m) ≡ found (like_in alike a l) some (like_in alike a m)
+  like_append : (a : A) (l m : List A) → like_in alike a (l ++ m) ≡ found (like_in alike a l) Some (like_in alike a m)
   unfolding like_in
   like_append a [] m = refl
   like_append a (b ∷ l) m = go (alike a b) (like_append a l m)
     where
-      go : (c : Bool) → like_in alike a (l ++ m) ≡ found (like_in alike a l) some (like_in alike a m) → cond c (some b) (like_in alike a (l ++ m)) ≡ found (cond c (some b) (like_in alike a l)) some (like_in alike a m)
+      go : (c : Bool) → like_in alike a (l ++ m) ≡ found (like_in alike a l) Some (like_in alike a m) → cond c (Some b) (like_in alike a (l ++ m)) ≡ found (cond c (Some b) (like_in alike a l)) Some (like_in alike a m)
       go true h = refl
       go false h = h
 
@@ -172,7 +172,7 @@ module _ {A : Type 0} {alike : A → A → Bool} (s : Likeness alike) where
   union_self l = ap (λ m. l ++ m) (only_self l) ∙ append-nil l
 
   -- Where no two are alike, each is the one that is found like it.
-  pub like_self : (l : List A) → distinct alike l ≡ true → {a : A} → Memᴰ a l → like_in alike a l ≡ some a
+  pub like_self : (l : List A) → distinct alike l ≡ true → {a : A} → Memᴰ a l → like_in alike a l ≡ Some a
   unfolding distinct like_in
   like_self [] h {a = a} x' = elim x' [ ]
   like_self (x ∷ l) h {a} (Memᴰ.head e) = rw (e, s.itself x)
@@ -181,7 +181,7 @@ module _ {A : Type 0} {alike : A → A → Bool} (s : Likeness alike) where
       rw (s.turned a x, any_at (alike x) (not-true _ t.0) i) (like_self l t.1 i)
 
   -- What is like something in the union: that of the first list, else that of the second.
-  pub like_union : (a : A) (l m : List A) → like_in alike a (union alike l m) ≡ found (like_in alike a l) some (like_in alike a m)
+  pub like_union : (a : A) (l m : List A) → like_in alike a (union alike l m) ≡ found (like_in alike a l) Some (like_in alike a m)
   unfolding like_in only_in
   like_union a l m = like_append alike a l (only_in alike l m) ∙ first (like_in alike a l) refl
     where
@@ -190,15 +190,15 @@ module _ {A : Type 0} {alike : A → A → Bool} (s : Likeness alike) where
       only h (b ∷ m) = go (any (alike b) l) (alike a b) refl refl (only h m)
         where
           go : (c d : Bool) → any (alike b) l ≡ c → alike a b ≡ d → like_in alike a (only_in alike l m) ≡ like_in alike a m
-              → like_in alike a (cond c (only_in alike l m) (b ∷ only_in alike l m)) ≡ cond d (some b) (like_in alike a m)
+              → like_in alike a (cond c (only_in alike l m) (b ∷ only_in alike l m)) ≡ cond d (Some b) (like_in alike a m)
           go true true e f i = absurd (true≢false (sym e ∙ sym (any_same (alike a) (alike b) l (λ x j. s.likewise a b f x)) ∙ h))
           go true false e f i = i
           go false true e f i = rw f
           go false false e f i = rw f i
 
-      first : (o : Option A) → like_in alike a l ≡ o → found o some (like_in alike a (only_in alike l m)) ≡ found o some (like_in alike a m)
-      first none e = only (like_any alike a l ∙ ap (λ o. found o (λ b. true) false) e) m
-      first (some b) e = refl
+      first : (o : Option A) → like_in alike a l ≡ o → found o Some (like_in alike a (only_in alike l m)) ≡ found o Some (like_in alike a m)
+      first None e = only (like_any alike a l ∙ ap (λ o. found o (λ b. true) false) e) m
+      first (Some b) e = refl
 
   -- What is found like a thing is found like those like it.
   pub like_likewise : (a b : A) (l : List A) → alike a b ≡ true → like_in alike a l ≡ like_in alike b l
@@ -223,7 +223,7 @@ module _ {A : Type 0} {alike : A → A → Bool} (s : Likeness alike) where
     like_kept a [] = refl
     like_kept a (b ∷ l) = rw (keeps a b) (go (alike a b) (like_kept a l))
       where
-        go : (c : Bool) → like_in alike a (map f l) ≡ map_option f (like_in alike a l) → cond c (some (f b)) (like_in alike a (map f l)) ≡ map_option f (cond c (some b) (like_in alike a l))
+        go : (c : Bool) → like_in alike a (map f l) ≡ map_option f (like_in alike a l) → cond c (Some (f b)) (like_in alike a (map f l)) ≡ map_option f (cond c (Some b) (like_in alike a l))
         go true h = refl
         go false h = h
 

@@ -1,7 +1,6 @@
 -- When a query that was fitted to one register may be run on another. The third demand's grant: "each property it names has
 -- the same kind in both, or isn't declared in the second".
-use Rattle.std.specs.Prelude.{Bool, true}
-use Rattle.std.proofs.Math.Option.{Option, some, none}
+use Rattle.std.specs.Prelude.{Bool, true, Option, Some, None}
 use Rattle.text.specs.Bytes.{Bytes, all}
 use Rattle.values.specs.declared.Kind.{Kind}
 use Rattle.language.specs.Answer.{Answer, refused, accepted}
@@ -11,8 +10,8 @@ use Rattle.language.specs.QueryText.{read_text}
 
 -- The kind at fitting, and the kind in the register of the run.
 abbrev pub agree : Option Kind → Option Kind → Bool
-agree k none = true
-agree k (some l) = has_kind k l
+agree k None = true
+agree k (Some l) = has_kind k l
 
 unfoldable pub kinds_agree : Typing → Register → Query → Bool
 kinds_agree Γ R q = all (λ x. agree (Γ x) (kinds_of R x)) (properties_of q)

@@ -1,6 +1,5 @@
 -- What a call answers, and how a refusal's number is chosen. Document 01, "What each call turns away".
-use Rattle.std.specs.Prelude.{ℕ, ◌≡◌, Bool, true, false, cond, List, [], ◌∷◌}
-use Rattle.std.proofs.Math.Option.{Option, some, none}
+use Rattle.std.specs.Prelude.{ℕ, ◌≡◌, Bool, true, false, cond, List, [], ◌∷◌, Option, Some, None}
 
 -- "A refusal returns only its number"
 pub data Answer (A : Type 0) : Type 0 where
@@ -14,12 +13,12 @@ number_of (accepted a) = 0
 
 -- What was accepted, and what a call refuses by n where there is nothing.
 abbrev pub accepted_of : {A : Type 0} → Answer A → Option A
-accepted_of (refused n) = none
-accepted_of (accepted a) = some a
+accepted_of (refused n) = None
+accepted_of (accepted a) = Some a
 
 abbrev pub or_refuse : {A : Type 0} → ℕ → Option A → Answer A
-or_refuse n none = refused n
-or_refuse n (some a) = accepted a
+or_refuse n None = refused n
+or_refuse n (Some a) = accepted a
 
 -- The buffer b behind a call whose answer is what it leaves there: as it was where the call is refused.
 abbrev pub left_in : {A : Type 0} → A → Answer A → A
@@ -45,19 +44,19 @@ module _ {A : Type 0} where
 -- What was read, where the test passes.
 abbrev pub only_if : {A : Type 0} → Bool → Option A → Option A
 only_if true o = o
-only_if false o = none
+only_if false o = None
 
 module _ {A B : Type 0} where
   -- What was read, read on; nothing where nothing was read.
   infixl 10 ◌>>=◌
   abbrev pub ◌>>=◌ : Option A → (A → Option B) → Option B
-  none >>= f = none
-  some a >>= f = f a
+  None >>= f = None
+  Some a >>= f = f a
 
   -- What f makes of what was read, else y.
   abbrev pub found : Option A → (A → B) → B → B
-  found none f y = y
-  found (some a) f y = f a
+  found None f y = y
+  found (Some a) f y = f a
 
   -- An accepted answer, answered on.
   abbrev pub and_then : Answer A → (A → Answer B) → Answer B

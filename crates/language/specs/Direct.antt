@@ -1,6 +1,5 @@
 -- The direct meaning of a query, page by page, with no core query in it. Document 01, "Text to core", its last paragraph.
-use Rattle.std.specs.Prelude.{Bool, true, false, cond, ◌&&◌, ◌||◌, List, map}
-use Rattle.std.proofs.Math.Option.{Option, some, none}
+use Rattle.std.specs.Prelude.{Bool, true, false, cond, ◌&&◌, ◌||◌, List, map, Option, Some, None}
 use Rattle.text.specs.Bytes.{Bytes, same, any}
 use Rattle.values.specs.declared.Kind.{Kind}
 use Rattle.values.specs.Names.{Reference, reference, is_reference, composed_reference}
@@ -37,11 +36,11 @@ means_link c r (plain w) = false
 means_link c r (link i) = is_meant c r i
 
 unfoldable pub means_value : Bytes → SurfaceComparator → Bytes → Option Kind → Page → Bool
-means_value x c v none p = false
-means_value x c v (some Kind.Page) p =
+means_value x c v None p = false
+means_value x c v (Some Kind.Page) p =
     cond (is_reference (reference v)) (holds x (means_link c (composed_reference (reference v))) p) false
-means_value x c v (some (Kind.Scalar k)) p = found (read_constant (Kind.Scalar k) v) (λ w. holds x (stands_to c w) p) false
-means_value x c v (some Kind.String) p = found (read_constant Kind.String v) (λ w. holds x (stands_to c w) p) false
+means_value x c v (Some (Kind.Scalar k)) p = found (read_constant (Kind.Scalar k) v) (λ w. holds x (stands_to c w) p) false
+means_value x c v (Some Kind.String) p = found (read_constant Kind.String v) (λ w. holds x (stands_to c w) p) false
 
 -- "a chain `a.p` wants a link under `a` to one that the rest selects"
 unfoldable pub means_chain : Register → Chain → (Bytes → Page → Bool) → Page → Bool

@@ -1,6 +1,5 @@
 -- Elaboration of surface queries to core queries: thesis 5.3.1 to 5.3.4, with document 01's decisions ("Text to core").
-use Rattle.std.specs.Prelude.{Bool, true, false, cond, [], ltb}
-use Rattle.std.proofs.Math.Option.{Option, some, none}
+use Rattle.std.specs.Prelude.{Bool, true, false, cond, [], ltb, Option, Some, None}
 use Rattle.text.specs.Bytes.{Bytes, any}
 use Rattle.values.specs.declared.Kind.{Kind}
 use Rattle.values.specs.Names.{Reference, bare, qualified, reference, is_reference, composed_reference}
@@ -54,19 +53,19 @@ subquery_on x q = Core.select (Selector.subquery x q)
 -- On a page property "one link node with any of the six comparators", its reference's names composed. On the other kinds 5.3.3.
 unfoldable pub elaborate_value : Bytes → SurfaceComparator → Bytes → Kind → Option Core
 elaborate_value x c v Kind.Page =
-    cond (is_reference (reference v)) (some (Core.select (Selector.link x c (composed_reference (reference v))))) none
+    cond (is_reference (reference v)) (Some (Core.select (Selector.link x c (composed_reference (reference v))))) None
 elaborate_value x c v (Kind.Scalar k) = map_option (elaborate_constant x c) (read_constant (Kind.Scalar k) v)
 elaborate_value x c v Kind.String = map_option (elaborate_constant x c) (read_constant Kind.String v)
 
 -- A query inside a page property, undefined on the other kinds.
 unfoldable pub inside : Bytes → Option Kind → Option Core → Option Core
-inside x none q = none
-inside x (some Kind.Page) q = map_option (subquery_on x) q
-inside x (some (Kind.Scalar k)) q = none
-inside x (some Kind.String) q = none
+inside x None q = None
+inside x (Some Kind.Page) q = map_option (subquery_on x) q
+inside x (Some (Kind.Scalar k)) q = None
+inside x (Some Kind.String) q = None
 
 unfoldable pub joined : (Core → Core → Core) → Option Core → Option Core → Option Core
-joined k a b = a >>= λ c. b >>= λ d. some (k c d)
+joined k a b = a >>= λ c. b >>= λ d. Some (k c d)
 
 -- "A chain `a.p` is a subquery on `a` over `p` with the same alternatives": f elaborates those at the last name.
 unfoldable pub along : Typing → Chain → (Bytes → Option Core) → Option Core
@@ -76,14 +75,14 @@ along Γ (chain x p) f = inside x (Γ x) (along Γ p f)
 -- 5.3.4.
 unfoldable mutual
   pub elaborate_in : Alternatives → Typing → Bytes → Option Core
-  elaborate_in Alternatives.existence Γ x = some (Core.select (Selector.existence x))
+  elaborate_in Alternatives.existence Γ x = Some (Core.select (Selector.existence x))
   elaborate_in (Alternatives.value c v) Γ x = Γ x >>= elaborate_value x c v
   elaborate_in (Alternatives.subquery q) Γ x = inside x (Γ x) (elaborate q Γ)
   elaborate_in (Alternatives.either a b) Γ x = joined Core.disjunction (elaborate_in a Γ x) (elaborate_in b Γ x)
 
   pub elaborate : Query → Typing → Option Core
-  elaborate (Query.category c) Γ = some (elaborate_categories c)
-  elaborate (Query.identifier i) Γ = some (elaborate_identifiers i)
+  elaborate (Query.category c) Γ = Some (elaborate_categories c)
+  elaborate (Query.identifier i) Γ = Some (elaborate_identifiers i)
   elaborate (Query.property p a) Γ = along Γ p (λ x. elaborate_in a Γ x)
   elaborate (Query.disjunction a b) Γ = joined Core.disjunction (elaborate a Γ) (elaborate b Γ)
   elaborate (Query.conjunction a b) Γ = joined Core.conjunction (elaborate a Γ) (elaborate b Γ)

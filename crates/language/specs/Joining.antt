@@ -1,6 +1,5 @@
 -- Two registers as one. Request 9, "Two regions join".
-use Rattle.std.specs.Prelude.{Bool, false, cond, not, List, [], ◌∷◌, ◌++◌, map}
-use Rattle.std.proofs.Math.Option.{Option, some, none}
+use Rattle.std.specs.Prelude.{Bool, false, cond, not, List, [], ◌∷◌, ◌++◌, map, Option, Some, None}
 use Rattle.text.specs.Bytes.{same, any}
 use Rattle.values.specs.declared.Kind.{Kind}
 use Rattle.language.specs.Answer.{found}
@@ -24,8 +23,8 @@ module _ {A : Type 0} (alike : A → A → Bool) where
 
   -- The first of the list that is like a.
   unfoldable pub like_in : A → List A → Option A
-  like_in a [] = none
-  like_in a (b ∷ m) = cond (alike a b) (some b) (like_in a m)
+  like_in a [] = None
+  like_in a (b ∷ m) = cond (alike a b) (Some b) (like_in a m)
 
 -- "A page in both has the categories and values of both."
 abbrev pub join_page : Page → Page → Page
@@ -51,8 +50,8 @@ join R S =
 
 -- 32: "a property has two kinds"
 abbrev pub is_other_kind : Kind → Option Kind → Bool
-is_other_kind k none = false
-is_other_kind k (some l) = not (same_kind k l)
+is_other_kind k None = false
+is_other_kind k (Some l) = not (same_kind k l)
 
 unfoldable pub kinds_clash : Register → Register → Bool
 kinds_clash R S = any (λ p. is_other_kind p.kind (kinds_of S p.name)) R.properties

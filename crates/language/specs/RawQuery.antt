@@ -1,6 +1,5 @@
 -- The grammar of the query text: bytes to a raw query, whose names and values are not judged yet. Document 01, "The query text".
-use Rattle.std.specs.Prelude.{ℕ, zero, suc, ◌+◌, ◌*◌, Bool, true, false, cond, ◌||◌, List, [], ◌∷◌, eqb, length, take, drop}
-use Rattle.std.proofs.Math.Option.{Option, some, none}
+use Rattle.std.specs.Prelude.{ℕ, zero, suc, ◌+◌, ◌*◌, Bool, true, false, cond, ◌||◌, List, [], ◌∷◌, eqb, length, take, drop, Option, Some, None}
 use Rattle.text.specs.Bytes.{Bytes, bytes, all, is_blank, front, behind, trim, starts, after}
 use Rattle.text.specs.Class.{is_free}
 use Rattle.values.specs.Values.{map_option}
@@ -48,11 +47,11 @@ ends_head s = starts (bytes "|") s || starts (bytes "<q>") s || starts (bytes "]
 
 -- "If `::` comes before any `|`, `<q>` or `]]`": how many bytes stand before it.
 unfoldable pub head_length : Bytes → Option ℕ
-head_length [] = none
+head_length [] = None
 head_length (b ∷ s) =
     elim (starts (bytes "::") (b ∷ s)) [
-      | true ↦ some 0
-      | false ↦ elim (ends_head (b ∷ s)) [ true ↦ none | false ↦ map_option suc (head_length s) ]
+      | true ↦ Some 0
+      | false ↦ elim (ends_head (b ∷ s)) [ true ↦ None | false ↦ map_option suc (head_length s) ]
     ]
 
 -- "The head is property names parted by `.`", each trimmed.
@@ -70,85 +69,85 @@ trim_names (chain x p) = chain (trim x) (trim_names p)
 
 -- Pieces parted by `||`, then `]]`: the rest of a bracket without `::`. The number bounds how many are read.
 unfoldable pub pieces_within : ℕ → Bytes → Option (List Piece × Bytes)
-pieces_within zero s = none
+pieces_within zero s = None
 pieces_within (suc n) s =
     let (p, r) = piece_at s in
-    found (after (bytes "||") r) (λ r. pieces_within n r >>= λ l. some (p ∷ l.0, l.1))
-    (after (bytes "]]") r >>= λ r. some (p ∷ [], r))
+    found (after (bytes "||") r) (λ r. pieces_within n r >>= λ l. Some (p ∷ l.0, l.1))
+    (after (bytes "]]") r >>= λ r. Some (p ∷ [], r))
 
 unfoldable pub read_pieces : Bytes → Option (List Piece × Bytes)
 read_pieces s = pieces_within (suc (length s)) s
 
 abbrev pub bracket_of : List Piece → Option RawQuery
-bracket_of [] = none
-bracket_of (p ∷ l) = some (RawQuery.pieces p l)
+bracket_of [] = None
+bracket_of (p ∷ l) = Some (RawQuery.pieces p l)
 
 -- A bracket's body without `::`, and its `]]`.
 unfoldable pub plain_body : Bytes → Option (RawQuery × Bytes)
 plain_body s = do
   (l, r) ← read_pieces s
   q ← bracket_of l
-  some (q, r)
+  Some (q, r)
 
 -- What closes an alternative that is a subquery: `</q>` "with only blanks after".
 unfoldable pub closed_inner : RawQuery → Bytes → Option (RawAlternatives × Bytes)
 closed_inner q s = do
   r ← token (bytes "</q>") s
-  some (RawAlternatives.subquery q, behind is_blank r)
+  Some (RawAlternatives.subquery q, behind is_blank r)
 
 -- What closes a group.
 unfoldable pub closed_group : RawQuery → Bytes → Option (RawQuery × Bytes)
 closed_group q s = do
   r ← token (bytes "</q>") s
-  some (RawQuery.group q, r)
+  Some (RawQuery.group q, r)
 
 -- What closes a property body.
 unfoldable pub closed_body : Chain → RawAlternatives → Bytes → Option (RawQuery × Bytes)
 closed_body c a s = do
   r ← after (bytes "]]") s
-  some (RawQuery.property c a, r)
+  Some (RawQuery.property c a, r)
 
 -- Where the next term of a conjunction begins: behind `AND`, or where a bracket or a group stands.
 unfoldable pub next_term : Bytes → Option Bytes
 next_term s =
-    found (token (bytes "AND") s) some
-    (found (token (bytes "[[") s) (λ r. some s)
-    (found (token (bytes "<q>") s) (λ r. some s) none))
+    found (token (bytes "AND") s) Some
+    (found (token (bytes "[[") s) (λ r. Some s)
+    (found (token (bytes "<q>") s) (λ r. Some s) None))
 
 -- The readers call each other; the first number bounds how deep. Below they are published without it.
 unfoldable mutual
   -- "A query is conjunctions parted by `OR`"
   pub query_within : ℕ → Bytes → Option (RawQuery × Bytes)
-  query_within zero s = none
+  query_within zero s = None
   query_within (suc n) s = conjunction_within n s >>= λ q. or_within n q.0 q.1
 
   pub or_within : ℕ → RawQuery → Bytes → Option (RawQuery × Bytes)
-  or_within zero a s = none
+  or_within zero a s = None
   or_within (suc n) a s =
       found (token (bytes "OR") s)
       (λ r. conjunction_within n r >>= λ b. or_within n (RawQuery.disjunction a b.0) b.1)
-      (some (a, s))
+      (Some (a, s))
 
   -- "a conjunction is terms side by side or with `AND` between"
   pub conjunction_within : ℕ → Bytes → Option (RawQuery × Bytes)
-  conjunction_within zero s = none
+  conjunction_within zero s = None
   conjunction_within (suc n) s = term_within n s >>= λ q. and_within n q.0 q.1
 
   pub and_within : ℕ → RawQuery → Bytes → Option (RawQuery × Bytes)
-  and_within zero a s = none
+  and_within zero a s = None
   and_within (suc n) a s =
-      found (next_term s) (λ r. term_within n r >>= λ b. and_within n (RawQuery.conjunction a b.0) b.1) (some (a, s))
+      found (next_term s) (λ r. term_within n r >>= λ b. and_within n (RawQuery.conjunction a b.0) b.1) (Some (a, s))
 
   -- "a term is a bracket or `<q>` query `</q>`"
   pub term_within : ℕ → Bytes → Option (RawQuery × Bytes)
-  term_within zero s = none
+  term_within zero s = None
   term_within (suc n) s =
       found (token (bytes "<q>") s) (λ r. query_within n r >>= λ q. closed_group q.0 q.1)
       (token (bytes "[[") s >>= λ r. body_within n r)
 
   -- "A bracket is `[[` body `]]`." With `::` the body is "a head, `::`, alternatives parted by `||`".
   pub body_within : ℕ → Bytes → Option (RawQuery × Bytes)
-  body_within zero s = none
+  body_within zero s = None
   body_within (suc n) s =
       found (head_length s)
       (λ k.
@@ -157,23 +156,23 @@ unfoldable mutual
       (plain_body s)
 
   pub alternatives_within : ℕ → Bytes → Option (RawAlternatives × Bytes)
-  alternatives_within zero s = none
+  alternatives_within zero s = None
   alternatives_within (suc n) s = alternative_within n s >>= λ a. more_within n a.0 a.1
 
   pub more_within : ℕ → RawAlternatives → Bytes → Option (RawAlternatives × Bytes)
-  more_within zero a s = none
+  more_within zero a s = None
   more_within (suc n) a s =
       found (after (bytes "||") s)
       (λ r. alternative_within n r >>= λ b. more_within n (RawAlternatives.either a b.0) b.1)
-      (some (a, s))
+      (Some (a, s))
 
   -- "An alternative that begins with `<q>`, blanks aside, is a subquery, closed by `</q>` with only blanks after; any other is a
   -- piece."
   pub alternative_within : ℕ → Bytes → Option (RawAlternatives × Bytes)
-  alternative_within zero s = none
+  alternative_within zero s = None
   alternative_within (suc n) s =
       found (token (bytes "<q>") s) (λ r. query_within n r >>= λ q. closed_inner q.0 q.1)
-      (some (RawAlternatives.piece (piece_at s).0, (piece_at s).1))
+      (Some (RawAlternatives.piece (piece_at s).0, (piece_at s).1))
 
 -- Each reader with a bound that the text never reaches: four calls at the most lie between one byte and the next.
 abbrev pub enough : ℕ → Bytes → ℕ
@@ -208,4 +207,4 @@ read_alternative s = alternative_within (enough 0 s) s
 
 -- The query that the whole text is.
 unfoldable pub read_whole : Bytes → Option RawQuery
-read_whole s = read_query s >>= λ q. only_if (eqb (length (behind is_blank q.1)) 0) (some q.0)
+read_whole s = read_query s >>= λ q. only_if (eqb (length (behind is_blank q.1)) 0) (Some q.0)

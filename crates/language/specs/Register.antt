@@ -1,6 +1,5 @@
 -- Registers: properties with their kinds, and pages. Thesis 4.3.1, 4.3.2, 4.4.2; document 01, "The register text".
-use Rattle.std.specs.Prelude.{◌≤◌, ◌≡◌, Bool, true, false, cond, not, ◌&&◌, List, [], ◌∷◌, length}
-use Rattle.std.proofs.Math.Option.{Option, some, none}
+use Rattle.std.specs.Prelude.{◌≤◌, ◌≡◌, Bool, true, false, cond, not, ◌&&◌, List, [], ◌∷◌, length, Option, Some, None}
 use Rattle.text.specs.Bytes.{Bytes, same, any, all}
 use Rattle.values.specs.declared.Kind.{Kind}
 use Rattle.values.specs.Names.{Identifier, same_identifier}
@@ -32,16 +31,16 @@ abbrev pub Typing : Type 0
 Typing = Bytes → Option Kind
 
 unfoldable pub kind_among : List Property → Typing
-kind_among [] x = none
-kind_among (p ∷ l) x = cond (same p.name x) (some p.kind) (kind_among l x)
+kind_among [] x = None
+kind_among (p ∷ l) x = cond (same p.name x) (Some p.kind) (kind_among l x)
 
 abbrev pub kinds_of : Register → Typing
 kinds_of R = kind_among R.properties
 
 -- The kind is declared, and is k.
 abbrev pub has_kind : Option Kind → Kind → Bool
-has_kind none k = false
-has_kind (some l) k = same_kind l k
+has_kind None k = false
+has_kind (Some l) k = same_kind l k
 
 -- The page holds, under the property x, a value that passes the test.
 unfoldable pub holds : Bytes → (Value → Bool) → Page → Bool

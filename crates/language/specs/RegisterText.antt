@@ -1,6 +1,5 @@
 -- The register text: bytes to a register, or the lowest of 1 to 7. Document 01, "The register text".
-use Rattle.std.specs.Prelude.{ℕ, zero, suc, ◌+◌, Bool, true, false, cond, not, ◌&&◌, ◌||◌, List, [], ◌∷◌, map, ltb, length, drop}
-use Rattle.std.proofs.Math.Option.{Option, some, none}
+use Rattle.std.specs.Prelude.{ℕ, zero, suc, ◌+◌, Bool, true, false, cond, not, ◌&&◌, ◌||◌, List, [], ◌∷◌, map, ltb, length, drop, Option, Some, None}
 use Rattle.text.specs.Bytes.{Bytes, bytes, same, any, front, behind, after}
 use Rattle.text.specs.Class.{is_quotable}
 use Rattle.values.specs.declared.Kind.{Kind}
@@ -34,13 +33,13 @@ unfoldable pub quoted : Bytes → Option (Bytes × Bytes)
 quoted s = do
   r ← after (bytes "\"") s
   e ← after (bytes "\"") (behind is_quotable r)
-  some (front is_quotable r, e)
+  Some (front is_quotable r, e)
 
 -- One of the four kind words, and what is behind it.
 unfoldable pub kind_word_at : Bytes → Option (Kind × Bytes)
 kind_word_at s = do
   k ← kind_at s
-  some (k, drop (length (kind_word k)) s)
+  Some (k, drop (length (kind_word k)) s)
 
 -- `(prop "Lot" string)` and byte 10
 unfoldable pub prop_form : Bytes → Option Read
@@ -50,7 +49,7 @@ prop_form s = do
   r ← after (bytes " ") r
   (k, r) ← kind_word_at r
   r ← after (bytes ")\n") r
-  some (record { entry = prop x k; place = line; rest = r })
+  Some (record { entry = prop x k; place = line; rest = r })
 
 -- `(page "Talk" "D1"`
 unfoldable pub page_form : Bytes → Option Read
@@ -59,7 +58,7 @@ page_form s = do
   (n, r) ← quoted r
   r ← after (bytes " ") r
   (x, r) ← quoted r
-  some (record { entry = page n x; place = inner; rest = r })
+  Some (record { entry = page n x; place = inner; rest = r })
 
 -- ` (cat "Note")`
 unfoldable pub cat_form : Bytes → Option Read
@@ -67,7 +66,7 @@ cat_form s = do
   r ← after (bytes " (cat ") s
   (x, r) ← quoted r
   r ← after (bytes ")") r
-  some (record { entry = cat x; place = inner; rest = r })
+  Some (record { entry = cat x; place = inner; rest = r })
 
 -- ` (val "Lot" "A7")`
 unfoldable pub val_form : Bytes → Option Read
@@ -77,27 +76,27 @@ val_form s = do
   r ← after (bytes " ") r
   (v, r) ← quoted r
   r ← after (bytes ")") r
-  some (record { entry = val x v; place = inner; rest = r })
+  Some (record { entry = val x v; place = inner; rest = r })
 
 -- `)` and byte 10
 unfoldable pub closing : Bytes → Option Read
 closing s = do
   r ← after (bytes ")\n") s
-  some (record { entry = close; place = line; rest = r })
+  Some (record { entry = close; place = line; rest = r })
 
 -- The entry at the front.
 unfoldable pub next_entry : Place → Bytes → Option Read
-next_entry line s = found (prop_form s) some (page_form s)
-next_entry inner s = found (cat_form s) some (found (val_form s) some (closing s))
+next_entry line s = found (prop_form s) Some (page_form s)
+next_entry inner s = found (cat_form s) Some (found (val_form s) Some (closing s))
 
 -- The entries of a text, or none: it is not lines of the two forms. The number bounds how many are read.
 unfoldable pub entries_within : ℕ → Place → Bytes → Option (List Entry)
-entries_within zero line [] = some []
-entries_within zero line (b ∷ s) = none
-entries_within zero inner s = none
-entries_within (suc n) line [] = some []
-entries_within (suc n) line (b ∷ s) = next_entry line (b ∷ s) >>= λ e. entries_within n e.place e.rest >>= λ l. some (e.entry ∷ l)
-entries_within (suc n) inner s = next_entry inner s >>= λ e. entries_within n e.place e.rest >>= λ l. some (e.entry ∷ l)
+entries_within zero line [] = Some []
+entries_within zero line (b ∷ s) = None
+entries_within zero inner s = None
+entries_within (suc n) line [] = Some []
+entries_within (suc n) line (b ∷ s) = next_entry line (b ∷ s) >>= λ e. entries_within n e.place e.rest >>= λ l. Some (e.entry ∷ l)
+entries_within (suc n) inner s = next_entry inner s >>= λ e. entries_within n e.place e.rest >>= λ l. Some (e.entry ∷ l)
 
 -- Every entry has a byte, so a text has no more entries than bytes.
 unfoldable pub entries_from : Place → Bytes → Option (List Entry)

@@ -1,7 +1,7 @@
 -- The meaning of core queries, page by page: thesis 4.5.1 to 4.5.3; the mismatch of document 01, "Text to core".
 use Rattle.std.specs.Prelude.{Bool, true, false, cond, not, ◌&&◌, ◌||◌, List, map}
 use Rattle.text.specs.Bytes.{Bytes, order_of, same, any}
-use Rattle.text.specs.declared.Order.{Order}
+use Rattle.std.specs.declared.cmp.Ordering.{Ordering}
 use Rattle.values.specs.declared.Kind.{Kind}
 use Rattle.values.specs.Names.{Reference}
 use Rattle.values.specs.Values.{Constant, Value, plain, link, kind_of, kind_of_constant, order_constants, same_kind}
@@ -13,19 +13,19 @@ use Rattle.language.specs.declared.Comparator.{Comparator}
 use Rattle.language.specs.declared.SurfaceComparator.{SurfaceComparator}
 
 -- The order is what the comparator asks for.
-abbrev pub stands : Comparator → Order → Bool
-stands Comparator.Equal Order.Less = false
-stands Comparator.Equal Order.Equal = true
-stands Comparator.Equal Order.Greater = false
-stands Comparator.Unequal Order.Less = true
-stands Comparator.Unequal Order.Equal = false
-stands Comparator.Unequal Order.Greater = true
-stands Comparator.Greater Order.Less = false
-stands Comparator.Greater Order.Equal = false
-stands Comparator.Greater Order.Greater = true
-stands Comparator.Less Order.Less = true
-stands Comparator.Less Order.Equal = false
-stands Comparator.Less Order.Greater = false
+abbrev pub stands : Comparator → Ordering → Bool
+stands Comparator.Equal Ordering.Less = false
+stands Comparator.Equal Ordering.Equal = true
+stands Comparator.Equal Ordering.Greater = false
+stands Comparator.Unequal Ordering.Less = true
+stands Comparator.Unequal Ordering.Equal = false
+stands Comparator.Unequal Ordering.Greater = true
+stands Comparator.Greater Ordering.Less = false
+stands Comparator.Greater Ordering.Equal = false
+stands Comparator.Greater Ordering.Greater = true
+stands Comparator.Less Ordering.Less = true
+stands Comparator.Less Ordering.Equal = false
+stands Comparator.Less Ordering.Greater = false
 
 -- What the thesis leaves undefined (4.5.2): a comparison of a value with a constant of another kind, and a value that is no
 -- link where a link is looked for.

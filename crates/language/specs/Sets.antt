@@ -1,10 +1,9 @@
 -- The meaning of core queries on sets, as the thesis writes it: 4.3.1, 4.3.2 and 4.5.1 to 4.5.3. That the meaning page by page
 -- (Semantics.antt) is membership in these sets is proved: `page_set_lem` and `page_set_known`.
-use Rattle.std.specs.Prelude.{◌≡◌, true, cond, ◌⊎◌, ◌≢◌}
+use Rattle.std.specs.Prelude.{◌≡◌, true, cond, ◌⊎◌, ◌≢◌, Option, Some, None, IsSome}
 use mathlib.Core.List.{List, [], ◌∷◌, Memᴰ}
-use Rattle.std.proofs.Math.Option.{Option, some, none, IsSome}
 use Rattle.text.specs.Bytes.{Bytes, order_of}
-use Rattle.text.specs.declared.Order.{Order}
+use Rattle.std.specs.declared.cmp.Ordering.{Ordering}
 use Rattle.values.specs.Names.{Identifier, Reference, same_identifier}
 use Rattle.values.specs.Values.{Constant, Value, plain, link, order_constants}
 use Rattle.language.specs.Register as Registers
@@ -55,23 +54,23 @@ dom D i = IsSome (D i)
 
 -- cats and props of `D i`. Of ⊥ they are empty; 4.5.3 asks only for i in dom D.
 abbrev pub cats : Option Page → 𝒫 Bytes
-cats none x = ⊥
-cats (some p) x = x ∈ p.cats
+cats None x = ⊥
+cats (Some p) x = x ∈ p.cats
 
 abbrev pub props : Option Page → Bytes → 𝒫 Value
-props none x v = ⊥
-props (some p) x v = v ∈ p.props x
+props None x v = ⊥
+props (Some p) x v = v ∈ p.props x
 
 -- A set of values, as the set of the identifiers in it.
 abbrev pub idents : 𝒫 Value → 𝒫 Identifier
 idents X i = link i ∈ X
 
 -- The four lines of 4.5.1, which are those of 4.5.2, of two things whose order is o.
-abbrev pub compares : {A : Type 0} → Comparator → A → A → Order → Type 0
+abbrev pub compares : {A : Type 0} → Comparator → A → A → Ordering → Type 0
 compares Comparator.Equal x y o = x ≡ y
 compares Comparator.Unequal x y o = x ≢ y
-compares Comparator.Greater x y o = o ≡ Order.Greater
-compares Comparator.Less x y o = o ≡ Order.Less
+compares Comparator.Greater x y o = o ≡ Ordering.Greater
+compares Comparator.Less x y o = o ≡ Ordering.Less
 
 -- 4.5.1.
 abbrev pub Ca : Comparator → Bytes → Bytes → Type 0
@@ -79,16 +78,16 @@ Ca ω x y = compares ω x y (order_of x y)
 
 -- 4.5.2, that C_v is defined and true: the two have an order where they are of one kind.
 abbrev pub Cv : Comparator → Constant → Constant → Type 0
-Cv ω v w = (o : Order) × (order_constants v w ≡ some o) × compares ω v w o
+Cv ω v w = (o : Ordering) × (order_constants v w ≡ Some o) × compares ω v w o
 
 -- 5.3.1, a comparator as written: as it says strictly, or equal where it adds that.
-abbrev pub compares_as : {A : Type 0} → SurfaceComparator → A → A → Order → Type 0
+abbrev pub compares_as : {A : Type 0} → SurfaceComparator → A → A → Ordering → Type 0
 compares_as ω x y o = compares (strictly ω) x y o ⊎ ((or_equal ω ≡ true) × (x ≡ y))
 
 -- The identifiers that a reference means.
 abbrev pub meant : SurfaceComparator → Reference → 𝒫 Identifier
 meant ω r i =
-    ((n : Bytes) → namespace_meant ω r ≡ some n → i.namespace ≡ n)
+    ((n : Bytes) → namespace_meant ω r ≡ Some n → i.namespace ≡ n)
     × compares_as ω i.article (article_meant r) (order_of i.article (article_meant r))
 
 -- 4.5.3: S, that the identifier matches the selector, and Q, the page set.
@@ -113,8 +112,8 @@ page_of p = record { cats = λ x. Memᴰ x p.categories; props = λ x v. Memᴰ 
 
 -- The page that has the identifier; in a register there are no two.
 unfoldable pub page_named : List Registers.Page → Database
-page_named [] i = none
-page_named (p ∷ l) i = cond (same_identifier p.identifier i) (some (page_of p)) (page_named l i)
+page_named [] i = None
+page_named (p ∷ l) i = cond (same_identifier p.identifier i) (Some (page_of p)) (page_named l i)
 
 -- The database of a register.
 abbrev pub database_of : Register → Database

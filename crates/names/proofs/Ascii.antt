@@ -1,9 +1,9 @@
 -- A text of plain code points is its own composed form, and names of bytes below 128 keep the rule of document 01.
+use Rattle.std.specs.Prelude.{Option, Some, None}
 use Prim.Native.Nat.{ℕ, ◌<◌}
 use mathlib.Core.Path.{◌≡◌, refl, sym, ap, ◌∙◌}
 use mathlib.Core.Bool.{Bool, true, false, cond, not, ◌&&◌, false≢true, and-eq-true_iff, and-false, and-true}
 use mathlib.Core.List.{[], ◌∷◌}
-use mathlib.Core.Option.{Option, some, none}
 use native.Mathlib.Omega.{arith}
 use lib.Dec.{eqb, ltb, leb}
 use lib.ListN.{get_or}
@@ -25,7 +25,7 @@ unfoldable pub is_name_before : Bytes → Bool
 is_name_before s = is_sized s && all is_name_byte s && not (one_of "!~+" (first s)) && not (is_blank (first s)) && not (is_blank (last s))
 
 -- A text of plain code points.
-plain_read : (s : Bytes) → all is_plain s ≡ true → read s ≡ some s
+plain_read : (s : Bytes) → all is_plain s ≡ true → read s ≡ Some s
 unfolding all read
 plain_read [] h = refl
 plain_read (a ∷ s) h =
@@ -39,14 +39,14 @@ plain_markless (a ∷ s) h =
     let e = (and-eq-true_iff (is_plain a) (all is_plain s)).0 h in
     rw (no_mark_lem a (λ x y. omega (arith, plain_range a e.0))) (plain_markless s e.1)
 
-pub plain_composed : (s : Bytes) → all is_plain s ≡ true → composed s ≡ some s
+pub plain_composed : (s : Bytes) → all is_plain s ≡ true → composed s ≡ Some s
 unfolding composed
 plain_composed s h =
     let m = plain_markless s h in
     let r = plain_read s h in
     ap composed_codes r ∙ rw (markless_composed s m, m, reads_written (reading s s r))
 
-unread : (s : Bytes) → read s ≡ none → composed s ≡ none
+unread : (s : Bytes) → read s ≡ None → composed s ≡ None
 unfolding composed
 unread s h = rw h
 
@@ -77,22 +77,22 @@ ascii_bytes (a ∷ s) h =
     let e = (and-eq-true_iff (ltb a 128) (is_ascii s)).0 h in
     rw (ascii_plain a (ltb-true a 128 e.0), ascii_bytes s e.1)
 
-ascii_none : (s : Bytes) → is_ascii s ≡ true → all is_plain s ≡ false → read s ≡ none
+ascii_none : (s : Bytes) → is_ascii s ≡ true → all is_plain s ≡ false → read s ≡ None
 unfolding all
 ascii_none [] h k = absurd (false≢true (sym k))
 ascii_none (a ∷ s) h k =
     let e = (and-eq-true_iff (ltb a 128) (is_ascii s)).0 h in
     go (is_plain a) refl (ltb-true a 128 e.0) k (ascii_none s e.1)
   where
-    go : (p : Bool) → is_plain a ≡ p → a < 128 → (p && all is_plain s) ≡ false → (all is_plain s ≡ false → read s ≡ none) → read (a ∷ s) ≡ none
+    go : (p : Bool) → is_plain a ≡ p → a < 128 → (p && all is_plain s) ≡ false → (all is_plain s ≡ false → read s ≡ None) → read (a ∷ s) ≡ None
     go true e l k ih = read_plain a s e ∙ ap (before a) (ih k)
     go false e l k ih = read_none a s e (no_pair a (get_or s 0 0) l)
 
 -- It composes where all its bytes are bytes of names, to itself.
-pub ascii_composed : (s : Bytes) → is_ascii s ≡ true → composed s ≡ cond (all is_name_byte s) (some s) none
+pub ascii_composed : (s : Bytes) → is_ascii s ≡ true → composed s ≡ cond (all is_name_byte s) (Some s) None
 ascii_composed s h = rw (← ascii_bytes s h) (go (all is_plain s) refl)
   where
-    go : (p : Bool) → all is_plain s ≡ p → composed s ≡ cond p (some s) none
+    go : (p : Bool) → all is_plain s ≡ p → composed s ≡ cond p (Some s) None
     go true e = plain_composed s e
     go false e = unread s (ascii_none s h e)
 
@@ -108,7 +108,7 @@ ascii_name s h =
     ∙ ap (λ (b : Bool). has_name_shape s && b) (go (all is_name_byte s))
     ∙ sorted (is_sized s) (all is_name_byte s) (not (one_of "!~+" (first s))) (not (is_blank (first s))) (not (is_blank (last s)))
   where
-    go : (p : Bool) → is_some (cond p (some s) none) ≡ p
+    go : (p : Bool) → is_some (cond p (Some s) None) ≡ p
     go true = refl
     go false = refl
 
@@ -116,6 +116,6 @@ pub ascii_composed_name : (s : Bytes) → is_ascii s ≡ true → is_composed_na
 unfolding is_composed_name is_name
 ascii_composed_name s h = rw (ascii_composed s h, ← ascii_bytes s h) (go (all is_plain s))
   where
-    go : (p : Bool) → (has_name_shape s && is_some (cond p (some s) none) && is_form s (cond p (some s) none)) ≡ (has_name_shape s && p)
+    go : (p : Bool) → (has_name_shape s && is_some (cond p (Some s) None) && is_form s (cond p (Some s) None)) ≡ (has_name_shape s && p)
     go true = rw (same_refl s) (and-true (has_name_shape s && true))
     go false = and-false (has_name_shape s && false) ∙ sym (and-false (has_name_shape s))

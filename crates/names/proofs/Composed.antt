@@ -1,9 +1,9 @@
 -- The composed form of a name, as readers and writers of names use it.
+use Rattle.std.specs.Prelude.{Option, Some, None}
 use Prim.Native.Nat.{ℕ, suc, ◌≤◌, ◌<◌}
 use mathlib.Core.Path.{◌≡◌, refl, sym, ap, ◌∙◌}
 use mathlib.Core.Bool.{Bool, true, false, cond, ◌||◌, false≢true, and-eq-true_iff}
 use mathlib.Core.List.{List, [], ◌∷◌}
-use mathlib.Core.Option.{Option, some, none}
 use native.Mathlib.Nat.{zero-add}
 use native.Mathlib.Omega.{arith}
 use lib.Dec.{eqb, ltb}
@@ -22,27 +22,27 @@ use Rattle.names.proofs.Naming.{shaped, composed_long}
 use Rattle.names.proofs.Keeping.{Kept, nothing, same, fewer, composed_keeps, kept_length, composed_name_lem, composed_property_name}
 use Rattle.names.proofs.Ascii.{is_ascii, plain_composed, ascii_composed}
 
-absurd_some : {A : Type 0} {B : Type 0} {a : A} → none ≡ some a → B
+absurd_some : {A : Type 0} {B : Type 0} {a : A} → None ≡ Some a → B
 absurd_some h = let z : ◌≡◌ {A = ℕ} 0 1 = cc in absurd (omega arith)
 
 -- By cases on whether there is a composed form.
 module _ (P : Bytes → Type 0) (s : Bytes) where
-  pub on_form : (composed s ≡ none → P s) → ((t : Bytes) → composed s ≡ some t → P t) → P (composed_name s)
+  pub on_form : (composed s ≡ None → P s) → ((t : Bytes) → composed s ≡ Some t → P t) → P (composed_name s)
   unfolding composed_name
   on_form f g = go (composed s) refl
     where
       go : (o : Option Bytes) → composed s ≡ o → P (form_or s o)
-      go none e = f e
-      go (some t) e = g t e
+      go None e = f e
+      go (Some t) e = g t e
 
 -- A name has one.
-pub name_composed : (s : Bytes) → is_name s ≡ true → composed s ≡ some (composed_name s)
+pub name_composed : (s : Bytes) → is_name s ≡ true → composed s ≡ Some (composed_name s)
 unfolding is_name composed_name
 name_composed s h = go (composed s) ((and-eq-true_iff (has_name_shape s) (is_some (composed s))).0 h).1
   where
-    go : (o : Option Bytes) → is_some o ≡ true → o ≡ some (form_or s o)
-    go none e = absurd (false≢true e)
-    go (some t) e = refl
+    go : (o : Option Bytes) → is_some o ≡ true → o ≡ Some (form_or s o)
+    go None e = absurd (false≢true e)
+    go (Some t) e = refl
 
 pub composed_empty : composed_name [] ≡ []
 unfolding composed_name all
@@ -51,7 +51,7 @@ composed_empty = rw (plain_composed [] refl)
 pub filled : (b : ℕ) (s : Bytes) → eqb (length (b ∷ s)) 0 ≡ false
 filled b s = ne_eqb (suc (length s)) 0 (λ e. omega arith)
 
-pub namespace_composed : (s : Bytes) → is_namespace s ≡ true → composed s ≡ some (composed_name s)
+pub namespace_composed : (s : Bytes) → is_namespace s ≡ true → composed s ≡ Some (composed_name s)
 unfolding is_namespace all
 namespace_composed [] h = rw composed_empty (plain_composed [] refl)
 namespace_composed (b ∷ s) h = name_composed (b ∷ s) (rw (filled b s) at h)
@@ -59,9 +59,9 @@ namespace_composed (b ∷ s) h = name_composed (b ∷ s) (rw (filled b s) at h)
 pub composed_le : (s : Bytes) → length (composed_name s) ≤ length s
 composed_le s = on_form (λ t. length t ≤ length s) s (λ e. omega arith) (λ t e. kept_length (composed_keeps s t e))
 
-form_of : (s : Bytes) (o : Option Bytes) → o ≡ some s → is_form s o ≡ true
-form_of s none h = absurd_some h
-form_of s (some t) h = let e : t ≡ s = cc in rw e (same_refl s)
+form_of : (s : Bytes) (o : Option Bytes) → o ≡ Some s → is_form s o ≡ true
+form_of s None h = absurd_some h
+form_of s (Some t) h = let e : t ≡ s = cc in rw e (same_refl s)
 
 -- "Held forms keep names composed": the composed form of a name keeps the rule and is its own composed form.
 pub composed_is_name : (s : Bytes) → is_name s ≡ true → is_composed_name (composed_name s) ≡ true
@@ -88,8 +88,8 @@ composed_is_namespace (b ∷ s) h = rw (composed_is_name (b ∷ s) (rw (filled b
 
 -- It is what it was.
 pub form_fixed : (s : Bytes) (o : Option Bytes) → is_form s o ≡ true → form_or s o ≡ s
-form_fixed s none h = absurd (false≢true h)
-form_fixed s (some t) h = sym (same_eq s t h)
+form_fixed s None h = absurd (false≢true h)
+form_fixed s (Some t) h = sym (same_eq s t h)
 
 pub composed_fixed : (s : Bytes) → is_composed_name s ≡ true → composed_name s ≡ s
 unfolding is_composed_name composed_name
@@ -126,7 +126,7 @@ pub ascii_fixed : (s : Bytes) → is_ascii s ≡ true → composed_name s ≡ s
 unfolding composed_name
 ascii_fixed s h = rw (ascii_composed s h) (go (all is_name_byte s))
   where
-    go : (t : Bool) → form_or s (cond t (some s) none) ≡ s
+    go : (t : Bool) → form_or s (cond t (Some s) None) ≡ s
     go true = refl
     go false = refl
 
@@ -223,13 +223,13 @@ module _ (s : Bytes) where
   own_length q f e = go (composed s) (sym f ∙ e)
     where
       go : (o : Option Bytes) → is_form s o ≡ true → length s ≡ length_after 0 o
-      go none h = absurd (false≢true h)
-      go (some t) h = rw (same_eq s t h) (sym (zero-add (length t)))
+      go None h = absurd (false≢true h)
+      go (Some t) h = rw (same_eq s t h) (sym (zero-add (length t)))
 
   pub none_fixed : (n : ℕ) → n ≡ length_after 0 (composed s) → n ≡ 0 → composed_name s ≡ s
   none_fixed n h z = on_form (λ t. t ≡ s) s (λ e. refl) (λ t e. empty s t (omega (arith, h, ap (length_after 0) e)) e)
     where
-      empty : (s t : Bytes) → length t ≡ 0 → composed s ≡ some t → t ≡ s
+      empty : (s t : Bytes) → length t ≡ 0 → composed s ≡ Some t → t ≡ s
       empty [] [] l k = refl
       empty [] (b ∷ t) l k = absurd (omega arith)
       empty (b ∷ s) t l k = absurd (omega (arith, composed_long (b ∷ s) t k (omega arith)))

@@ -1,9 +1,9 @@
 -- The front of a text that is composed as it is typed.
+use Rattle.std.specs.Prelude.{Option, Some, None}
 use Prim.Native.Nat.{ℕ, zero, suc, ◌+◌, ◌-◌, ◌≤◌, ◌<◌}
 use mathlib.Core.Path.{◌≡◌, refl, sym, ap, ◌∙◌}
 use mathlib.Core.Bool.{Bool, true, false, not, ◌&&◌, false≢true, and-eq-true_iff, and_assoc, and-true}
 use mathlib.Core.List.{[], ◌∷◌, ◌++◌, append_assoc, append-nil}
-use mathlib.Core.Option.{Option, some, none}
 use native.Mathlib.Nat.{add-zero, zero-add, suc-add}
 use native.Mathlib.Numerals.{add-one}
 use native.Mathlib.Omega.{arith}
@@ -23,12 +23,12 @@ use Rattle.names.proofs.OwnForm.{own_letters, own, not_own}
 
 -- Letters at the front of a text that nothing composes.
 prepend_none : (o : Option Bytes) → o ≡ prepend [] o
-prepend_none none = refl
-prepend_none (some t) = refl
+prepend_none None = refl
+prepend_none (Some t) = refl
 
 pub prepend_then : (v w : Bytes) (o : Option Bytes) → prepend v (prepend w o) ≡ prepend (v ++ w) o
-prepend_then v w none = refl
-prepend_then v w (some t) = ap some (sym (append_assoc v w t))
+prepend_then v w None = refl
+prepend_then v w (Some t) = ap Some (sym (append_assoc v w t))
 
 take_then : (i w : ℕ) (s : Bytes) → take (i + w) s ≡ take i s ++ take w (drop i s)
 take_then zero w s = rw (zero-add w)
@@ -65,7 +65,7 @@ no_204 [] k e h = omega arith
 no_204 (b ∷ s) zero e h = false≢true (rw e at ((and-eq-true_iff (is_letter_byte b) (all is_letter_byte s)).0 h).0)
 no_204 (b ∷ s) (suc k) e h = no_204 s k e ((and-eq-true_iff (is_letter_byte b) (all is_letter_byte s)).0 h).1
 
-none_some : (v s : Bytes) → prepend v none ≡ some s → ⊥
+none_some : (v s : Bytes) → prepend v None ≡ Some s → ⊥
 none_some v s h = let z : ◌≡◌ {A = ℕ} 0 1 = cc in omega arith
 
 pub front_none : (s : Bytes) → Front s 0
@@ -86,9 +86,9 @@ module _ (s : Bytes) (i : ℕ) (r : Front s i) where
   pub front_whole : length s ≤ i → OwnFront s i
   front_whole l =
       let e : i ≡ length s = omega (arith, r.most) in
-      record { front = r; whole = eq-eqb i (length s) e ∙ own s (r.is ∙ rw (drop_of_length-le s l, composed_nothing, take_all i s l) (ap some (append-nil s))) }
+      record { front = r; whole = eq-eqb i (length s) e ∙ own s (r.is ∙ rw (drop_of_length-le s l, composed_nothing, take_all i s l) (ap Some (append-nil s))) }
 
-  short_of : i < length s → (composed s ≡ some s → ⊥) → OwnFront s i
+  short_of : i < length s → (composed s ≡ Some s → ⊥) → OwnFront s i
   short_of l n = record { front = r; whole = ne_eqb i (length s) (λ e. omega arith) ∙ not_own s n }
 
   pub front_marked : i < length s → (b : ℕ) → b ≡ get_or s (i + 1) 0 → b ≡ 204 → OwnFront s i

@@ -1,9 +1,9 @@
 -- What composing keeps: a composed name keeps the name rule and is no longer than the typed one.
+use Rattle.std.specs.Prelude.{Some}
 use Prim.Native.Nat.{ℕ, suc, ◌+◌, ◌-◌, ◌/◌, ◌%◌, ◌≤◌}
 use mathlib.Core.Path.{◌≡◌, refl, sym, ap, ◌∙◌}
 use mathlib.Core.Bool.{Bool, true, not, ◌&&◌, and-eq-true_iff}
 use mathlib.Core.List.{List, [], ◌∷◌, ◌++◌}
-use mathlib.Core.Option.{some}
 use native.Mathlib.Omega.{arith}
 use lib.ListN.{length, get_or}
 use borrow.Author.Tests.{ne_eqb}
@@ -41,7 +41,7 @@ keeps (pair a b h r) (Composing.marked c d e f q) =
     let i = composition_is c d e f in
     absurd (omega (arith, wide_range (pair_code a b) (paired a b h).wide, i.0, (ranges e i.2).letter_most))
 
-pub composed_keeps : (s t : Bytes) → composed s ≡ some t → Kept s t
+pub composed_keeps : (s t : Bytes) → composed s ≡ Some t → Kept s t
 composed_keeps s t h =
     let f = form s t h in
     rw (← f.is) (keeps (reading s f.codes f.typed) (composing f.codes))
@@ -106,7 +106,7 @@ high_other : (b : ℕ) → 128 ≤ b → is_other 46 b ≡ true
 high_other b l = rw (ne_eqb b 46 (λ e. omega arith))
 
 -- The laws of the composed form of a name.
-module _ (s t : Bytes) (h : composed s ≡ some t) where
+module _ (s t : Bytes) (h : composed s ≡ Some t) where
   pub composed_shorter : length t ≤ length s
   composed_shorter = kept_length (composed_keeps s t h)
 

@@ -1,9 +1,9 @@
 -- One letter of a name after the other: composing bytes goes by the letter at their front.
+use Rattle.std.specs.Prelude.{Option, Some, None}
 use Prim.Native.Nat.{ℕ, zero, suc, ◌+◌, ◌*◌, ◌/◌, ◌%◌, ◌≤◌}
 use mathlib.Core.Path.{◌≡◌, refl, sym, ap, ◌∙◌}
 use mathlib.Core.Bool.{Bool, true, false, cond, ◌&&◌, ◌||◌, false≢true, and-eq-true_iff, or-true}
 use mathlib.Core.List.{List, [], ◌∷◌, ◌++◌}
-use mathlib.Core.Option.{Option, some, none}
 use native.Mathlib.Omega.{arith}
 use lib.Dec.{eqb, ltb, leb}
 use lib.ListN.{length, get_or, drop}
@@ -20,29 +20,29 @@ use Rattle.names.proofs.Composing.{no_composition, no_mark_lem, compose_on, comp
 use Rattle.names.specs.declared.Letter.{Letter}
 
 -- A letter before other code points: kept, composed with a mark, or a mark itself.
-front_kept : (c : ℕ) (o : Option (List ℕ)) → is_mark c ≡ false → ((l : List ℕ) → o ≡ some l → compose (c ∷ l) ≡ c ∷ compose l) → composed_codes (before c o) ≡ prepend (encode c) (composed_codes o)
+front_kept : (c : ℕ) (o : Option (List ℕ)) → is_mark c ≡ false → ((l : List ℕ) → o ≡ Some l → compose (c ∷ l) ≡ c ∷ compose l) → composed_codes (before c o) ≡ prepend (encode c) (composed_codes o)
 unfolding all write
-front_kept c none h k = refl
-front_kept c (some l) h k = rw (k l refl, h) (go (is_markless (compose l)))
+front_kept c None h k = refl
+front_kept c (Some l) h k = rw (k l refl, h) (go (is_markless (compose l)))
   where
-    go : (b : Bool) → cond b (some (encode c ++ write (compose l))) none ≡ prepend (encode c) (cond b (some (write (compose l))) none)
+    go : (b : Bool) → cond b (Some (encode c ++ write (compose l))) None ≡ prepend (encode c) (cond b (Some (write (compose l))) None)
     go true = refl
     go false = refl
 
-front_marked : (c d : ℕ) (e : Entry) (o : Option (List ℕ)) → composition c d ≡ some e → composed_codes (before c (before d o)) ≡ prepend (encode e.composed) (composed_codes o)
+front_marked : (c d : ℕ) (e : Entry) (o : Option (List ℕ)) → composition c d ≡ Some e → composed_codes (before c (before d o)) ≡ prepend (encode e.composed) (composed_codes o)
 unfolding all write
-front_marked c d e none h = refl
-front_marked c d e (some l) h =
+front_marked c d e None h = refl
+front_marked c d e (Some l) h =
     rw (compose_marked c d l e h, no_mark_lem e.composed (λ x y. omega (arith, (ranges e (composition_is c d e h).2).composed_most))) (go (is_markless (compose l)))
   where
-    go : (b : Bool) → cond b (some (encode e.composed ++ write (compose l))) none ≡ prepend (encode e.composed) (cond b (some (write (compose l))) none)
+    go : (b : Bool) → cond b (Some (encode e.composed ++ write (compose l))) None ≡ prepend (encode e.composed) (cond b (Some (write (compose l))) None)
     go true = refl
     go false = refl
 
-front_mark : (c : ℕ) (o : Option (List ℕ)) → is_mark c ≡ true → composed_codes (before c o) ≡ none
+front_mark : (c : ℕ) (o : Option (List ℕ)) → is_mark c ≡ true → composed_codes (before c o) ≡ None
 unfolding all
-front_mark c none h = refl
-front_mark c (some l) h = rw (compose_on c l (no_composition c (get_or l 0 0) (λ m x. omega (arith, mark_range c h))), h)
+front_mark c None h = refl
+front_mark c (Some l) h = rw (compose_on c l (no_composition c (get_or l 0 0) (λ m x. omega (arith, mark_range c h))), h)
 
 -- The code point of a pair is 160 at least, so that 0 says that there is none.
 pub pair_is : (a b : ℕ) → is_pair a b ≡ true → pair_of a b ≡ pair_code a b
@@ -65,29 +65,29 @@ no_pair a b h = go (is_pair a b) refl
     go false k = refl
 
 -- What a composed letter that is not 0 tells.
-pub composed_letter_lem : (l m : ℕ) → (composed_letter l m ≡ 0 → ⊥) → (P : ℕ → Type 0) → ((e : Entry) → composition l m ≡ some e → P e.composed) → P (composed_letter l m)
+pub composed_letter_lem : (l m : ℕ) → (composed_letter l m ≡ 0 → ⊥) → (P : ℕ → Type 0) → ((e : Entry) → composition l m ≡ Some e → P e.composed) → P (composed_letter l m)
 unfolding composed_letter
 composed_letter_lem l m h P f = go (composition l m) refl
   where
     go : (o : Option Entry) → composition l m ≡ o → P (letter_or0 o)
-    go none k = absurd (h (rw k))
-    go (some e) k = f e k
+    go None k = absurd (h (rw k))
+    go (Some e) k = f e k
 
-pub zero_letter : (l m : ℕ) → composition l m ≡ none → composed_letter l m ≡ 0
+pub zero_letter : (l m : ℕ) → composition l m ≡ None → composed_letter l m ≡ 0
 unfolding composed_letter
 zero_letter l m h = rw h
 
-no_letter : (l m : ℕ) → composed_letter l m ≡ 0 → composition l m ≡ none
+no_letter : (l m : ℕ) → composed_letter l m ≡ 0 → composition l m ≡ None
 unfolding composed_letter
 no_letter l m h = go (composition l m) refl
   where
-    go : (o : Option Entry) → composition l m ≡ o → o ≡ none
-    go none k = refl
-    go (some e) k = absurd (omega (arith, sym (ap letter_or0 k) ∙ h, (ranges e (composition_is l m e k).2).composed_least))
+    go : (o : Option Entry) → composition l m ≡ o → o ≡ None
+    go None k = refl
+    go (Some e) k = absurd (omega (arith, sym (ap letter_or0 k) ∙ h, (ranges e (composition_is l m e k).2).composed_least))
 
 -- What is behind a letter.
 abbrev pub onward : Letter → Bytes → Option Bytes
-onward x s = elim x.width [ zero ↦ none | suc w ↦ prepend (encode x.code) (composed (drop w s)) ]
+onward x s = elim x.width [ zero ↦ None | suc w ↦ prepend (encode x.code) (composed (drop w s)) ]
 
 -- A plain letter alone.
 pub plain_alone : (a : ℕ) (s : Bytes) → is_plain a ≡ true → composed_letter a (pair_of (get_or s 0 0) (get_or s 1 0)) ≡ 0 → composed (a ∷ s) ≡ prepend (encode a) (composed s)
@@ -96,7 +96,7 @@ plain_alone a s h k =
     ap composed_codes (read_plain a s h)
     ∙ front_kept a (read s) (no_mark_lem a (λ x y. omega (arith, plain_range a h))) (λ l r. compose_on a l (unmarked l r))
   where
-    unmarked : (l : List ℕ) → read s ≡ some l → composition a (get_or l 0 0) ≡ none
+    unmarked : (l : List ℕ) → read s ≡ Some l → composition a (get_or l 0 0) ≡ None
     unmarked l r = no_letter a (get_or l 0 0) (go (is_mark (get_or l 0 0)) refl)
       where
         go : (b : Bool) → is_mark (get_or l 0 0) ≡ b → composed_letter a (get_or l 0 0) ≡ 0
@@ -104,14 +104,14 @@ plain_alone a s h k =
         go false m = zero_letter a (get_or l 0 0) (no_composition a (get_or l 0 0) (λ x y. false≢true (sym m ∙ x)))
 
 -- A plain letter with a mark behind it.
-plain_marked : (a : ℕ) (s : Bytes) (e : Entry) → is_plain a ≡ true → composition a (pair_of (get_or s 0 0) (get_or s 1 0)) ≡ some e → composed (a ∷ s) ≡ prepend (encode e.composed) (composed (drop 2 s))
+plain_marked : (a : ℕ) (s : Bytes) (e : Entry) → is_plain a ≡ true → composition a (pair_of (get_or s 0 0) (get_or s 1 0)) ≡ Some e → composed (a ∷ s) ≡ prepend (encode e.composed) (composed (drop 2 s))
 unfolding composed
 plain_marked a s e h k = go s (is_pair_lem (get_or s 0 0) (get_or s 1 0) (λ z. omega (arith, mark))) k
   where
     mark : 768 ≤ pair_of (get_or s 0 0) (get_or s 1 0)
     mark = let i = composition_is a (pair_of (get_or s 0 0) (get_or s 1 0)) e k in omega (arith, i.1, mark_range e.mark (ranges e i.2).marks)
 
-    go : (s : Bytes) → is_pair (get_or s 0 0) (get_or s 1 0) ≡ true → composition a (pair_of (get_or s 0 0) (get_or s 1 0)) ≡ some e → composed_codes (read (a ∷ s)) ≡ prepend (encode e.composed) (composed_codes (read (drop 2 s)))
+    go : (s : Bytes) → is_pair (get_or s 0 0) (get_or s 1 0) ≡ true → composition a (pair_of (get_or s 0 0) (get_or s 1 0)) ≡ Some e → composed_codes (read (a ∷ s)) ≡ prepend (encode e.composed) (composed_codes (read (drop 2 s)))
     go [] p k = absurd (omega (arith, (paired 0 0 p).lead))
     go (b ∷ []) p k = absurd (omega (arith, (paired b 0 p).behind))
     go (b ∷ c ∷ s) p k =

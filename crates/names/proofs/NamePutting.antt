@@ -1,10 +1,10 @@
 -- Judging a name and writing its composed form.
+use Rattle.std.specs.Prelude.{Some, None}
 use Prim.Native.Nat.{ℕ, ◌+◌, ◌≤◌, ◌<◌}
 use mathlib.Core.Path.{◌≡◌, refl, sym, ap, ◌∙◌}
 use mathlib.Core.Bool.{Bool, true, false, cond, not}
 use mathlib.Core.List.{[], ◌∷◌, ◌++◌, append-nil, append_assoc}
 use mathlib.Core.Logic.{◌⊎◌, inl, inr}
-use mathlib.Core.Option.{some, none}
 use native.Mathlib.Nat.{add-zero, zero-add}
 use native.Mathlib.Omega.{arith}
 use lib.Dec.{ltb}
@@ -124,7 +124,7 @@ module _ (T : Type 0) (s b : Bytes) (at front : ℕ) (o : Front s front) (v k : 
           over = λ e. over (omega (arith, long, r.shorter));
         }
       where
-        nothing : composed s ≡ none
+        nothing : composed s ≡ None
         nothing = r.is t ∙ ap (prepend text) (composed_none (drop i s) (omega (arith, length-drop i s)) (rw (f.is t) at w))
 
     pub put_done : length s ≤ i → T → FormPut s b at h n
@@ -136,8 +136,8 @@ module _ (T : Type 0) (s b : Bytes) (at front : ℕ) (o : Front s front) (v k : 
           over = λ e. over (omega (arith, long));
         }
       where
-        form : composed s ≡ some text
-        form = let m : composed (drop i s) ≡ some [] = rw (drop_of_length-le s l) composed_nothing in r.is t ∙ ap (prepend text) m ∙ ap some (append-nil text)
+        form : composed s ≡ Some text
+        form = let m : composed (drop i s) ≡ Some [] = rw (drop_of_length-le s l) composed_nothing in r.is t ∙ ap (prepend text) m ∙ ap Some (append-nil text)
 
 -- A name judged and composed.
 module _ (s b : Bytes) (at : ℕ) (p : Bool) (f : p ≡ has_name_shape s) where

@@ -1,9 +1,9 @@
 -- Laws of the name rule: what the functions answer.
+use Rattle.std.specs.Prelude.{Option, Some, None}
 use Prim.Native.Nat.{ℕ, ◌+◌, ◌-◌, ◌≤◌}
 use mathlib.Core.Path.{◌≡◌, refl, sym, ◌∙◌}
 use mathlib.Core.Bool.{Bool, true, false, cond, not, ◌&&◌, false≢true, and-eq-true_iff}
 use mathlib.Core.List.{[], ◌∷◌}
-use mathlib.Core.Option.{Option, some, none}
 use native.Mathlib.Omega.{arith}
 use lib.Dec.{ltb, leb}
 use lib.ListN.{length, get_or, length-append}
@@ -48,7 +48,7 @@ unfolding has_name_shape
 shape s h = rw (le-leb 1 (length s) h.least, le-leb (length s) 64 h.most, h.begins, h.bare_first, h.bare_last)
 
 -- A composed form has a byte where the text has one.
-pub composed_long : (s t : Bytes) → composed s ≡ some t → 1 ≤ length s → 1 ≤ length t
+pub composed_long : (s t : Bytes) → composed s ≡ Some t → 1 ≤ length s → 1 ≤ length t
 composed_long [] t h l = absurd (omega arith)
 composed_long (a ∷ s) t h l = composed_split a s t h (λ t. 1 ≤ length t) (λ w u e k. omega (arith, length-append (encode (letter_at (a ∷ s)).code) u, (encode_size (letter_at (a ∷ s)).code).0))
 
@@ -59,8 +59,8 @@ module _ (s : Bytes) (p : Bool) (f : p ≡ has_name_shape s) where
   name_long t n e = e ∙ rw (← f, not-false p t) (go (composed s))
     where
       go : (o : Option Bytes) → length_after 0 o ≡ cond (is_some o) (length_after 0 o) 0
-      go none = refl
-      go (some t) = refl
+      go None = refl
+      go (Some t) = refl
 
   pub name_none : not p ≡ true → 0 ≡ name_length s
   unfolding name_length is_name
@@ -79,8 +79,8 @@ module _ (s : Bytes) (p : Bool) (f : p ≡ has_name_shape s) where
   composed_told q e = rw (e, ← f) (go p (composed s))
     where
       go : (p : Bool) (o : Option Bytes) → (p && is_form s o) ≡ ((p && is_some o) && is_form s o)
-      go true none = refl
-      go true (some t) = refl
+      go true None = refl
+      go true (Some t) = refl
       go false o = refl
 
 -- Whether there is a composed form: the text itself, or what is gone over letter by letter has a length.
@@ -89,14 +89,14 @@ module _ (s : Bytes) (q : Bool) (f : q ≡ is_form s (composed s)) where
   own_has t = go (composed s) (sym f ∙ t)
     where
       go : (o : Option Bytes) → is_form s o ≡ true → true ≡ is_some o
-      go none h = absurd (false≢true h)
-      go (some t) h = refl
+      go None h = absurd (false≢true h)
+      go (Some t) h = refl
 
   pub walked_has : q ≡ false → (n : ℕ) → n ≡ length_after 0 (composed s) → ltb 0 n ≡ is_some (composed s)
   unfolding same
   walked_has t n e = rw e (go s (composed s) refl (sym f ∙ t))
     where
       go : (s : Bytes) (o : Option Bytes) → composed s ≡ o → is_form s o ≡ false → ltb 0 (length_after 0 o) ≡ is_some o
-      go s none k h = refl
-      go [] (some t) k h = absurd (false≢true (sym h ∙ let e : t ≡ [] = (let z : some t ≡ some [] = sym k ∙ composed_nothing in cc) in rw e))
-      go (b ∷ s) (some t) k h = lt-ltb 0 (0 + length t) (omega (arith, composed_long (b ∷ s) t k (omega arith)))
+      go s None k h = refl
+      go [] (Some t) k h = absurd (false≢true (sym h ∙ let e : t ≡ [] = (let z : Some t ≡ Some [] = sym k ∙ composed_nothing in cc) in rw e))
+      go (b ∷ s) (Some t) k h = lt-ltb 0 (0 + length t) (omega (arith, composed_long (b ∷ s) t k (omega arith)))

@@ -1,9 +1,9 @@
 -- A text that is its own composed form, and its bytes.
+use Rattle.std.specs.Prelude.{Option, Some, None}
 use Prim.Native.Nat.{ℕ, ◌+◌, ◌-◌, ◌≤◌, ◌<◌}
 use mathlib.Core.Path.{◌≡◌, refl, sym, ap, ◌∙◌}
 use mathlib.Core.Bool.{Bool, true, false, cond, not, ◌&&◌, ◌||◌, false≢true, and-eq-true_iff, and_assoc, and-false}
 use mathlib.Core.List.{[], ◌∷◌, ◌++◌}
-use mathlib.Core.Option.{Option, some, none}
 use native.Mathlib.Numerals.{add-one}
 use native.Mathlib.Omega.{arith}
 use lib.Dec.{eqb, leb}
@@ -88,8 +88,8 @@ behind a b l f =
     record { pair = i; unmarked = rw (pair_is a b i) (no_mark_lem (pair_code a b) (λ x y. omega (arith, c))); tail = q.1 }
 
 -- Bytes that may all stand where they do are their own composed form.
-own_here : (a : ℕ) (s : Bytes) → ((w : ℕ) → all is_letter_byte (drop w s) ≡ true → paired_from 0 (drop w s) ≡ true → composed (drop w s) ≡ some (drop w s))
-    → is_letter_byte a ≡ true → all is_letter_byte s ≡ true → follows 0 a ≡ true → paired_from a s ≡ true → (p : Bool) → is_plain a ≡ p → composed (a ∷ s) ≡ some (a ∷ s)
+own_here : (a : ℕ) (s : Bytes) → ((w : ℕ) → all is_letter_byte (drop w s) ≡ true → paired_from 0 (drop w s) ≡ true → composed (drop w s) ≡ Some (drop w s))
+    → is_letter_byte a ≡ true → all is_letter_byte s ≡ true → follows 0 a ≡ true → paired_from a s ≡ true → (p : Bool) → is_plain a ≡ p → composed (a ∷ s) ≡ Some (a ∷ s)
 unfolding paired_from all
 own_here a s ih l m f q true e =
     let r = plain_range a e in
@@ -101,12 +101,12 @@ own_here a (b ∷ s) ih l m f q false e =
     let r = behind a b (lead_is a (first_no_tail a f) e l) k.0 in
     wide_front a (b ∷ s) r.pair r.unmarked ∙ rw (pair_is a b r.pair, encode_pair a b r.pair, ih 1 n.1 (sym (paired_alone b s (no_lead b r.tail)) ∙ k.1))
 
-paired_own : (s : Bytes) → all is_letter_byte s ≡ true → paired_from 0 s ≡ true → composed s ≡ some s
+paired_own : (s : Bytes) → all is_letter_byte s ≡ true → paired_from 0 s ≡ true → composed s ≡ Some s
 unfolding all paired_from
-paired_own s = by_letters (λ s. all is_letter_byte s ≡ true → paired_from 0 s ≡ true → composed s ≡ some s) (λ h k. composed_nothing) step s
+paired_own s = by_letters (λ s. all is_letter_byte s ≡ true → paired_from 0 s ≡ true → composed s ≡ Some s) (λ h k. composed_nothing) step s
   where
-    step : (a : ℕ) (s : Bytes) → ((w : ℕ) → all is_letter_byte (drop w s) ≡ true → paired_from 0 (drop w s) ≡ true → composed (drop w s) ≡ some (drop w s)) → all is_letter_byte (a ∷ s) ≡ true
-        → paired_from 0 (a ∷ s) ≡ true → composed (a ∷ s) ≡ some (a ∷ s)
+    step : (a : ℕ) (s : Bytes) → ((w : ℕ) → all is_letter_byte (drop w s) ≡ true → paired_from 0 (drop w s) ≡ true → composed (drop w s) ≡ Some (drop w s)) → all is_letter_byte (a ∷ s) ≡ true
+        → paired_from 0 (a ∷ s) ≡ true → composed (a ∷ s) ≡ Some (a ∷ s)
     step a s ih h k =
         let l = (and-eq-true_iff (is_letter_byte a) (all is_letter_byte s)).0 h in
         let f = (and-eq-true_iff (follows 0 a) (paired_from a s)).0 k in
@@ -116,9 +116,9 @@ paired_own s = by_letters (λ s. all is_letter_byte s ≡ true → paired_from 0
 abbrev Fits : Bytes → Type 0
 Fits s = (all is_letter_byte s ≡ true) × (paired_from 0 s ≡ true)
 
-prepended : (v : Bytes) (o : Option Bytes) (t : Bytes) (P : Type 0) → prepend v o ≡ some t → ((u : Bytes) → o ≡ some u → v ++ u ≡ t → P) → P
-prepended v none t P h f = let z : ◌≡◌ {A = ℕ} 0 1 = cc in absurd (omega arith)
-prepended v (some u) t P h f = f u refl (let e : v ++ u ≡ t = cc in e)
+prepended : (v : Bytes) (o : Option Bytes) (t : Bytes) (P : Type 0) → prepend v o ≡ Some t → ((u : Bytes) → o ≡ Some u → v ++ u ≡ t → P) → P
+prepended v None t P h f = let z : ◌≡◌ {A = ℕ} 0 1 = cc in absurd (omega arith)
+prepended v (Some u) t P h f = f u refl (let e : v ++ u ≡ t = cc in e)
 
 fits_plain : (a : ℕ) (s : Bytes) → is_plain a ≡ true → Fits s → Fits (a ∷ s)
 unfolding all paired_from is_letter_byte follows
@@ -158,19 +158,19 @@ first_high : (x : ℕ) (u : Bytes) → 128 ≤ x → 192 ≤ get_or (encode x ++
 unfolding encode
 first_high x u l = rw (le-ltb x 128 l) (omega arith)
 
-fits_wide : (a : ℕ) (s : Bytes) → is_pair a (get_or s 0 0) ≡ true → is_mark (pair_of a (get_or s 0 0)) ≡ false → (u : Bytes) → composed (drop 1 s) ≡ some u → encode (pair_of a (get_or s 0 0)) ++ u ≡ a ∷ s
-    → (composed (drop 1 s) ≡ some (drop 1 s) → Fits (drop 1 s)) → Fits (a ∷ s)
+fits_wide : (a : ℕ) (s : Bytes) → is_pair a (get_or s 0 0) ≡ true → is_mark (pair_of a (get_or s 0 0)) ≡ false → (u : Bytes) → composed (drop 1 s) ≡ Some u → encode (pair_of a (get_or s 0 0)) ++ u ≡ a ∷ s
+    → (composed (drop 1 s) ≡ Some (drop 1 s) → Fits (drop 1 s)) → Fits (a ∷ s)
 fits_wide a [] i m u c t ih = absurd (omega (arith, (paired a 0 i).behind))
 fits_wide a (b ∷ s) i m u c t ih =
     let e : a ∷ b ∷ u ≡ a ∷ b ∷ s = rw (pair_is a b i, encode_pair a b i) at t in
     let w : u ≡ s = cc in
-    fits_pair a b s i m (ih (c ∙ ap some w))
+    fits_pair a b s i m (ih (c ∙ ap Some w))
 
-own_fits : (s : Bytes) → composed s ≡ some s → Fits s
+own_fits : (s : Bytes) → composed s ≡ Some s → Fits s
 unfolding all paired_from letter_of
-own_fits s = by_letters (λ s. composed s ≡ some s → Fits s) (λ h. (refl, refl)) step s
+own_fits s = by_letters (λ s. composed s ≡ Some s → Fits s) (λ h. (refl, refl)) step s
   where
-    step : (a : ℕ) (s : Bytes) → ((w : ℕ) → composed (drop w s) ≡ some (drop w s) → Fits (drop w s)) → composed (a ∷ s) ≡ some (a ∷ s) → Fits (a ∷ s)
+    step : (a : ℕ) (s : Bytes) → ((w : ℕ) → composed (drop w s) ≡ Some (drop w s) → Fits (drop w s)) → composed (a ∷ s) ≡ Some (a ∷ s) → Fits (a ∷ s)
     step a s ih h = go (is_plain a) (eqb x 0) (eqb (pair_of a b) 0) (is_mark (pair_of a b)) refl refl refl refl (sym (composed_step a s) ∙ h)
       where
         b : ℕ
@@ -183,10 +183,10 @@ own_fits s = by_letters (λ s. composed s ≡ some s → Fits s) (λ h. (refl, r
         high z = composed_letter_lem a (pair_of b (get_or s 1 0)) z (λ c. 192 ≤ c) (λ e f. (ranges e (composition_is a (pair_of b (get_or s 1 0)) e f).2).composed_least)
 
         go : (p q r t : Bool) → is_plain a ≡ p → eqb x 0 ≡ q → eqb (pair_of a b) 0 ≡ r → is_mark (pair_of a b) ≡ t
-            → onward (cond p (cond q (letter a 1) (letter x 3)) (cond (r || t) (letter 0 0) (letter (pair_of a b) 2))) s ≡ some (a ∷ s) → Fits (a ∷ s)
+            → onward (cond p (cond q (letter a 1) (letter x 3)) (cond (r || t) (letter 0 0) (letter (pair_of a b) 2))) s ≡ Some (a ∷ s) → Fits (a ∷ s)
         go true true r t e f g m k =
             prepended (encode a) (composed s) (a ∷ s) (Fits (a ∷ s)) k
-            (λ u c t. let z : a ∷ u ≡ a ∷ s = rw (encode_plain a e) at t in let w : u ≡ s = cc in fits_plain a s e (ih 0 (c ∙ ap some w)))
+            (λ u c t. let z : a ∷ u ≡ a ∷ s = rw (encode_plain a e) at t in let w : u ≡ s = cc in fits_plain a s e (ih 0 (c ∙ ap Some w)))
         go true false r t e f g m k =
             prepended (encode x) (composed (drop 2 s)) (a ∷ s) (Fits (a ∷ s)) k
             (λ u c t. absurd (omega (arith, first_high x u (omega (arith, high (eqb-false x 0 f))), ap (λ (v : Bytes). get_or v 0 0) t, plain_range a e)))
@@ -195,23 +195,23 @@ own_fits s = by_letters (λ s. composed s ≡ some s → Fits s) (λ h. (refl, r
         go false q false false e f g m k =
             prepended (encode (pair_of a b)) (composed (drop 1 s)) (a ∷ s) (Fits (a ∷ s)) k (λ u c t. fits_wide a s (is_pair_lem a b (eqb-false (pair_of a b) 0 g)) m u c t (ih 1))
 
-pub own_letters : (s : Bytes) → composed s ≡ some s → all is_letter_byte s ≡ true
+pub own_letters : (s : Bytes) → composed s ≡ Some s → all is_letter_byte s ≡ true
 own_letters s h = (own_fits s h).0
 
 -- Whether a text is its own composed form.
 module _ (s : Bytes) where
-  pub not_own : (composed s ≡ some s → ⊥) → false ≡ is_form s (composed s)
+  pub not_own : (composed s ≡ Some s → ⊥) → false ≡ is_form s (composed s)
   not_own n = go (composed s) refl
     where
-      same_not : (t : Bytes) → composed s ≡ some t → (b : Bool) → same s t ≡ b → false ≡ b
-      same_not t c true e = absurd (n (c ∙ ap some (sym (same_eq s t e))))
+      same_not : (t : Bytes) → composed s ≡ Some t → (b : Bool) → same s t ≡ b → false ≡ b
+      same_not t c true e = absurd (n (c ∙ ap Some (sym (same_eq s t e))))
       same_not t c false e = refl
 
       go : (o : Option Bytes) → composed s ≡ o → false ≡ is_form s o
-      go none c = refl
-      go (some t) c = same_not t c (same s t) refl
+      go None c = refl
+      go (Some t) c = same_not t c (same s t) refl
 
-  pub own : composed s ≡ some s → true ≡ is_form s (composed s)
+  pub own : composed s ≡ Some s → true ≡ is_form s (composed s)
   own h = rw h (sym (same_refl s))
 
   pub own_plain : (p : Bool) → p ≡ all is_plain s → p ≡ true → true ≡ is_form s (composed s)

@@ -1,9 +1,9 @@
 -- Where the entry of a letter and a mark stands: the table's rule at every entry, by one test.
+use Rattle.std.specs.Prelude.{Option, Some, None}
 use Prim.Native.Nat.{ℕ}
 use mathlib.Core.Path.{◌≡◌, refl, sym, ap, ◌∙◌}
 use mathlib.Core.Bool.{Bool, true, false, ◌&&◌, false≢true, and-eq-true_iff}
 use mathlib.Core.List.{List}
-use mathlib.Core.Option.{Option, some, none}
 use native.Mathlib.Omega.{arith}
 use lib.Dec.{eqb, ltb}
 use lib.ListN.{length, get_or, get_or-map, get_or-eq_default}
@@ -32,7 +32,7 @@ module _ (l m i x y : ℕ) (u : x ≡ l) (v : y ≡ m) (p : i ≡ get_or places 
   place_is = (rw (u, v) at p) ∙ get_d_tabulate 644 (λ k. place k table) 0 (slot l m) (omega arith)
 
   -- An entry of this letter and mark stands there.
-  entry_there : (e : Entry) → composition l m ≡ some e → ((at i).letter ≡ l) × ((at i).mark ≡ m) × ((at i).composed ≡ e.composed)
+  entry_there : (e : Entry) → composition l m ≡ Some e → ((at i).letter ≡ l) × ((at i).mark ≡ m) × ((at i).composed ≡ e.composed)
   entry_there e h =
       let g = composition_is l m e h in
       let t = all_at placed table placed_table g.2 in
@@ -55,8 +55,8 @@ module _ (l m i x y : ℕ) (u : x ≡ l) (v : y ≡ m) (p : i ≡ get_or places 
     looked_missing t = go (composition l m) refl
       where
         go : (o : Option Entry) → composition l m ≡ o → 0 ≡ letter_or0 o
-        go none h = refl
-        go (some e) h =
+        go None h = refl
+        go (Some e) h =
             let r = entry_there e h in
             absurd (false≢true (sym t ∙ rw (eq-eqb a l (letter_is ∙ r.0), eq-eqb b m (mark_is ∙ r.1))))
 
@@ -72,16 +72,16 @@ module _ (l m i x y : ℕ) (u : x ≡ l) (v : y ≡ m) (p : i ≡ get_or places 
             let x = (and-eq-true_iff (eqb a l) (eqb b m)).0 t in
             (sym letter_is ∙ eqb-true a l x.0, sym mark_is ∙ eqb-true b m x.1)
 
-        none_there : (q : Bool) → ltb i (length table) ≡ q → composition l m ≡ none → c ≡ 0
+        none_there : (q : Bool) → ltb i (length table) ≡ q → composition l m ≡ None → c ≡ 0
         none_there true q h =
-            let w : composition l m ≡ some (at i) = rw (← pair.0, ← pair.1) (composes (at i) (at_place table i (entry 0 0 0) (ltb-true i (length table) q))) in
+            let w : composition l m ≡ Some (at i) = rw (← pair.0, ← pair.1) (composes (at i) (at_place table i (entry 0 0 0) (ltb-true i (length table) q))) in
             let z : ◌≡◌ {A = ℕ} 0 1 = cc in
             absurd (omega arith)
         none_there false q h = here ∙ ap (λ (e : Entry). e.composed) (get_or-eq_default table (entry 0 0 0) (ltb-false i (length table) q))
 
         go : (o : Option Entry) → composition l m ≡ o → c ≡ letter_or0 o
-        go none h = none_there (ltb i (length table)) refl h
-        go (some e) h = here ∙ (entry_there e h).2
+        go None h = none_there (ltb i (length table)) refl h
+        go (Some e) h = here ∙ (entry_there e h).2
 
 -- In the table as it is lent.
 module _ (ps ls ms cs : List ℕ) (t : IsTable ps ls ms cs) (l m i x y : ℕ) (u : x ≡ l) (v : y ≡ m) (p : i ≡ get_or ps (slot x y) 0) (a b : ℕ) (f : a ≡ get_or ls i 0) (g : b ≡ get_or ms i 0) where

@@ -1,9 +1,9 @@
 -- Laws of UTF-8: what is written reads back, and what reads is what is written of it.
+use Rattle.std.specs.Prelude.{Option, Some, None}
 use Prim.Native.Nat.{ℕ, ◌+◌, ◌*◌, ◌/◌, ◌%◌, ◌≤◌}
 use mathlib.Core.Path.{◌≡◌, refl, sym, ap, ◌∙◌}
 use mathlib.Core.Bool.{Bool, true, false, cond, ◌&&◌, ◌||◌, and-eq-true_iff, and-false, or-true, or-false}
 use mathlib.Core.List.{List, [], ◌∷◌, ◌++◌}
-use mathlib.Core.Option.{Option, some, none}
 use native.Mathlib.Omega.{arith}
 use lib.Dec.{leb}
 use lib.ListN.{get_or}
@@ -73,11 +73,11 @@ paired a b h =
     record { lead = p.0; most = p.1; behind = q.0; behind_most = q.1; wide = k.1 }
 
 -- One code point at the front.
-read_step : (a b : ℕ) (s : Bytes) → read (a ∷ b ∷ s) ≡ cond (is_plain a) (before a (read (b ∷ s))) (cond (is_pair a b) (before (pair_code a b) (read s)) none)
+read_step : (a b : ℕ) (s : Bytes) → read (a ∷ b ∷ s) ≡ cond (is_plain a) (before a (read (b ∷ s))) (cond (is_pair a b) (before (pair_code a b) (read s)) None)
 unfolding read
 read_step a b s = go (is_plain a) (is_pair a b) (before a (read (b ∷ s))) (before (pair_code a b) (read s))
   where
-    go : (p q : Bool) (x y : Option (List ℕ)) → elim p [ true ↦ x | false ↦ elim q [ true ↦ y | false ↦ none ] ] ≡ cond p x (cond q y none)
+    go : (p q : Bool) (x y : Option (List ℕ)) → elim p [ true ↦ x | false ↦ elim q [ true ↦ y | false ↦ None ] ] ≡ cond p x (cond q y None)
     go true q x y = refl
     go false true x y = refl
     go false false x y = refl
@@ -90,7 +90,7 @@ read_plain a (b ∷ s) h = read_step a b s ∙ rw h
 pub read_pair : (a b : ℕ) (s : Bytes) → is_pair a b ≡ true → read (a ∷ b ∷ s) ≡ before (pair_code a b) (read s)
 read_pair a b s h = let p = paired a b h in read_step a b s ∙ rw (not_plain a (omega (arith, p.lead)), h)
 
-pub read_none : (a : ℕ) (s : Bytes) → is_plain a ≡ false → is_pair a (get_or s 0 0) ≡ false → read (a ∷ s) ≡ none
+pub read_none : (a : ℕ) (s : Bytes) → is_plain a ≡ false → is_pair a (get_or s 0 0) ≡ false → read (a ∷ s) ≡ None
 unfolding read
 read_none a [] h k = rw h
 read_none a (x ∷ s) h k = read_step a x s ∙ rw (h, k)
@@ -124,14 +124,14 @@ module _ (c : ℕ) (h : is_wide c ≡ true) where
       rw (true_within 192 223 (192 + c / 64 % 32) (omega arith) (omega arith), true_within 128 191 (128 + c % 64) (omega arith) (omega arith), code_wide, h)
 
 -- What is written reads back.
-pub written_reads : (l : List ℕ) → all is_allowed l ≡ true → read (write l) ≡ some l
+pub written_reads : (l : List ℕ) → all is_allowed l ≡ true → read (write l) ≡ Some l
 unfolding all write read
 written_reads [] h = refl
 written_reads (c ∷ l) h =
     let k = (and-eq-true_iff (is_allowed c) (all is_allowed l)).0 h in
     go (is_plain c) refl k.0 (written_reads l k.1)
   where
-    go : (p : Bool) → is_plain c ≡ p → (p || is_wide c) ≡ true → read (write l) ≡ some l → read (encode c ++ write l) ≡ some (c ∷ l)
+    go : (p : Bool) → is_plain c ≡ p → (p || is_wide c) ≡ true → read (write l) ≡ Some l → read (encode c ++ write l) ≡ Some (c ∷ l)
     go true e w r = ap (λ (x : Bytes). read (x ++ write l)) (encode_plain c e) ∙ read_plain c (write l) e ∙ ap (before c) r
     go false e w r =
         ap (λ (x : Bytes). read (x ++ write l)) (encode_wide c w)
@@ -144,25 +144,25 @@ pub data Reading : Bytes → List ℕ → Type 0 where
   plain : {s : Bytes} {l : List ℕ} (a : ℕ) → is_plain a ≡ true → Reading s l → Reading (a ∷ s) (a ∷ l)
   pair : {s : Bytes} {l : List ℕ} (a b : ℕ) → is_pair a b ≡ true → Reading s l → Reading (a ∷ b ∷ s) (pair_code a b ∷ l)
 
-from_some : (P : List ℕ → Type 0) (k l : List ℕ) → some k ≡ some l → P k → P l
+from_some : (P : List ℕ → Type 0) (k l : List ℕ) → Some k ≡ Some l → P k → P l
 from_some P k l h x = let e : k ≡ l = cc in rw (← e) x
 
-from_before : (c : ℕ) (o : Option (List ℕ)) (P : List ℕ → Type 0) (l : List ℕ) → before c o ≡ some l → ((k : List ℕ) → o ≡ some k → P (c ∷ k)) → P l
-from_before c none P l h f = let z : ◌≡◌ {A = ℕ} 0 1 = cc in absurd (omega arith)
-from_before c (some k) P l h f = from_some P (c ∷ k) l h (f k refl)
+from_before : (c : ℕ) (o : Option (List ℕ)) (P : List ℕ → Type 0) (l : List ℕ) → before c o ≡ Some l → ((k : List ℕ) → o ≡ Some k → P (c ∷ k)) → P l
+from_before c None P l h f = let z : ◌≡◌ {A = ℕ} 0 1 = cc in absurd (omega arith)
+from_before c (Some k) P l h f = from_some P (c ∷ k) l h (f k refl)
 
-pub reading : (s : Bytes) (l : List ℕ) → read s ≡ some l → Reading s l
+pub reading : (s : Bytes) (l : List ℕ) → read s ≡ Some l → Reading s l
 unfolding read
 reading [] l h = from_some (Reading []) [] l h end
 reading (a ∷ []) l h = go (is_plain a) refl h
   where
-    go : (p : Bool) → is_plain a ≡ p → cond p (some (a ∷ [])) none ≡ some l → Reading (a ∷ []) l
+    go : (p : Bool) → is_plain a ≡ p → cond p (Some (a ∷ [])) None ≡ Some l → Reading (a ∷ []) l
     go true e k = from_some (Reading (a ∷ [])) (a ∷ []) l k (plain a e end)
     go false e k = let z : ◌≡◌ {A = ℕ} 0 1 = cc in absurd (omega arith)
 reading (a ∷ b ∷ s) l h = go (is_plain a) (is_pair a b) refl refl (sym (read_step a b s) ∙ h) (reading (b ∷ s)) (reading s)
   where
-    go : (p q : Bool) → is_plain a ≡ p → is_pair a b ≡ q → cond p (before a (read (b ∷ s))) (cond q (before (pair_code a b) (read s)) none) ≡ some l
-        → ((k : List ℕ) → read (b ∷ s) ≡ some k → Reading (b ∷ s) k) → ((k : List ℕ) → read s ≡ some k → Reading s k) → Reading (a ∷ b ∷ s) l
+    go : (p q : Bool) → is_plain a ≡ p → is_pair a b ≡ q → cond p (before a (read (b ∷ s))) (cond q (before (pair_code a b) (read s)) None) ≡ Some l
+        → ((k : List ℕ) → read (b ∷ s) ≡ Some k → Reading (b ∷ s) k) → ((k : List ℕ) → read s ≡ Some k → Reading s k) → Reading (a ∷ b ∷ s) l
     go true q e f k more rest = from_before a (read (b ∷ s)) (Reading (a ∷ b ∷ s)) l k (λ m x. plain a e (more m x))
     go false true e f k more rest = from_before (pair_code a b) (read s) (Reading (a ∷ b ∷ s)) l k (λ m x. pair a b f (rest m x))
     go false false e f k more rest = let z : ◌≡◌ {A = ℕ} 0 1 = cc in absurd (omega arith)
@@ -180,7 +180,7 @@ reads_written end = refl
 reads_written (plain {s} {l} a h r) = ap (λ (x : Bytes). x ++ write l) (encode_plain a h) ∙ ap (λ (x : Bytes). a ∷ x) (reads_written r)
 reads_written (pair {s} {l} a b h r) = ap (λ (x : Bytes). x ++ write l) (encode_pair a b h) ∙ ap (λ (x : Bytes). a ∷ b ∷ x) (reads_written r)
 
-pub read_once : (s t : Bytes) (l : List ℕ) → read s ≡ some l → read t ≡ some l → s ≡ t
+pub read_once : (s t : Bytes) (l : List ℕ) → read s ≡ Some l → read t ≡ Some l → s ≡ t
 read_once s t l h k = sym (reads_written (reading s l h)) ∙ reads_written (reading t l k)
 
 -- A mark that reads first is two bytes at the front.

@@ -1,8 +1,8 @@
 -- Laws of the passes over a name, letter by letter.
+use Rattle.std.specs.Prelude.{Option, Some, None}
 use Prim.Native.Nat.{ℕ, zero, suc, ◌+◌, ◌/◌, ◌%◌, ◌≤◌, ◌<◌}
 use mathlib.Core.Path.{◌≡◌, refl, sym, ap, ◌∙◌}
 use mathlib.Core.List.{[], ◌∷◌, ◌++◌}
-use mathlib.Core.Option.{Option, some, none}
 use native.Mathlib.Nat.{add-zero}
 use native.Mathlib.Omega.{arith}
 use lib.ListN.{length, get_or, drop, drop_of_length-le}
@@ -22,13 +22,13 @@ pub letter_empty : letter_at [] ≡ letter 0 0
 unfolding letter_of is_plain pair_of is_pair
 letter_empty = refl
 
-pub composed_nothing : composed [] ≡ some []
+pub composed_nothing : composed [] ≡ Some []
 unfolding composed read compose all write
 composed_nothing = refl
 
-pub composed_none : (t : Bytes) → 0 < length t → (letter_at t).width ≡ 0 → composed t ≡ none
+pub composed_none : (t : Bytes) → 0 < length t → (letter_at t).width ≡ 0 → composed t ≡ None
 composed_none [] l h = absurd (omega arith)
-composed_none (a ∷ t) l h = composed_step a t ∙ ap (λ (w : ℕ). elim w [ zero ↦ none | suc w ↦ prepend (encode (letter_at (a ∷ t)).code) (composed (drop w t)) ]) h
+composed_none (a ∷ t) l h = composed_step a t ∙ ap (λ (w : ℕ). elim w [ zero ↦ None | suc w ↦ prepend (encode (letter_at (a ∷ t)).code) (composed (drop w t)) ]) h
 
 pub composed_more : (t : Bytes) → ((letter_at t).width ≡ 0 → ⊥) → composed t ≡ prepend (encode (letter_at t).code) (composed (drop (letter_at t).width t))
 composed_more [] h = absurd (h (ap (λ (x : Letter). x.width) letter_empty))
@@ -36,7 +36,7 @@ composed_more (a ∷ t) h = go (letter_at (a ∷ t)).width refl
   where
     go : (w : ℕ) → (letter_at (a ∷ t)).width ≡ w → composed (a ∷ t) ≡ prepend (encode (letter_at (a ∷ t)).code) (composed (drop w (a ∷ t)))
     go zero e = absurd (h e)
-    go (suc w) e = composed_step a t ∙ ap (λ (w : ℕ). elim w [ zero ↦ none | suc w ↦ prepend (encode (letter_at (a ∷ t)).code) (composed (drop w t)) ]) e
+    go (suc w) e = composed_step a t ∙ ap (λ (w : ℕ). elim w [ zero ↦ None | suc w ↦ prepend (encode (letter_at (a ∷ t)).code) (composed (drop w t)) ]) e
 
 -- A law of every text: it holds of one where it holds of all that stands behind its first byte.
 pub by_letters : (P : Bytes → Type 0) → P [] → ((a : ℕ) (s : Bytes) → ((w : ℕ) → P (drop w s)) → P (a ∷ s)) → (s : Bytes) → P s
@@ -49,19 +49,19 @@ by_letters P nil step s = go s 0
     go (a ∷ s) (suc k) = go s k
 
 -- A text that composes begins with a letter, and what is behind it composes.
-pub composed_split : (a : ℕ) (s t : Bytes) → composed (a ∷ s) ≡ some t → (P : Bytes → Type 0)
-    → ((w : ℕ) (u : Bytes) → (letter_at (a ∷ s)).width ≡ suc w → composed (drop w s) ≡ some u → P (encode (letter_at (a ∷ s)).code ++ u)) → P t
+pub composed_split : (a : ℕ) (s t : Bytes) → composed (a ∷ s) ≡ Some t → (P : Bytes → Type 0)
+    → ((w : ℕ) (u : Bytes) → (letter_at (a ∷ s)).width ≡ suc w → composed (drop w s) ≡ Some u → P (encode (letter_at (a ∷ s)).code ++ u)) → P t
 composed_split a s t h P f = go (letter_at (a ∷ s)).width refl
   where
     v : Bytes
     v = encode (letter_at (a ∷ s)).code
 
-    rest : (w : ℕ) → (letter_at (a ∷ s)).width ≡ suc w → (o : Option Bytes) → composed (drop w s) ≡ o → prepend v o ≡ some t → P t
-    rest w e none k q = let z : ◌≡◌ {A = ℕ} 0 1 = cc in absurd (omega arith)
-    rest w e (some u) k q = let r : v ++ u ≡ t = cc in rw (← r) (f w u e k)
+    rest : (w : ℕ) → (letter_at (a ∷ s)).width ≡ suc w → (o : Option Bytes) → composed (drop w s) ≡ o → prepend v o ≡ Some t → P t
+    rest w e None k q = let z : ◌≡◌ {A = ℕ} 0 1 = cc in absurd (omega arith)
+    rest w e (Some u) k q = let r : v ++ u ≡ t = cc in rw (← r) (f w u e k)
 
     go : (w : ℕ) → (letter_at (a ∷ s)).width ≡ w → P t
-    go zero e = let q : none ≡ some t = sym (composed_none (a ∷ s) (omega arith) e) ∙ h in let z : ◌≡◌ {A = ℕ} 0 1 = cc in absurd (omega arith)
+    go zero e = let q : None ≡ Some t = sym (composed_none (a ∷ s) (omega arith) e) ∙ h in let z : ◌≡◌ {A = ℕ} 0 1 = cc in absurd (omega arith)
     go (suc w) e =
         rest w e (composed (drop w s)) refl (rw e at (sym (composed_more (a ∷ s) (λ k. let z : suc w ≡ 0 = sym e ∙ k in omega arith)) ∙ h))
 

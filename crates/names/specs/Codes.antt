@@ -1,6 +1,5 @@
 -- The code points of names, and their UTF-8. Document 02, "Accented names typed two ways".
-use Rattle.std.specs.Prelude.{ℕ, ◌+◌, ◌*◌, ◌/◌, ◌%◌, Bool, true, false, cond, ◌&&◌, ◌||◌, List, [], ◌∷◌, ◌++◌, leb, ltb}
-use Rattle.std.proofs.Math.Option.{Option, some, none}
+use Rattle.std.specs.Prelude.{ℕ, ◌+◌, ◌*◌, ◌/◌, ◌%◌, Bool, true, false, cond, ◌&&◌, ◌||◌, List, [], ◌∷◌, ◌++◌, leb, ltb, Option, Some, None}
 use Rattle.text.specs.Bytes.{Bytes}
 use Rattle.text.specs.Class.{is_name_byte}
 
@@ -34,14 +33,14 @@ unfoldable pub is_pair : ℕ → ℕ → Bool
 is_pair a b = within 192 223 a && within 128 191 b && is_wide (pair_code a b)
 
 abbrev pub before : ℕ → Option (List ℕ) → Option (List ℕ)
-before c none = none
-before c (some l) = some (c ∷ l)
+before c None = None
+before c (Some l) = Some (c ∷ l)
 
 -- The code points of a text; none where it has anything else. "Anything else breaks the name rule."
 unfoldable pub read : Bytes → Option (List ℕ)
-read [] = some []
-read (a ∷ []) = cond (is_plain a) (some (a ∷ [])) none
-read (a ∷ b ∷ s) = elim (is_plain a) [ true ↦ before a (read (b ∷ s)) | false ↦ elim (is_pair a b) [ true ↦ before (pair_code a b) (read s) | false ↦ none ] ]
+read [] = Some []
+read (a ∷ []) = cond (is_plain a) (Some (a ∷ [])) None
+read (a ∷ b ∷ s) = elim (is_plain a) [ true ↦ before a (read (b ∷ s)) | false ↦ elim (is_pair a b) [ true ↦ before (pair_code a b) (read s) | false ↦ None ] ]
 
 -- The bytes of a code point below 2,048, and of a text.
 unfoldable pub encode : ℕ → Bytes

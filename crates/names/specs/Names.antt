@@ -1,6 +1,5 @@
 -- Names in two spellings. Document 02, "Accented names typed two ways"; Unicode Standard Annex 15.
-use Rattle.std.specs.Prelude.{ℕ, ◌-◌, ◌≡◌, Bool, true, false, cond, not, ◌&&◌, ◌||◌, List, [], ◌∷◌, ◌++◌, eqb, leb, length, get_or}
-use Rattle.std.proofs.Math.Option.{Option, some, none}
+use Rattle.std.specs.Prelude.{ℕ, ◌-◌, ◌≡◌, Bool, true, false, cond, not, ◌&&◌, ◌||◌, List, [], ◌∷◌, ◌++◌, eqb, leb, length, get_or, Option, Some, None}
 use Rattle.text.specs.Bytes.{Bytes, same, all, is_blank}
 use Rattle.text.specs.Class.{one_of, is_other}
 use Rattle.names.specs.Table.{Entry, composition, decomposition}
@@ -10,12 +9,12 @@ use Rattle.names.specs.Codes.{is_mark, read, write}
 unfoldable pub compose : List ℕ → List ℕ
 compose [] = []
 compose (c ∷ []) = c ∷ []
-compose (c ∷ d ∷ l) = elim (composition c d) [ some e ↦ e.composed ∷ compose l | none ↦ c ∷ compose (d ∷ l) ]
+compose (c ∷ d ∷ l) = elim (composition c d) [ Some e ↦ e.composed ∷ compose l | None ↦ c ∷ compose (d ∷ l) ]
 
 -- Each composed letter becomes its letter and its mark.
 abbrev pub parts : ℕ → Option Entry → List ℕ
-parts c none = c ∷ []
-parts c (some e) = e.letter ∷ e.mark ∷ []
+parts c None = c ∷ []
+parts c (Some e) = e.letter ∷ e.mark ∷ []
 
 unfoldable pub decompose : List ℕ → List ℕ
 decompose [] = []
@@ -27,23 +26,23 @@ is_markless l = all (λ c. not (is_mark c)) l
 
 -- The composed form of a text, none where its code points or its marks break the name rule.
 abbrev pub composed_codes : Option (List ℕ) → Option Bytes
-composed_codes none = none
-composed_codes (some l) = cond (is_markless (compose l)) (some (write (compose l))) none
+composed_codes None = None
+composed_codes (Some l) = cond (is_markless (compose l)) (Some (write (compose l))) None
 
 unfoldable pub composed : Bytes → Option Bytes
 composed s = composed_codes (read s)
 
 -- The composed form of a name; bytes that have none stay as they are.
 abbrev pub form_or : Bytes → Option Bytes → Bytes
-form_or s none = s
-form_or s (some t) = t
+form_or s None = s
+form_or s (Some t) = t
 
 unfoldable pub composed_name : Bytes → Bytes
 composed_name s = form_or s (composed s)
 
 abbrev pub is_some : {A : Type 0} → Option A → Bool
-is_some none = false
-is_some (some a) = true
+is_some None = false
+is_some (Some a) = true
 
 -- "1 to 64 bytes"
 abbrev pub is_sized : Bytes → Bool
@@ -73,8 +72,8 @@ is_namespace s = eqb (length s) 0 || is_name s
 
 -- A name that is its own composed form. "Held forms keep names composed"
 abbrev pub is_form : Bytes → Option Bytes → Bool
-is_form s none = false
-is_form s (some t) = same s t
+is_form s None = false
+is_form s (Some t) = same s t
 
 unfoldable pub is_composed_name : Bytes → Bool
 is_composed_name s = is_name s && is_form s (composed s)
@@ -88,8 +87,8 @@ is_composed_namespace s = eqb (length s) 0 || is_composed_name s
 -- Canonical equivalence: two texts decompose to the same code points. A letter of a name has one mark at most, so that no marks
 -- are to be put in order.
 abbrev pub decomposed : Option (List ℕ) → Option (List ℕ)
-decomposed none = none
-decomposed (some l) = some (decompose l)
+decomposed None = None
+decomposed (Some l) = Some (decompose l)
 
 abbrev pub Equivalent : Bytes → Bytes → Type 0
 Equivalent s t = decomposed (read s) ≡ decomposed (read t)

@@ -1,6 +1,5 @@
 -- Working definitions: the table as the code has it, and one letter of a name after the other.
-use Rattle.std.specs.Prelude.{ℕ, suc, ◌+◌, ◌*◌, ◌-◌, ◌%◌, ◌≤◌, ◌<◌, ◌≡◌, Bool, true, false, cond, not, ◌&&◌, ◌||◌, List, [], ◌∷◌, ◌++◌, map, eqb, leb, length, get_or, take, drop}
-use Rattle.std.proofs.Math.Option.{Option, some, none}
+use Rattle.std.specs.Prelude.{ℕ, suc, ◌+◌, ◌*◌, ◌-◌, ◌%◌, ◌≤◌, ◌<◌, ◌≡◌, Bool, true, false, cond, not, ◌&&◌, ◌||◌, List, [], ◌∷◌, ◌++◌, map, eqb, leb, length, get_or, take, drop, Option, Some, None}
 use Rattle.text.specs.Bytes.{Bytes}
 use Rattle.text.specs.Table.{tabulate}
 use Rattle.names.specs.Table.{Entry, table, composition}
@@ -36,8 +35,8 @@ IsTable p l m c = (p ≡ places) × (l ≡ letters) × (m ≡ marks) × (c ≡ c
 
 -- 0 for none.
 abbrev pub letter_or0 : Option Entry → ℕ
-letter_or0 none = 0
-letter_or0 (some e) = e.composed
+letter_or0 None = 0
+letter_or0 (Some e) = e.composed
 
 unfoldable pub composed_letter : ℕ → ℕ → ℕ
 composed_letter l m = letter_or0 (composition l m)
@@ -72,8 +71,8 @@ letter_at s = letter_of (get_or s 0 0) (get_or s 1 0) (get_or s 2 0)
 
 -- Bytes before a composed form.
 abbrev pub prepend : Bytes → Option Bytes → Option Bytes
-prepend v none = none
-prepend v (some t) = some (v ++ t)
+prepend v None = None
+prepend v (Some t) = Some (v ++ t)
 
 -- The first i bytes of a text are composed as they are typed, and the rest by itself.
 pub record Front (s : Bytes) (i : ℕ) : Type 0 where
@@ -93,8 +92,8 @@ pub record PlainTo (s : Bytes) (i : ℕ) : Type 0 where
 
 -- n more than the length, 0 for none.
 abbrev pub length_after : ℕ → Option Bytes → ℕ
-length_after n none = 0
-length_after n (some t) = n + length t
+length_after n None = 0
+length_after n (Some t) = n + length t
 
 -- How long the composed form of a name is; 0 for what is none.
 unfoldable pub name_length : Bytes → ℕ
@@ -111,7 +110,7 @@ pub record LetterTold (T : Type 0) (x y : Letter) : Type 0 where
 pub record FormPut (s b : Bytes) (at : ℕ) (c : Bytes) (r : ℕ) : Type 0 where
   pub size : length c ≡ length b
   pub count : r ≡ length_after 0 (composed s)
-  pub bytes : (t : Bytes) → composed s ≡ some t → c ≡ written b at t
+  pub bytes : (t : Bytes) → composed s ≡ Some t → c ≡ written b at t
   pub over : r ≡ 0 → written c at s ≡ written b at s
 
 -- What judging a name and writing its composed form answers; the empty text stays empty.

@@ -1,6 +1,5 @@
 -- The canonical compositions of Unicode Standard Annex 15 in U+00C0 to U+017F. Document 02, "Accented names typed two ways".
-use Rattle.std.specs.Prelude.{ℕ, Bool, true, false, not, ◌&&◌, ◌||◌, List, [], ◌∷◌, eqb}
-use Rattle.std.proofs.Math.Option.{Option, some, none}
+use Rattle.std.specs.Prelude.{ℕ, Bool, true, false, not, ◌&&◌, ◌||◌, List, [], ◌∷◌, eqb, Option, Some, None}
 use Rattle.text.specs.Bytes.{any}
 
 -- A letter and a mark, and the letter that they compose to, as code points.
@@ -52,8 +51,8 @@ table =
 
 -- The first entry that passes a test.
 unfoldable pub find : (Entry → Bool) → List Entry → Option Entry
-find p [] = none
-find p (e ∷ t) = elim (p e) [ true ↦ some e | false ↦ find p t ]
+find p [] = None
+find p (e ∷ t) = elim (p e) [ true ↦ Some e | false ↦ find p t ]
 
 -- The entry has this letter and this mark; it has this composed letter.
 abbrev pub has_pair : ℕ → ℕ → Entry → Bool

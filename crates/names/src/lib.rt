@@ -17,8 +17,8 @@ pub mod table; // table.rt: a letter and a mark looked up in it
 use buffer::{least, put_byte, put_bytes};
 use own_form::{is_own_form, is_plain, own_front};
 use table::composed_letter;
-use tables::wide;
-use text::{Class, all_in, byte_at, in_class, one_of, part};
+use tables::get_or;
+use text::{Class, all_in, in_class, one_of, part};
 
 // A composed letter of a name, and how many of the bytes that were typed it has; 0 where they begin with none.
 #[derive(Clone, Copy)]
@@ -31,7 +31,7 @@ pub struct Letter {
 fn letter_pair(a: u8, b: u8) -> u16
     ensures { result ≡ letter_pair a b }
 {
-    let code = 64 * wide(a % 32) + wide(b % 64);
+    let code = 64 * u16::from(a % 32) + u16::from(b % 64);
     if ((194 <= a) & (a <= 197)) & ((128 <= b) & (b <= 191)) & (160 <= code) {
         code
     } else {
@@ -45,7 +45,7 @@ fn lone_letter(a: u8, b: u8) -> Letter
 {
     if is_plain(a) {
         return Letter {
-            code: wide(a),
+            code: u16::from(a),
             width: 1,
         };
     }
@@ -72,7 +72,7 @@ fn letter_of(
     if b != 204 {
         return lone_letter(a, b);
     }
-    let code = composed_letter(places, letters, marks, codes, wide(a), 640 + wide(c));
+    let code = composed_letter(places, letters, marks, codes, u16::from(a), 640 + u16::from(c));
     if code == 0 {
         return lone_letter(a, b);
     }
@@ -93,9 +93,9 @@ fn letter_at(
     if s.len() <= i {
         return Letter { code: 0, width: 0 };
     }
-    let a = byte_at(s, i);
-    let b = byte_at(s, i + 1);
-    let c = byte_at(s, i + 2);
+    let a = get_or(s, i, 0);
+    let b = get_or(s, i + 1, 0);
+    let c = get_or(s, i + 2, 0);
     letter_of(places, letters, marks, codes, a, b, c)
 }
 
@@ -113,8 +113,8 @@ fn has_name_shape(s: &[u8]) -> bool
     if s.len() == 0 {
         return false;
     }
-    let first = byte_at(s, 0);
-    let last = byte_at(s, s.len() - 1);
+    let first = get_or(s, 0, 0);
+    let last = get_or(s, s.len() - 1, 0);
     ((1 <= s.len()) & (s.len() <= 64))
         & !one_of(first, b"!~+")
         & !in_class(Class::Blank, first)

@@ -7,7 +7,8 @@ ghost use Rattle.names.specs.Names.{composed, is_form};
 ghost use Rattle.names.specs.Steps.{is_lead, is_tail, follows, paired_from, Front, OwnFront, PlainTo};
 
 use super::lone_letter;
-use text::{Class, byte_at, in_class};
+use tables::get_or;
+use text::{Class, in_class};
 
 // Whether a name may have a code point in one byte.
 pub fn is_plain(b: u8) -> bool
@@ -25,7 +26,7 @@ fn front_from(s: &[u8], from: usize) -> usize
     let mut i = from;
     while i < s.len() {
         let a = s[i];
-        let b = byte_at(s, i + 1);
+        let b = get_or(s, i + 1, 0);
         if b == 204 {
             return i;
         }

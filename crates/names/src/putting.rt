@@ -5,7 +5,6 @@ ghost use Rattle.names.specs.Steps.{IsTable, NamePut};
 use super::own_form::own_front;
 use super::{compose_from, has_name_shape};
 use buffer::put_bytes;
-use tables::widen;
 
 // Judges a name and writes its composed form: how long that is, 0 where the bytes are no name. The table is lent, so that it is not made
 // anew for each name.
@@ -23,7 +22,7 @@ pub fn put_name(
     if !has_name_shape(s) {
         return 0;
     }
-    let start = widen(at);
+    let start = usize::from(at);
     let front = own_front(s);
     if front == s.len() {
         put_bytes(h, start, s);

@@ -5,8 +5,7 @@ ghost use Rattle.names.specs.Steps.{IsTable, composed_letter, places, letters, m
 use crate::composed_codes::COMPOSED;
 use crate::letter_codes::LETTERS;
 use crate::mark_codes::MARKS;
-use tables::{get, widen};
-use text::byte_at;
+use tables::get_or;
 
 // For each remainder of 233 times the letter and the mark by 644 the entry's place, 161 where there is none. No two entries have
 // one remainder, and 644 is the least divisor with such a factor.
@@ -49,9 +48,9 @@ pub fn composed_letter(
 ) -> u16
     ensures { IsTable places.now letters.now marks.now codes.now → result ≡ composed_letter letter mark }
 {
-    let i = text::widen(byte_at(places, (233 * widen(letter) + widen(mark)) % 644));
-    if (get(letters, i) == letter) & (get(marks, i) == mark) {
-        get(codes, i)
+    let i = usize::from(get_or(places, (233 * usize::from(letter) + usize::from(mark)) % 644, 0));
+    if (get_or(letters, i, 0) == letter) & (get_or(marks, i, 0) == mark) {
+        get_or(codes, i, 0)
     } else {
         0
     }

@@ -1,9 +1,9 @@
 -- The ways through the answer.
+use Rattle.std.specs.Prelude.{Some}
 use Prim.Native.Nat.{ℕ, zero, suc, ◌≤◌, ◌<◌}
 use mathlib.Core.Path.{◌≡◌, refl, sym, ap, ◌∙◌, subst}
 use mathlib.Core.Bool.{Bool, true, false, cond}
 use mathlib.Core.List.{List, [], ◌∷◌, ◌++◌, map}
-use mathlib.Core.Option.{some}
 use native.Mathlib.Omega.{arith}
 use borrow.Author.Tests.{le-ltb}
 use lib.Dec.{ltb, eqb}
@@ -57,7 +57,7 @@ mark_byte (b ∷ m) x (suc i) l = mark_byte m x i (omega (arith, l))
 
 -- answer_core
 module _ (q h b marks : Bytes) (a : Asked) (room : 256 ≤ length b) (k : Asks q h b marks a) (out after : Bytes) (r : ℕ) where
-  runs : (c : Core) (R : Register) → held_query q ≡ some c → held_register h ≡ some R → ask_call q h b ≡ run c R
+  runs : (c : Core) (R : Register) → held_query q ≡ Some c → held_register h ≡ Some R → ask_call q h b ≡ run c R
   runs c R e p =
       let few = (within R (register_rules R (held_is h R p).0).limits).pages in
       asked_is q h b c R e p ∙ roomy (length b) (length R.pages) 24 (run c R) (λ m. m) (omega (arith, few, room)) ∙ then_accepted (run c R)
@@ -97,7 +97,7 @@ refused_first (accepted x) n f out after r e few h w = absurd (h e)
 
 -- answer_text
 module _ (h s b q : Bytes) (n : ℕ) (room : 29794 ≤ length b) (k : Answered (query_call h s b) b n q) (out after : Bytes) (r : ℕ) where
-  text_number_lem : (R : Register) → held_register h ≡ some R → n ≡ number_of (core_of R s)
+  text_number_lem : (R : Register) → held_register h ≡ Some R → n ≡ number_of (core_of R s)
   unfolding query_call written_in
   text_number_lem R p =
       k.number

@@ -1,9 +1,9 @@
 -- The lines of the marked pages, the list and a refusal.
+use Rattle.std.specs.Prelude.{Some}
 use Prim.Native.Nat.{ℕ, zero, suc, ◌+◌, ◌≤◌, ◌<◌}
 use mathlib.Core.Path.{◌≡◌, refl, sym, ap, ap₂, ◌∙◌, subst}
 use mathlib.Core.Bool.{Bool, true, false, cond}
 use mathlib.Core.List.{[], ◌∷◌, ◌++◌}
-use mathlib.Core.Option.{some}
 use native.Mathlib.Omega.{arith}
 use borrow.Author.Tests.{eq-eqb, ne_eqb}
 use lib.Dec.{eqb}
@@ -67,11 +67,11 @@ unfolding register_in decode dictionary_in
 pages_count h = length-map (tabulate (page_count h) (page_at h)) (decode_page (dictionary_in h)) ∙ length_tabulate (page_count h) (page_at h)
 
 -- what is held is what the first bytes describe
-held_reads : (h : Bytes) (R : Register) → held_register h ≡ some R → register_in (take register_size h) ≡ R
+held_reads : (h : Bytes) (R : Register) → held_register h ≡ Some R → register_in (take register_size h) ≡ R
 unfolding held_register
 held_reads h R e = go (is_form (take register_size h)) e
   where
-    go : (b : Bool) → only_if b (some (register_in (take register_size h))) ≡ some R → register_in (take register_size h) ≡ R
+    go : (b : Bool) → only_if b (Some (register_in (take register_size h))) ≡ Some R → register_in (take register_size h) ≡ R
     go true e = cc
     go false e = absurd (let y : ◌≡◌ {A = ℕ} 0 1 = cc in omega arith)
 

@@ -1,6 +1,5 @@
 -- Working definitions: what each step of the answer writes.
-use Rattle.std.specs.Prelude.{ℕ, ◌≤◌, ◌<◌, ◌≡◌, Bool, cond, [], ◌∷◌, ◌++◌, eqb, length, get_or}
-use Rattle.std.proofs.Math.Option.{some}
+use Rattle.std.specs.Prelude.{ℕ, ◌≤◌, ◌<◌, ◌≡◌, Bool, cond, [], ◌∷◌, ◌++◌, eqb, length, get_or, Some}
 use Rattle.text.specs.Bytes.{Bytes, bytes}
 use Rattle.language.specs.Answer.{refused, accepted, and_then}
 use Rattle.language.specs.Register.{Register}
@@ -35,7 +34,7 @@ AppendsLines h marks n b at after r = n ≤ 1000 → Appends b at (lines_to n (i
 -- The list of the register in h, with a count of marked pages.
 unfoldable pub AppendsList : Bytes → ℕ → Bytes → Bytes → Bytes → ℕ → Type 0
 AppendsList h count marks b after r =
-    (R : Register) → held_register h ≡ some R → count < 1000
+    (R : Register) → held_register h ≡ Some R → count < 1000
     → Appends b 0 (bytes "pages " ++ decimal count ++ (10 ∷ []) ++ lines_to (length R.pages) (is_marked marks) (page_in R)) after r
 
 unfoldable pub AppendsRefusal : ℕ → Bytes → Bytes → ℕ → Type 0
@@ -43,7 +42,7 @@ AppendsRefusal n b after r = n < 1000 → Appends b 0 (outcome (refused n)) afte
 
 -- The answer to a held query, and to a query text, on the register in h.
 unfoldable pub AnswersCore : Bytes → Bytes → Bytes → Bytes → ℕ → Type 0
-AnswersCore q h b after r = (c : Core) (R : Register) → held_query q ≡ some c → held_register h ≡ some R → Appends b 0 (of_core R c) after r
+AnswersCore q h b after r = (c : Core) (R : Register) → held_query q ≡ Some c → held_register h ≡ Some R → Appends b 0 (of_core R c) after r
 
 unfoldable pub AnswersText : Bytes → Bytes → Bytes → Bytes → ℕ → Type 0
-AnswersText h s b after r = (R : Register) → held_register h ≡ some R → Appends b 0 (of_text R s) after r
+AnswersText h s b after r = (R : Register) → held_register h ≡ Some R → Appends b 0 (of_text R s) after r

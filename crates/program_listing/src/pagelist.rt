@@ -5,8 +5,8 @@ ghost use Rattle.program_listing.specs.Answering.{AppendsPage, AppendsLines, App
 use crate::parts::{put, put_byte, put_decimal, put_line};
 use register_form::{REGISTER_BYTES, page_count};
 use register_form_view::{article_at, namespace_at};
-use tables::widen;
-use text::{byte_at, part};
+use tables::get_or;
+use text::part;
 
 // Writes the line of the page in place i where its mark is 1.
 fn put_page(out: &mut [u8], at: usize, h: &[u8], i: u16, mark: u8) -> usize
@@ -17,7 +17,7 @@ fn put_page(out: &mut [u8], at: usize, h: &[u8], i: u16, mark: u8) -> usize
     }
     let namespace = namespace_at(h, i);
     let article = article_at(h, i);
-    put_line(out, at, widen(i), namespace, article)
+    put_line(out, at, usize::from(i), namespace, article)
 }
 
 // Writes the lines of the marked pages among the first n.
@@ -27,7 +27,7 @@ fn put_lines(out: &mut [u8], at: usize, h: &[u8], marks: &[u8], n: u16) -> usize
     let mut to = at;
     let mut i: u16 = 0;
     while i < n {
-        let mark = byte_at(marks, widen(i));
+        let mark = get_or(marks, usize::from(i), 0);
         to = put_page(out, to, h, i, mark);
         i += 1;
     }

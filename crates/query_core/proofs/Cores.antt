@@ -1,9 +1,9 @@
 -- What bytes hold keeps the rules for core queries.
+use Rattle.std.specs.Prelude.{Some}
 use Prim.Native.Nat.{ℕ, zero, suc}
 use mathlib.Core.Path.{◌≡◌, refl, sym, ap, subst, ◌∙◌}
 use mathlib.Core.Bool.{true, ◌&&◌}
 use mathlib.Core.List.{List, [], ◌∷◌, ◌++◌, append_assoc, append-nil}
-use mathlib.Core.Option.{some}
 use native.Mathlib.Omega.{arith}
 use lib.Dec.{eqb, leb, ltb}
 use lib.ListN.{length, length-append}
@@ -33,8 +33,8 @@ KeptConstant v = is_constant v ≡ true
 
 kind_kept : (k : Kind) (n : ℕ) (s : Bytes) → OnSome KeptConstant (constant_of_kind k n s)
 kind_kept Kind.Page n s = tt
-kind_kept (Kind.Scalar k) n s = on_only KeptConstant (in_range k n) (some (scalar k n)) (λ h. h)
-kind_kept Kind.String n s = on_only KeptConstant (is_value s) (some (string s)) (λ h. h)
+kind_kept (Kind.Scalar k) n s = on_only KeptConstant (in_range k n) (Some (scalar k n)) (λ h. h)
+kind_kept Kind.String n s = on_only KeptConstant (is_value s) (Some (string s)) (λ h. h)
 
 constant_kept : (s : Bytes) (x : Slot) → OnSome KeptConstant (constant_of s x)
 unfolding constant_of constant_from
@@ -50,8 +50,8 @@ Any d = Unit {0}
 link_kept : (c : ℕ) (y : Bytes) (r : Reference) → OnSome KeptNode (link_from c y r)
 unfolding link_from is_node Any
 link_kept c y r =
-    on_only KeptNode (is_composed_property_name y && is_composed_reference r) (surface_from c >>= λ d. some (Node.link y d r))
-    (λ h. on_bind Any KeptNode (surface_from c) (λ d. some (Node.link y d r)) (on_any Any (surface_from c) (λ d. tt)) (λ d u. h))
+    on_only KeptNode (is_composed_property_name y && is_composed_reference r) (surface_from c >>= λ d. Some (Node.link y d r))
+    (λ h. on_bind Any KeptNode (surface_from c) (λ d. Some (Node.link y d r)) (on_any Any (surface_from c) (λ d. tt)) (λ d u. h))
 
 links_kept : (s : Bytes) (k : ℕ) (x : Slot) → OnSome KeptNode (link_by s k x)
 unfolding link_by
@@ -74,8 +74,8 @@ nodes_kept : (h : Bytes) (n : ℕ) → OnSome (NodesRead n) (nodes_to h n)
 unfolding nodes_to all node_in
 nodes_kept h zero = record { count = refl; rules = refl }
 nodes_kept h (suc n) =
-    on_bind (NodesRead n) (NodesRead (suc n)) (nodes_to h n) (λ l. node_in h n >>= λ m. some (l ++ (m ∷ []))) (nodes_kept h n)
-    (λ l k. on_bind KeptNode (NodesRead (suc n)) (node_in h n) (λ m. some (l ++ (m ∷ []))) (node_kept (heap_in h) (slot_in h n).tag (slot_in h n))
+    on_bind (NodesRead n) (NodesRead (suc n)) (nodes_to h n) (λ l. node_in h n >>= λ m. Some (l ++ (m ∷ []))) (nodes_kept h n)
+    (λ l k. on_bind KeptNode (NodesRead (suc n)) (node_in h n) (λ m. Some (l ++ (m ∷ []))) (node_kept (heap_in h) (slot_in h n).tag (slot_in h n))
     (λ m j. record { count = omega (arith, length-append l (m ∷ []), k.count); rules = all_append is_node l (m ∷ []) ∙ both_true k.rules (both_true j refl) }))
 
 -- The nodes of the queries on a stack, the last one first.
@@ -138,5 +138,5 @@ on_held h =
     let n : nodes c ≡ count_in h = sym (length_post c) ∙ ap length e ∙ k.count in
     rw (n, e, b.1, a.1, k.rules))))
 
-pub held_core : (h : Bytes) (c : Core) → held_query h ≡ some c → is_core c ≡ true
+pub held_core : (h : Bytes) (c : Core) → held_query h ≡ Some c → is_core c ≡ true
 held_core h c e = subst (OnSome (λ c. is_core c ≡ true)) e (on_held h)

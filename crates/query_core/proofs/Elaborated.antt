@@ -1,9 +1,9 @@
 -- What the rules keep of a surface query, elaboration keeps of its core query: it has a form.
+use Rattle.std.specs.Prelude.{Option, Some, None}
 use Prim.Native.Nat.{ℕ, ◌≤◌}
 use mathlib.Core.Path.{◌≡◌, refl, subst, ◌∙◌}
 use mathlib.Core.Bool.{Bool, true, false, cond, not, ◌&&◌}
 use mathlib.Core.List.{List, [], ◌∷◌, ◌++◌}
-use mathlib.Core.Option.{Option, some, none}
 use native.Mathlib.Omega.{arith}
 use borrow.Author.Tests.{ltb-false, le-leb}
 use lib.Dec.{ltb}
@@ -35,8 +35,8 @@ unfoldable pub Keeps : Core → Type 0
 Keeps c = all is_node (post c) ≡ true
 
 abbrev KeepsSome : Option Core → Type 0
-KeepsSome none = Unit {0}
-KeepsSome (some c) = Keeps c
+KeepsSome None = Unit {0}
+KeepsSome (Some c) = Keeps c
 
 one_keeps : (n : Node) → is_node n ≡ true → all is_node (n ∷ []) ≡ true
 unfolding all
@@ -105,22 +105,22 @@ reference_keeps c (qualified n x) h =
 
 -- Constants that are read.
 abbrev ReadKeeps : Option Constant → Type 0
-ReadKeeps none = Unit {0}
-ReadKeeps (some v) = is_constant v ≡ true
+ReadKeeps None = Unit {0}
+ReadKeeps (Some v) = is_constant v ≡ true
 
 read_keeps : (k : Kind) (v : Bytes) → is_value v ≡ true → ReadKeeps (read_constant k v)
 read_keeps Kind.Page v h = tt
 read_keeps (Kind.Scalar k) v h = go (read_scalar k v) refl
   where
     go : (o : Option ℕ) → read_scalar k v ≡ o → ReadKeeps (map_option (scalar k) o)
-    go none e = tt
-    go (some n) e = read_in_range k v n e
+    go None e = tt
+    go (Some n) e = read_in_range k v n e
 read_keeps Kind.String v h = h
 
 constant_keeps : (x : Bytes) (c : SurfaceComparator) (o : Option Constant) → is_composed_property_name x ≡ true → ReadKeeps o → KeepsSome (map_option (elaborate_constant x c) o)
 unfolding elaborate_constant
-constant_keeps x c none h k = tt
-constant_keeps x c (some v) h k = compared_keeps (λ d. Core.select (Core.value x d v)) c (λ d. value_keeps x d v h k)
+constant_keeps x c None h k = tt
+constant_keeps x c (Some v) h k = compared_keeps (λ d. Core.select (Core.value x d v)) c (λ d. value_keeps x d v h k)
 
 piece_keeps : (x : Bytes) (c : SurfaceComparator) (v : Bytes) (k : Kind) → is_composed_property_name x ≡ true → is_value v ≡ true → KeepsSome (elaborate_value x c v k)
 unfolding elaborate_value
@@ -129,7 +129,7 @@ piece_keeps x c v Kind.Page h j = go (is_reference (reference v)) refl
     r : Reference
     r = composed_reference (reference v)
 
-    go : (b : Bool) → is_reference (reference v) ≡ b → KeepsSome (cond b (some (Core.select (Core.link x c r))) none)
+    go : (b : Bool) → is_reference (reference v) ≡ b → KeepsSome (cond b (Some (Core.select (Core.link x c r))) None)
     go false e = tt
     go true e = link_keeps x c r h (composed_is_reference (reference v) e)
 piece_keeps x c v (Kind.Scalar k) h j = constant_keeps x c (read_constant (Kind.Scalar k) v) h (read_keeps (Kind.Scalar k) v j)
@@ -138,21 +138,21 @@ piece_keeps x c v Kind.String h j = constant_keeps x c (read_constant Kind.Strin
 -- Options.
 joined_keeps : (f : Core → Core → Core) → ((a b : Core) → Keeps a → Keeps b → Keeps (f a b)) → (a b : Option Core) → KeepsSome a → KeepsSome b → KeepsSome (joined f a b)
 unfolding joined
-joined_keeps f law none b h k = tt
-joined_keeps f law (some a) none h k = tt
-joined_keeps f law (some a) (some b) h k = law a b h k
+joined_keeps f law None b h k = tt
+joined_keeps f law (Some a) None h k = tt
+joined_keeps f law (Some a) (Some b) h k = law a b h k
 
 inside_keeps : (x : Bytes) (k : Option Kind) (o : Option Core) → is_composed_property_name x ≡ true → KeepsSome o → KeepsSome (inside x k o)
 unfolding inside
-inside_keeps x none o h j = tt
-inside_keeps x (some Kind.Page) none h j = tt
-inside_keeps x (some Kind.Page) (some c) h j = subquery_keeps x c h j
-inside_keeps x (some (Kind.Scalar k)) o h j = tt
-inside_keeps x (some Kind.String) o h j = tt
+inside_keeps x None o h j = tt
+inside_keeps x (Some Kind.Page) None h j = tt
+inside_keeps x (Some Kind.Page) (Some c) h j = subquery_keeps x c h j
+inside_keeps x (Some (Kind.Scalar k)) o h j = tt
+inside_keeps x (Some Kind.String) o h j = tt
 
 kind_keeps : (k : Option Kind) (f : Kind → Option Core) → ((a : Kind) → KeepsSome (f a)) → KeepsSome (k >>= f)
-kind_keeps none f h = tt
-kind_keeps (some a) f h = h a
+kind_keeps None f h = tt
+kind_keeps (Some a) f h = h a
 
 -- Queries.
 categories_keep : (c : Categories) → spelled_categories c ≡ true → Keeps (elaborate_categories c)
@@ -202,7 +202,7 @@ module _ (Γ : Typing) where
         let k = and_true (is_spelled a) (is_spelled b) h in
         joined_keeps Core.conjunction and_keeps (elaborate a Γ) (elaborate b Γ) (query_keeps a k.0) (query_keeps b k.1)
 
-  pub elaborated_keeps : (q : Query) (c : Core) → is_spelled q ≡ true → elaborate q Γ ≡ some c → all is_node (post c) ≡ true
+  pub elaborated_keeps : (q : Query) (c : Core) → is_spelled q ≡ true → elaborate q Γ ≡ Some c → all is_node (post c) ≡ true
   unfolding Keeps
   elaborated_keeps q c h e = subst KeepsSome e (query_keeps q h)
 
@@ -226,8 +226,8 @@ fitted_core Γ q c h e = go (any (is_undeclared Γ) (properties_of q)) (elaborat
   where
     go : (u : Bool) (o : Option Core) → elaborate q Γ ≡ o → cond u (refused 17) (found o (λ d. cond (ltb 256 (nodes d)) (refused 19) (accepted d)) (refused 18)) ≡ accepted c → is_core c ≡ true
     go true o f g = absurd (let y : ◌≡◌ {A = ℕ} 0 1 = cc in omega arith)
-    go false none f g = absurd (let y : ◌≡◌ {A = ℕ} 0 1 = cc in omega arith)
-    go false (some d) f g = few (ltb 256 (nodes d)) refl g
+    go false None f g = absurd (let y : ◌≡◌ {A = ℕ} 0 1 = cc in omega arith)
+    go false (Some d) f g = few (ltb 256 (nodes d)) refl g
       where
         few : (m : Bool) → ltb 256 (nodes d) ≡ m → cond m (refused 19) (accepted d) ≡ accepted c → is_core c ≡ true
         few true i j = absurd (let y : ◌≡◌ {A = ℕ} 0 1 = cc in omega arith)

@@ -1,9 +1,9 @@
 -- A core query that keeps its rules is held by its form.
+use Rattle.std.specs.Prelude.{Some}
 use Prim.Native.Nat.{ℕ, zero, suc, ◌+◌, ◌-◌, ◌*◌, ◌%◌, ◌≤◌, ◌<◌, ◌^◌}
 use mathlib.Core.Path.{◌≡◌, refl, sym, ap, subst, ◌∙◌}
 use mathlib.Core.Bool.{true, ◌&&◌}
 use mathlib.Core.List.{List, [], ◌∷◌, ◌++◌, append_assoc}
-use mathlib.Core.Option.{some}
 use native.Mathlib.Nat.{add-zero, mod-eq_of_lt}
 use native.Mathlib.Omega.{arith}
 use lib.ListN.{length, get_or, take, drop, length-append}
@@ -76,10 +76,10 @@ module _ (at : ℕ) (low : at ≤ 24672) where
   slot_fits (Node.value x c v) h = let k = and_true (is_composed_property_name x) (is_constant v) h in value_fits x c v (property_short x k.0) k.1
 
 -- A node comes back from its slot and its string.
-surface_back : (c : SurfaceComparator) → surface_from (surface_code c) ≡ some c
+surface_back : (c : SurfaceComparator) → surface_from (surface_code c) ≡ Some c
 surface_back c = rw (comparator_few c, comparator_coded c)
 
-code_back : (c : Comparator) → comparator_from (comparator_code c) ≡ some c
+code_back : (c : Comparator) → comparator_from (comparator_code c) ≡ Some c
 unfolding comparator_from
 code_back Comparator.Equal = refl
 code_back Comparator.Unequal = refl
@@ -91,17 +91,17 @@ unfolding constant_from
 kind_back k n s = rw (kind_coded k, lt-ltb (kind_code k) kind_count (code_below k))
 
 module _ (s : Bytes) (at : ℕ) where
-  constant_back : (x : Bytes) (c : Comparator) (v : Constant) → is_constant v ≡ true → part s (at + length x) (length (constant_string v)) ≡ constant_string v → constant_of s (value_slot at x c v) ≡ some v
+  constant_back : (x : Bytes) (c : Comparator) (v : Constant) → is_constant v ≡ true → part s (at + length x) (length (constant_string v)) ≡ constant_string v → constant_of s (value_slot at x c v) ≡ Some v
   unfolding constant_of
   constant_back x c (scalar k n) h e = kind_back (Kind.Scalar k) n _ ∙ rw h
   constant_back x c (string y) h e = kind_back Kind.String 0 _ ∙ rw (e, h)
 
-  value_back : (x : Bytes) (c : Comparator) (v : Constant) → is_composed_property_name x ≡ true → part s at (length x) ≡ x → constant_of s (value_slot at x c v) ≡ some v → node_of s (value_slot at x c v).tag (value_slot at x c v) ≡ some (Node.value x c v)
+  value_back : (x : Bytes) (c : Comparator) (v : Constant) → is_composed_property_name x ≡ true → part s at (length x) ≡ x → constant_of s (value_slot at x c v) ≡ Some v → node_of s (value_slot at x c v).tag (value_slot at x c v) ≡ Some (Node.value x c v)
   unfolding node_of node_from
   value_back x c (scalar j n) h e k = rw (e, h, code_back c, k)
   value_back x c (string y) h e k = rw (e, h, code_back c, k)
 
-  link_bare : (x : Bytes) (c : SurfaceComparator) (y : Bytes) → is_composed_property_name x && is_composed_name y ≡ true → part s at (length (x ++ [] ++ y)) ≡ x ++ [] ++ y → node_of s 8 (slot_at at (Node.link x c (bare y))) ≡ some (Node.link x c (bare y))
+  link_bare : (x : Bytes) (c : SurfaceComparator) (y : Bytes) → is_composed_property_name x && is_composed_name y ≡ true → part s at (length (x ++ [] ++ y)) ≡ x ++ [] ++ y → node_of s 8 (slot_at at (Node.link x c (bare y))) ≡ Some (Node.link x c (bare y))
   unfolding node_of link_by link_from
   link_bare x c y h e =
       let f : part s at (length x + 0) ≡ x = ap (part s at) (add-zero (length x)) ∙ part_first s at x [] (part_first s at (x ++ []) y e) in
@@ -109,7 +109,7 @@ module _ (s : Bytes) (at : ℕ) where
       rw (f, g, h, surface_back c)
 
   link_qualified : (x : Bytes) (c : SurfaceComparator) (n y : Bytes) → length n ≤ 64 → is_composed_property_name x && (is_composed_namespace n && is_composed_name y) ≡ true → part s at (length (x ++ n ++ y)) ≡ x ++ n ++ y
-      → node_of s 8 (slot_at at (Node.link x c (qualified n y))) ≡ some (Node.link x c (qualified n y))
+      → node_of s 8 (slot_at at (Node.link x c (qualified n y))) ≡ Some (Node.link x c (qualified n y))
   unfolding node_of link_by link_from
   link_qualified x c n y l h e =
       let m : suc (length n) % 256 ≡ suc (length n) = mod-eq_of_lt (omega arith) in
@@ -120,7 +120,7 @@ module _ (s : Bytes) (at : ℕ) where
       let i : part s (at + length x + length n) (length y) ≡ y = ap (λ (j : ℕ). part s j (length y)) (let z : at + length x + length n ≡ at + length (x ++ n) = omega (arith, length-append x n) in z) ∙ part_second s at (x ++ n) y e in
       rw (m, f, g, i, h, surface_back c)
 
-  node_back : (x : Node) → is_node x ≡ true → part s at (length (string_of x)) ≡ string_of x → node_of s (slot_at at x).tag (slot_at at x) ≡ some x
+  node_back : (x : Node) → is_node x ≡ true → part s at (length (string_of x)) ≡ string_of x → node_of s (slot_at at x).tag (slot_at at x) ≡ Some x
   unfolding node_of node_from is_node string_of
   node_back Node.conjunction h e = refl
   node_back Node.disjunction h e = refl
@@ -171,7 +171,7 @@ module _ (h : Bytes) (k : List Node) (x : Node) (m : List Node) (f : Fits (k ++ 
       ∙ ap (λ (r : Bytes). part r (length (strings k)) (length (string_of x))) strings_parts
       ∙ part_middle (strings k) (string_of x) (strings m) (length (strings k)) (length (string_of x)) refl refl
 
-  pub node_there : is_node x ≡ true → node_in h (length k) ≡ some x
+  pub node_there : is_node x ≡ true → node_in h (length k) ≡ Some x
   unfolding node_in
   node_there g =
       let fits = slot_fits (length (strings k)) (omega (arith, strings_long, f.1)) x g in
@@ -179,14 +179,14 @@ module _ (h : Bytes) (k : List Node) (x : Node) (m : List Node) (f : Fits (k ++ 
       ap (λ (y : Slot). node_of (heap_in h) y.tag y) is ∙ node_back (heap_in h) (length (strings k)) x g string_there
 
 -- The nodes of bytes that hold them.
-pub nodes_there : (h : Bytes) (l : List Node) → Fits l → all is_node l ≡ true → Holding h l → (n : ℕ) → n ≤ length l → nodes_to h n ≡ some (take n l)
+pub nodes_there : (h : Bytes) (l : List Node) → Fits l → all is_node l ≡ true → Holding h l → (n : ℕ) → n ≤ length l → nodes_to h n ≡ Some (take n l)
 unfolding nodes_to
 nodes_there h l f g d zero b = refl
 nodes_there h l f g d (suc n) b =
     let x = get_or l n Node.conjunction in
     let parts : l ≡ take n l ++ (x ∷ drop (suc n) l) = split_at l n Node.conjunction b in
     let k : length (take n l) ≡ n = length-take-le n l (omega (arith, b)) in
-    let there : node_in h n ≡ some x = ap (node_in h) (sym k) ∙ node_there h (take n l) x (drop (suc n) l) (subst Fits parts f) (subst (Holding h) parts d) (all_at is_node l n Node.conjunction g b) in
+    let there : node_in h n ≡ Some x = ap (node_in h) (sym k) ∙ node_there h (take n l) x (drop (suc n) l) (subst Fits parts f) (subst (Holding h) parts d) (all_at is_node l n Node.conjunction g b) in
     rw (nodes_there h l f g d n (omega arith), there, take-suc l n Node.conjunction b)
 
 -- The bytes of nodes hold them, whatever is behind.
@@ -219,14 +219,14 @@ pub length_query : (c : Core) → is_core c ≡ true → length (query_of c) ≡
 unfolding query_of
 length_query c h = length_bytes (post c) (core_kept c h).fits
 
-pub form_held : (c : Core) (r : Bytes) → is_core c ≡ true → held_query (query_of c ++ r) ≡ some c
+pub form_held : (c : Core) (r : Bytes) → is_core c ≡ true → held_query (query_of c ++ r) ≡ Some c
 unfolding query_of
 form_held c r h =
     let k = core_kept c h in
     let d = bytes_hold (post c) k.fits r in
     let n : count_in (query_of c ++ r) ≡ nodes c = d.count ∙ length_post c in
-    let there : nodes_to (query_of c ++ r) (count_in (query_of c ++ r)) ≡ some (post c)
-    = ap (nodes_to (query_of c ++ r)) d.count ∙ nodes_there (query_of c ++ r) (post c) k.fits k.rules d (length (post c)) (omega arith) ∙ ap some (take-length (post c)) in
+    let there : nodes_to (query_of c ++ r) (count_in (query_of c ++ r)) ≡ Some (post c)
+    = ap (nodes_to (query_of c ++ r)) d.count ∙ nodes_there (query_of c ++ r) (post c) k.fits k.rules d (length (post c)) (omega arith) ∙ ap Some (take-length (post c)) in
     holds_held (query_of c ++ r) c
     (record {
       long = omega (arith, length-append (query_of c) r, length_query c h);

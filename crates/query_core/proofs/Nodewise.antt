@@ -1,8 +1,8 @@
 -- What holds of the node of a slot, tag by tag.
+use Rattle.std.specs.Prelude.{Option, Some, None}
 use Prim.Native.Nat.{ℕ}
 use mathlib.Core.Path.{◌≡◌, refl}
 use mathlib.Core.Bool.{Bool, true, false, cond}
-use mathlib.Core.Option.{Option, some, none}
 use borrow.Author.Tests.{eqb-true}
 use lib.Dec.{eqb}
 use Rattle.text.specs.Bytes.{Bytes}
@@ -25,8 +25,8 @@ module _ {A : Type 0} (P : A → Type 0) where
   on_only false o h = tt
 
   pub on_any : (o : Option A) → ((a : A) → P a) → OnSome P o
-  on_any none h = tt
-  on_any (some a) h = h a
+  on_any None h = tt
+  on_any (Some a) h = h a
 
 -- Of a node, where it holds of each node that keeps its rule and has its tag; Q holds of the constant.
 module _ (P : Node → Type 0) (Q : Constant → Type 0) (tag c : ℕ) (v : Option Constant) (x y : Bytes) (constant : OnSome Q v) where
@@ -50,11 +50,11 @@ module _ (P : Node → Type 0) (Q : Constant → Type 0) (tag c : ℕ) (v : Opti
       → OnSome P (node_from tag c v x y)
   unfolding node_from
   on_node p0 p1 p2 p3 p4 p5 p6 p7 =
-      tag_is 0 (some Node.conjunction) _ p0
-      (tag_is 1 (some Node.disjunction) _ p1
-      (tag_is 2 _ _ (λ e. on_only P (is_composed_name x) (some (Node.category x)) (p2 e))
-      (tag_is 3 _ _ (λ e. on_only P (is_composed_namespace x) (some (Node.namespace x)) (p3 e))
-      (tag_is 4 _ _ (λ e. on_only P (is_composed_property_name x) (some (Node.existence x)) (p4 e))
-      (tag_is 5 _ _ (λ e. on_only P (is_composed_property_name x) (some (Node.subquery x)) (p5 e))
-      (tag_is 6 _ _ (λ e. on_only P (is_composed_name y) _ (λ h. compared (λ d. some (Node.article d y)) (p6 e h)))
-      (tag_is 7 _ none (λ e. on_only P (is_composed_property_name x) _ (λ h. compared (λ d. v >>= λ w. some (Node.value x d w)) (λ d. on_bind Q P v (λ w. some (Node.value x d w)) constant (p7 e h d)))) tt)))))))
+      tag_is 0 (Some Node.conjunction) _ p0
+      (tag_is 1 (Some Node.disjunction) _ p1
+      (tag_is 2 _ _ (λ e. on_only P (is_composed_name x) (Some (Node.category x)) (p2 e))
+      (tag_is 3 _ _ (λ e. on_only P (is_composed_namespace x) (Some (Node.namespace x)) (p3 e))
+      (tag_is 4 _ _ (λ e. on_only P (is_composed_property_name x) (Some (Node.existence x)) (p4 e))
+      (tag_is 5 _ _ (λ e. on_only P (is_composed_property_name x) (Some (Node.subquery x)) (p5 e))
+      (tag_is 6 _ _ (λ e. on_only P (is_composed_name y) _ (λ h. compared (λ d. Some (Node.article d y)) (p6 e h)))
+      (tag_is 7 _ None (λ e. on_only P (is_composed_property_name x) _ (λ h. compared (λ d. v >>= λ w. Some (Node.value x d w)) (λ d. on_bind Q P v (λ w. Some (Node.value x d w)) constant (p7 e h d)))) tt)))))))

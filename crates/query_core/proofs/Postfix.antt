@@ -1,7 +1,7 @@
 -- Postfix code reads back as the query that it is the code of.
+use Rattle.std.specs.Prelude.{Option, Some, None}
 use mathlib.Core.Path.{◌≡◌, refl, ◌∙◌}
 use mathlib.Core.List.{List, [], ◌∷◌, ◌++◌}
-use mathlib.Core.Option.{Option, some, none}
 use native.Mathlib.Omega.{arith}
 use lib.ListN.{length, length-append}
 use Rattle.language.specs.Answer.{◌>>=◌}
@@ -14,13 +14,13 @@ runs_append [] k st = refl
 runs_append (n ∷ l) k st = go (stepped n st) (λ t. runs_append l k t)
   where
     go : (o : Option (List Core)) → ((t : List Core) → runs (l ++ k) t ≡ (runs l t >>= runs k)) → (o >>= runs (l ++ k)) ≡ ((o >>= runs l) >>= runs k)
-    go none h = refl
-    go (some t) h = h t
+    go None h = refl
+    go (Some t) h = h t
 
 mutual
   unfolding post runs stepped
 
-  runs_in : (s : Selector) (st : List Core) → runs (post_in s) st ≡ some (Core.select s ∷ st)
+  runs_in : (s : Selector) (st : List Core) → runs (post_in s) st ≡ Some (Core.select s ∷ st)
   runs_in (Selector.category x) st = refl
   runs_in (Selector.namespace x) st = refl
   runs_in (Selector.existence x) st = refl
@@ -30,14 +30,14 @@ mutual
   runs_in (Selector.link x c r) st = refl
 
   -- a query's code puts it on the stack
-  pub runs_post : (q : Core) (st : List Core) → runs (post q) st ≡ some (q ∷ st)
+  pub runs_post : (q : Core) (st : List Core) → runs (post q) st ≡ Some (q ∷ st)
   runs_post (Core.select s) st = runs_in s st
   runs_post (Core.disjunction a b) st =
       runs_append (post a ++ post b) (Node.disjunction ∷ []) st ∙ rw (runs_append (post a) (post b) st, runs_post a st, runs_post b (a ∷ st))
   runs_post (Core.conjunction a b) st =
       runs_append (post a ++ post b) (Node.conjunction ∷ []) st ∙ rw (runs_append (post a) (post b) st, runs_post a st, runs_post b (a ∷ st))
 
-pub read_back_lem : (q : Core) → read_back (post q) ≡ some q
+pub read_back_lem : (q : Core) → read_back (post q) ≡ Some q
 unfolding read_back
 read_back_lem q = rw (runs_post q [])
 

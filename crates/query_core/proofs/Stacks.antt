@@ -1,9 +1,9 @@
 -- Laws of the stack: one node more, its height, and the test for a query.
+use Rattle.std.specs.Prelude.{Option, Some, None}
 use Prim.Native.Nat.{ℕ, zero, suc, ◌+◌, ◌-◌, ◌≤◌, ◌<◌}
 use mathlib.Core.Path.{◌≡◌, refl, sym, ◌∙◌}
 use mathlib.Core.List.{List, [], ◌∷◌, ◌++◌}
 use mathlib.Core.Bool.{Bool, true, false, not, ◌&&◌, and-eq-true_iff}
-use mathlib.Core.Option.{Option, some, none}
 use native.Mathlib.Omega.{arith}
 use native.Mathlib.Numerals.{add-one}
 use lib.Dec.{leb, eqb}
@@ -31,38 +31,38 @@ module _ (h : Bytes) (i : ℕ) where
   stack_suc = go (nodes_to h i) (node_in h i)
     where
       last : (o : Option (List Core)) (m : Node) → (o >>= runs (m ∷ [])) ≡ (o >>= λ st. stepped m st)
-      last none m = refl
-      last (some st) m = one (stepped m st)
+      last None m = refl
+      last (Some st) m = one (stepped m st)
         where
-          one : (o : Option (List Core)) → (o >>= λ st. some st) ≡ o
-          one none = refl
-          one (some st) = refl
+          one : (o : Option (List Core)) → (o >>= λ st. Some st) ≡ o
+          one None = refl
+          one (Some st) = refl
 
-      nothing : (o : Option (List Core)) → ◌≡◌ {A = Option (List Core)} none (o >>= λ st. none)
-      nothing none = refl
-      nothing (some st) = refl
+      nothing : (o : Option (List Core)) → ◌≡◌ {A = Option (List Core)} None (o >>= λ st. None)
+      nothing None = refl
+      nothing (Some st) = refl
 
-      go : (l : Option (List Node)) (n : Option Node) → ((l >>= λ k. n >>= λ m. some (k ++ (m ∷ []))) >>= λ k. runs k []) ≡ ((l >>= λ k. runs k []) >>= λ st. n >>= λ m. stepped m st)
-      go none n = refl
-      go (some k) none = nothing (runs k [])
-      go (some k) (some m) = runs_append k (m ∷ []) [] ∙ last (runs k []) m
+      go : (l : Option (List Node)) (n : Option Node) → ((l >>= λ k. n >>= λ m. Some (k ++ (m ∷ []))) >>= λ k. runs k []) ≡ ((l >>= λ k. runs k []) >>= λ st. n >>= λ m. stepped m st)
+      go None n = refl
+      go (Some k) None = nothing (runs k [])
+      go (Some k) (Some m) = runs_append k (m ∷ []) [] ∙ last (runs k []) m
 
-  pub stack_step : (m : Node) → node_in h i ≡ some m → stack_at h (suc i) ≡ (stack_at h i >>= stepped m)
+  pub stack_step : (m : Node) → node_in h i ≡ Some m → stack_at h (suc i) ≡ (stack_at h i >>= stepped m)
   stack_step m e = stack_suc ∙ rw e
 
-pub stack_zero : (h : Bytes) → stack_at h 0 ≡ some []
+pub stack_zero : (h : Bytes) → stack_at h 0 ≡ Some []
 unfolding stack_at nodes_to runs
 stack_zero h = refl
 
 -- A node takes what it takes, and leaves one.
 module _ (m : Node) (k : ℕ) where
-  pub risen_some : (j : ℕ) → arity m ≤ k → j + arity m ≡ suc k → risen m k ≡ some j
+  pub risen_some : (j : ℕ) → arity m ≤ k → j + arity m ≡ suc k → risen m k ≡ Some j
   unfolding risen
   risen_some j l e =
       let q : (k - arity m) + 1 ≡ j = omega arith in
       rw (le-leb (arity m) k l, q)
 
-  pub risen_none : k < arity m → risen m k ≡ none
+  pub risen_none : k < arity m → risen m k ≡ None
   unfolding risen
   risen_none l = rw (lt-leb (arity m) k l)
 
@@ -89,32 +89,32 @@ unfolding height_at
 height_suc h i = rw (stack_suc h i) (go (stack_at h i) (node_in h i))
   where
     go : (o : Option (List Core)) (n : Option Node) → map_option length (o >>= λ st. n >>= λ m. stepped m st) ≡ (map_option length o >>= λ k. n >>= λ m. risen m k)
-    go none n = refl
-    go (some st) none = refl
-    go (some st) (some m) = stepped_height m st
+    go None n = refl
+    go (Some st) None = refl
+    go (Some st) (Some m) = stepped_height m st
 
-pub height_zero : (h : Bytes) → height_at h 0 ≡ some 0
+pub height_zero : (h : Bytes) → height_at h 0 ≡ Some 0
 unfolding height_at
 height_zero h = rw (stack_zero h)
 
-pub height_stays : (h : Bytes) (i n : ℕ) → height_at h i ≡ none → i ≤ n → height_at h n ≡ none
+pub height_stays : (h : Bytes) (i n : ℕ) → height_at h i ≡ None → i ≤ n → height_at h n ≡ None
 height_stays h i zero e l = let q : i ≡ 0 = omega arith in rw q at e
 height_stays h i (suc n) e l = go (leb i n) refl (height_stays h i n e)
   where
-    go : (b : Bool) → leb i n ≡ b → (i ≤ n → height_at h n ≡ none) → height_at h (suc n) ≡ none
+    go : (b : Bool) → leb i n ≡ b → (i ≤ n → height_at h n ≡ None) → height_at h (suc n) ≡ None
     go true q ih = height_suc h n ∙ rw (ih (leb-true i n q))
     go false q ih = let w : i ≡ suc n = omega (arith, leb-false i n q) in rw w at e
 
 -- One query is left.
-left_one : (o : Option (List Core)) (k : ℕ) → map_option length o ≡ some k → eqb k 1 ≡ is_some (o >>= only)
-left_one none k e = cc
-left_one (some []) k e = let q : 0 ≡ k = cc in rw (← q)
-left_one (some (a ∷ [])) k e = let q : 1 ≡ k = cc in rw (← q)
-left_one (some (a ∷ b ∷ st)) k e = let q : suc (suc (length st)) ≡ k = cc in ne_eqb k 1 (omega arith)
+left_one : (o : Option (List Core)) (k : ℕ) → map_option length o ≡ Some k → eqb k 1 ≡ is_some (o >>= only)
+left_one None k e = cc
+left_one (Some []) k e = let q : 0 ≡ k = cc in rw (← q)
+left_one (Some (a ∷ [])) k e = let q : 1 ≡ k = cc in rw (← q)
+left_one (Some (a ∷ b ∷ st)) k e = let q : suc (suc (length st)) ≡ k = cc in ne_eqb k 1 (omega arith)
 
-left_none : (o : Option (List Core)) → map_option length o ≡ none → false ≡ is_some (o >>= only)
-left_none none e = refl
-left_none (some st) e = cc
+left_none : (o : Option (List Core)) → map_option length o ≡ None → false ≡ is_some (o >>= only)
+left_none None e = refl
+left_none (Some st) e = cc
 
 -- A declared node takes as many as what it stands for.
 arity_is : (s : Bytes) (c : Connective) (y : Selector) → arity (joined_by s c y) ≡ joined_arity c y
@@ -129,25 +129,25 @@ arity_is s Connective.Select (Selector.Value p c k) = refl
 arity_is s Connective.Select (Selector.Link p c r) = refl
 
 -- What the form asks, and what is on the stack.
-only_some : (o : Option (List Core)) (q : Core) → (o >>= only) ≡ some q → o ≡ some (q ∷ [])
-only_some none q e = cc
-only_some (some []) q e = cc
-only_some (some (a ∷ [])) q e = let w : a ≡ q = cc in rw w
-only_some (some (a ∷ b ∷ st)) q e = cc
+only_some : (o : Option (List Core)) (q : Core) → (o >>= only) ≡ Some q → o ≡ Some (q ∷ [])
+only_some None q e = cc
+only_some (Some []) q e = cc
+only_some (Some (a ∷ [])) q e = let w : a ≡ q = cc in rw w
+only_some (Some (a ∷ b ∷ st)) q e = cc
 
 reads_stack : (h : Bytes) (n : ℕ) → (nodes_to h n >>= read_back) ≡ (stack_at h n >>= only)
 unfolding stack_at read_back
 reads_stack h n = go (nodes_to h n)
   where
     go : (o : Option (List Node)) → (o >>= λ l. runs l [] >>= only) ≡ ((o >>= λ l. runs l []) >>= only)
-    go none = refl
-    go (some l) = refl
+    go None = refl
+    go (Some l) = refl
 
-pub held_holds : (h : Bytes) (q : Core) → held_query h ≡ some q → HoldsCore h q
+pub held_holds : (h : Bytes) (q : Core) → held_query h ≡ Some q → HoldsCore h q
 unfolding held_query
 held_holds h q e = go (has_sizes h) refl e
   where
-    go : (b : Bool) → has_sizes h ≡ b → only_if b (nodes_to h (count_in h) >>= read_back) ≡ some q → HoldsCore h q
+    go : (b : Bool) → has_sizes h ≡ b → only_if b (nodes_to h (count_in h) >>= read_back) ≡ Some q → HoldsCore h q
     go false f g = let z : ◌≡◌ {A = ℕ} 0 1 = cc in absurd (omega arith)
     go true f g =
         let a = (and-eq-true_iff (leb query_size (length h) && leb 1 (count_in h)) (leb (count_in h) 256)).0 f in
@@ -159,19 +159,19 @@ held_holds h q e = go (has_sizes h) refl e
           stack = only_some (stack_at h (count_in h)) q (sym (reads_stack h (count_in h)) ∙ g);
         }
 
-pub holds_held : (h : Bytes) (q : Core) → HoldsCore h q → held_query h ≡ some q
+pub holds_held : (h : Bytes) (q : Core) → HoldsCore h q → held_query h ≡ Some q
 unfolding held_query
 holds_held h q k =
     rw (le-leb query_size (length h) k.long, le-leb 1 (count_in h) k.some_node, le-leb (count_in h) 256 k.few, reads_stack h (count_in h), k.stack)
 
 -- The code of a query leaves that query.
-pub stack_post : (h : Bytes) (n : ℕ) (q : Core) → nodes_to h n ≡ some (post q) → stack_at h n ≡ some (q ∷ [])
+pub stack_post : (h : Bytes) (n : ℕ) (q : Core) → nodes_to h n ≡ Some (post q) → stack_at h n ≡ Some (q ∷ [])
 unfolding stack_at
 stack_post h n q e = rw e (runs_post q [])
 
 -- The ways of the loop: no node, a node that lacks what it takes, a node more.
-module _ (h : Bytes) (i k : ℕ) (e : height_at h i ≡ some k) (r : NodeRead) (u : ReadsNode (heap_in h) (node_in h i) r) where
-  pub height_unread : r ≡ NodeRead.Nothing → height_at h (suc i) ≡ none
+module _ (h : Bytes) (i k : ℕ) (e : height_at h i ≡ Some k) (r : NodeRead) (u : ReadsNode (heap_in h) (node_in h i) r) where
+  pub height_unread : r ≡ NodeRead.Nothing → height_at h (suc i) ≡ None
   height_unread f = height_suc h i ∙ rw (e, u.is, f)
 
   module _ (x : DeclaredNode) (f : r ≡ NodeRead.Is x) (a : ℕ) (g : a ≡ arity_by x) where
@@ -181,10 +181,10 @@ module _ (h : Bytes) (i k : ℕ) (e : height_at h i ≡ some k) (r : NodeRead) (
     same : arity (node_by (heap_in h) x) ≡ a
     same = arity_is (heap_in h) x.connective x.selector ∙ sym g
 
-    pub height_lacks : k < a → height_at h (suc i) ≡ none
+    pub height_lacks : k < a → height_at h (suc i) ≡ None
     height_lacks l = height_read ∙ risen_none (node_by (heap_in h) x) k (omega (arith, same))
 
-    pub height_step : a ≤ k → height_at h (i + 1) ≡ some ((k - a) + 1)
+    pub height_step : a ≤ k → height_at h (i + 1) ≡ Some ((k - a) + 1)
     height_step l = rw (add-one i) (height_read ∙ risen_some (node_by (heap_in h) x) k ((k - a) + 1) (omega (arith, same)) (omega (arith, same)))
 
 -- The ways of the test.
@@ -202,11 +202,11 @@ module _ (h : Bytes) (n m : ℕ) (f : m ≡ two_at h 0) (e : n ≡ m) where
         let w : (leb query_size (length h) && leb 1 n && leb n 256) ≡ true = not-false _ g in
         rw (← f, ← e, w, reads_stack h n)
 
-    pub query_broken : (i : ℕ) → i < n → height_at h (suc i) ≡ none → false ≡ is_some (held_query h)
+    pub query_broken : (i : ℕ) → i < n → height_at h (suc i) ≡ None → false ≡ is_some (held_query h)
     unfolding height_at
     query_broken i l q = left_none (stack_at h n) (height_stays h (suc i) n q l) ∙ sym query_is
 
-    pub query_done : (i k : ℕ) → n ≤ i → i ≤ n → height_at h i ≡ some k → eqb k 1 ≡ is_some (held_query h)
+    pub query_done : (i k : ℕ) → n ≤ i → i ≤ n → height_at h i ≡ Some k → eqb k 1 ≡ is_some (held_query h)
     unfolding height_at
     query_done i k l j q =
         let w : i ≡ n = omega arith in

@@ -1,8 +1,8 @@
 -- What the tag of a node tells of it.
+use Rattle.std.specs.Prelude.{Option}
 use Prim.Native.Nat.{ℕ, zero, suc}
 use mathlib.Core.Path.{◌≡◌, refl, ap, subst, ◌∙◌}
 use mathlib.Core.Bool.{Bool, ◌&&◌, ◌||◌}
-use mathlib.Core.Option.{Option}
 use lib.Dec.{eqb}
 use Rattle.text.specs.Bytes.{Bytes}
 use borrow.Author.Tests.{eqb-true}

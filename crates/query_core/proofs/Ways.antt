@@ -1,9 +1,9 @@
 -- The ways through the functions that read a node: what the calls gave, and what the answer then is.
+use Rattle.std.specs.Prelude.{Option, Some, None}
 use Prim.Native.Nat.{ℕ, suc, ◌-◌, ◌/◌, ◌≤◌, ◌<◌}
 use mathlib.Core.Path.{◌≡◌, refl, sym, ap, subst, ◌∙◌}
 use mathlib.Core.List.{[]}
 use mathlib.Core.Bool.{Bool, true, false, cond, not, ◌&&◌, ◌||◌, and_assoc, and-eq-true_iff}
-use mathlib.Core.Option.{Option, some, none}
 use native.Mathlib.Omega.{arith}
 use lib.ListN.{length, get_or, drop_of_length-le}
 use lib.Seq.{take-nil}
@@ -50,10 +50,10 @@ module _ (s : Bytes) (x : Slot) where
     page_reads e = record { is = constant_known ∙ rw e; keeps = refl }
 
     module _ (r : ConstantRead) (fit : Bool) where
-      chosen_reads : (c : Constant) → constant_of s x ≡ only_if fit (some (constant_by s c)) → (fit ≡ true → keeps_constant s c ≡ true) → r ≡ chosen fit c → ConstantReads s x r
+      chosen_reads : (c : Constant) → constant_of s x ≡ only_if fit (Some (constant_by s c)) → (fit ≡ true → keeps_constant s c ≡ true) → r ≡ chosen fit c → ConstantReads s x r
       chosen_reads c e f g = go fit e f g
         where
-          go : (b : Bool) → constant_of s x ≡ only_if b (some (constant_by s c)) → (b ≡ true → keeps_constant s c ≡ true) → r ≡ chosen b c → ConstantReads s x r
+          go : (b : Bool) → constant_of s x ≡ only_if b (Some (constant_by s c)) → (b ≡ true → keeps_constant s c ≡ true) → r ≡ chosen b c → ConstantReads s x r
           go true e f g = record { is = rw g e; keeps = rw g (f refl) }
           go false e f g = record { is = rw g e; keeps = rw g }
 
@@ -67,26 +67,26 @@ pub ruleset constants = (constant_unknown, page_reads, scalar_reads, string_read
 
 -- A comparator that was read, or not.
 module _ (q : ComparatorRead) (o : Option Comparator) (e : q ≡ comparator_read o) where
-  read_comparator : (c : Comparator) → q ≡ ComparatorRead.Is c → o ≡ some c
+  read_comparator : (c : Comparator) → q ≡ ComparatorRead.Is c → o ≡ Some c
   read_comparator c f = go o e
     where
-      go : (o : Option Comparator) → q ≡ comparator_read o → o ≡ some c
-      go none g = let z : ComparatorRead.Is c ≡ ComparatorRead.Nothing = sym f ∙ g in cc
-      go (some d) g = let z : ComparatorRead.Is c ≡ ComparatorRead.Is d = sym f ∙ g in cc
+      go : (o : Option Comparator) → q ≡ comparator_read o → o ≡ Some c
+      go None g = let z : ComparatorRead.Is c ≡ ComparatorRead.Nothing = sym f ∙ g in cc
+      go (Some d) g = let z : ComparatorRead.Is c ≡ ComparatorRead.Is d = sym f ∙ g in cc
 
-  no_comparator : q ≡ ComparatorRead.Nothing → o ≡ none
+  no_comparator : q ≡ ComparatorRead.Nothing → o ≡ None
   no_comparator f = go o e
     where
-      go : (o : Option Comparator) → q ≡ comparator_read o → o ≡ none
-      go none g = refl
-      go (some d) g = let z : ComparatorRead.Nothing ≡ ComparatorRead.Is d = sym f ∙ g in cc
+      go : (o : Option Comparator) → q ≡ comparator_read o → o ≡ None
+      go None g = refl
+      go (Some d) g = let z : ComparatorRead.Nothing ≡ ComparatorRead.Is d = sym f ∙ g in cc
 
-only_none : (b : Bool) → ◌≡◌ {A = Option Node} (only_if b none) none
+only_none : (b : Bool) → ◌≡◌ {A = Option Node} (only_if b None) None
 only_none true = refl
 only_none false = refl
 
 -- A selector whose name was tested.
-selected_reads : (s : Bytes) (r : NodeRead) (o : Option Node) (b : Bool) (y : Selector) → o ≡ only_if b (some (selector_by s y)) → (b ≡ true → keeps_selector s y ≡ true) → r ≡ selected b y → ReadsNode s o r
+selected_reads : (s : Bytes) (r : NodeRead) (o : Option Node) (b : Bool) (y : Selector) → o ≡ only_if b (Some (selector_by s y)) → (b ≡ true → keeps_selector s y ≡ true) → r ≡ selected b y → ReadsNode s o r
 selected_reads s r o true y e f g = record { is = rw g e; keeps = rw g (f refl) }
 selected_reads s r o false y e f g = record { is = rw g e; keeps = rw g }
 
@@ -135,11 +135,11 @@ split_told s r n a spaced named en ea es em = rw (es, em, en, ea) (go r.qualifie
     go false = refl
 
 link_is : (s : Bytes) (code : ℕ) (name : Span) (r : Split) (p q l : Bool) → p ≡ is_composed_property_name (part_of s name) → q ≡ is_composed_reference (split_of s r) → l ≡ leb code last_comparator
-    → link_from code (part_of s name) (split_of s r) ≡ only_if (p && q && l) (some (selector_by s (Selector.Link name (comparator_of code) r)))
+    → link_from code (part_of s name) (split_of s r) ≡ only_if (p && q && l) (Some (selector_by s (Selector.Link name (comparator_of code) r)))
 unfolding link_from
 link_is s code name r p q l ep eq el = rw (← ep, ← eq, ← el) (go p q l)
   where
-    go : (p q l : Bool) → ◌≡◌ {A = Option Node} (only_if (p && q) (only_if l (some (comparator_of code)) >>= λ d. some (Node.link (part_of s name) d (split_of s r)))) (only_if (p && q && l) (some (Node.link (part_of s name) (comparator_of code) (split_of s r))))
+    go : (p q l : Bool) → ◌≡◌ {A = Option Node} (only_if (p && q) (only_if l (Some (comparator_of code)) >>= λ d. Some (Node.link (part_of s name) d (split_of s r)))) (only_if (p && q && l) (Some (Node.link (part_of s name) (comparator_of code) (split_of s r))))
     go true true true = refl
     go true true false = refl
     go true false l = refl

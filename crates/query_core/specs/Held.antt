@@ -1,7 +1,6 @@
 -- The held query: 29,794 bytes. Two bytes with the number of nodes (low byte first), 256 nodes of 20 bytes in postfix order, then a
 -- heap of 24,672 bytes with their names and string constants. docs/LAYOUT.md has it byte by byte.
-use Rattle.std.specs.Prelude.{ℕ, zero, suc, ◌+◌, ◌-◌, ◌*◌, Bool, cond, ◌&&◌, List, [], ◌∷◌, ◌++◌, leb, ltb, eqb, length, get_or}
-use Rattle.std.proofs.Math.Option.{Option, some, none}
+use Rattle.std.specs.Prelude.{ℕ, zero, suc, ◌+◌, ◌-◌, ◌*◌, Bool, cond, ◌&&◌, List, [], ◌∷◌, ◌++◌, leb, ltb, eqb, length, get_or, Option, Some, None}
 use Rattle.text.specs.Bytes.{Bytes, part}
 use Rattle.text.specs.Parts.{part_of}
 use Rattle.buffer.specs.Numbers.{two_at, eight_at}
@@ -46,16 +45,16 @@ slot_from b =
 
 unfoldable pub comparator_from : ℕ → Option Comparator
 comparator_from c =
-    cond (eqb c 0) (some Comparator.Equal)
-    (cond (eqb c 1) (some Comparator.Unequal)
-    (cond (eqb c 2) (some Comparator.Greater)
-    (cond (eqb c 3) (some Comparator.Less) none)))
+    cond (eqb c 0) (Some Comparator.Equal)
+    (cond (eqb c 1) (Some Comparator.Unequal)
+    (cond (eqb c 2) (Some Comparator.Greater)
+    (cond (eqb c 3) (Some Comparator.Less) None)))
 
 -- The constant of a kind: a scalar by its code, or a string, the slot's second one. A page value is no constant.
 abbrev pub constant_of_kind : Kind → ℕ → Bytes → Option Constant
-constant_of_kind Kind.Page n s = none
-constant_of_kind (Kind.Scalar k) n s = only_if (in_range k n) (some (scalar k n))
-constant_of_kind Kind.String n s = only_if (is_value s) (some (string s))
+constant_of_kind Kind.Page n s = None
+constant_of_kind (Kind.Scalar k) n s = only_if (in_range k n) (Some (scalar k n))
+constant_of_kind Kind.String n s = only_if (is_value s) (Some (string s))
 
 -- A constant by its kind's byte; from kind_count on no byte is a kind's.
 unfoldable pub constant_from : ℕ → ℕ → Bytes → Option Constant
@@ -64,14 +63,14 @@ constant_from b n s = only_if (ltb b kind_count) (constant_of_kind (kind_from b)
 -- A node by its tag; its names and constants keep their rules.
 unfoldable pub node_from : ℕ → ℕ → Option Constant → Bytes → Bytes → Option Node
 node_from tag c v x y =
-    cond (eqb tag 0) (some Node.conjunction)
-    (cond (eqb tag 1) (some Node.disjunction)
-    (cond (eqb tag 2) (only_if (is_composed_name x) (some (Node.category x)))
-    (cond (eqb tag 3) (only_if (is_composed_namespace x) (some (Node.namespace x)))
-    (cond (eqb tag 4) (only_if (is_composed_property_name x) (some (Node.existence x)))
-    (cond (eqb tag 5) (only_if (is_composed_property_name x) (some (Node.subquery x)))
-    (cond (eqb tag 6) (only_if (is_composed_name y) (comparator_from c >>= λ d. some (Node.article d y)))
-    (cond (eqb tag 7) (only_if (is_composed_property_name x) (comparator_from c >>= λ d. v >>= λ w. some (Node.value x d w))) none)))))))
+    cond (eqb tag 0) (Some Node.conjunction)
+    (cond (eqb tag 1) (Some Node.disjunction)
+    (cond (eqb tag 2) (only_if (is_composed_name x) (Some (Node.category x)))
+    (cond (eqb tag 3) (only_if (is_composed_namespace x) (Some (Node.namespace x)))
+    (cond (eqb tag 4) (only_if (is_composed_property_name x) (Some (Node.existence x)))
+    (cond (eqb tag 5) (only_if (is_composed_property_name x) (Some (Node.subquery x)))
+    (cond (eqb tag 6) (only_if (is_composed_name y) (comparator_from c >>= λ d. Some (Node.article d y)))
+    (cond (eqb tag 7) (only_if (is_composed_property_name x) (comparator_from c >>= λ d. v >>= λ w. Some (Node.value x d w))) None)))))))
 
 -- The constant of a slot, and the node that it is by a tag; their strings lie in s.
 unfoldable pub constant_of : Bytes → Slot → Option Constant
@@ -79,7 +78,7 @@ constant_of s x = constant_from x.kind x.number (part_of s x.second)
 
 -- A link, a slot of tag 8: its comparator is one of the six as written; a namespace stands behind the property's name.
 abbrev pub surface_from : ℕ → Option SurfaceComparator
-surface_from c = only_if (leb c last_comparator) (some (comparator_of c))
+surface_from c = only_if (leb c last_comparator) (Some (comparator_of c))
 
 -- Where a namespace of n bytes stands at the end of a place, and what is before it.
 abbrev pub before : ℕ → Span → Span
@@ -89,7 +88,7 @@ abbrev pub behind : ℕ → Span → Span
 behind n p = record { start = p.start + (p.len - n); len = n }
 
 unfoldable pub link_from : ℕ → Bytes → Reference → Option Node
-link_from c x r = only_if (is_composed_property_name x && is_composed_reference r) (surface_from c >>= λ d. some (Node.link x d r))
+link_from c x r = only_if (is_composed_property_name x && is_composed_reference r) (surface_from c >>= λ d. Some (Node.link x d r))
 
 unfoldable pub link_by : Bytes → ℕ → Slot → Option Node
 link_by s zero x = link_from x.comparator (part_of s x.first) (bare (part_of s x.second))
@@ -107,8 +106,8 @@ node_in h i = node_of (heap_in h) (slot_in h i).tag (slot_in h i)
 
 -- The first n nodes, if each is one.
 unfoldable pub nodes_to : Bytes → ℕ → Option (List Node)
-nodes_to h zero = some []
-nodes_to h (suc n) = nodes_to h n >>= λ l. node_in h n >>= λ m. some (l ++ (m ∷ []))
+nodes_to h zero = Some []
+nodes_to h (suc n) = nodes_to h n >>= λ l. node_in h n >>= λ m. Some (l ++ (m ∷ []))
 
 -- The core query that bytes hold, if they are the form of one of 1 to 256 nodes.
 abbrev pub has_sizes : Bytes → Bool

@@ -1,6 +1,5 @@
 -- A core query as postfix nodes, and the stack machine that reads it back: by it a held query says what it holds.
-use Rattle.std.specs.Prelude.{List, [], ◌∷◌, ◌++◌}
-use Rattle.std.proofs.Math.Option.{Option, some, none}
+use Rattle.std.specs.Prelude.{List, [], ◌∷◌, ◌++◌, Option, Some, None}
 use Rattle.text.specs.Bytes.{Bytes}
 use Rattle.values.specs.Names.{Reference}
 use Rattle.values.specs.Values.{Constant}
@@ -38,30 +37,30 @@ unfoldable mutual
 
 -- The queries on the stack, the last one first, after a node.
 unfoldable pub stepped : Node → List Core → Option (List Core)
-stepped Node.conjunction [] = none
-stepped Node.conjunction (b ∷ []) = none
-stepped Node.conjunction (b ∷ a ∷ st) = some (Core.conjunction a b ∷ st)
-stepped Node.disjunction [] = none
-stepped Node.disjunction (b ∷ []) = none
-stepped Node.disjunction (b ∷ a ∷ st) = some (Core.disjunction a b ∷ st)
-stepped (Node.category x) st = some (Core.select (Selector.category x) ∷ st)
-stepped (Node.namespace x) st = some (Core.select (Selector.namespace x) ∷ st)
-stepped (Node.existence x) st = some (Core.select (Selector.existence x) ∷ st)
-stepped (Node.subquery x) [] = none
-stepped (Node.subquery x) (a ∷ st) = some (Core.select (Selector.subquery x a) ∷ st)
-stepped (Node.article c x) st = some (Core.select (Selector.article c x) ∷ st)
-stepped (Node.value x c v) st = some (Core.select (Selector.value x c v) ∷ st)
-stepped (Node.link x c r) st = some (Core.select (Selector.link x c r) ∷ st)
+stepped Node.conjunction [] = None
+stepped Node.conjunction (b ∷ []) = None
+stepped Node.conjunction (b ∷ a ∷ st) = Some (Core.conjunction a b ∷ st)
+stepped Node.disjunction [] = None
+stepped Node.disjunction (b ∷ []) = None
+stepped Node.disjunction (b ∷ a ∷ st) = Some (Core.disjunction a b ∷ st)
+stepped (Node.category x) st = Some (Core.select (Selector.category x) ∷ st)
+stepped (Node.namespace x) st = Some (Core.select (Selector.namespace x) ∷ st)
+stepped (Node.existence x) st = Some (Core.select (Selector.existence x) ∷ st)
+stepped (Node.subquery x) [] = None
+stepped (Node.subquery x) (a ∷ st) = Some (Core.select (Selector.subquery x a) ∷ st)
+stepped (Node.article c x) st = Some (Core.select (Selector.article c x) ∷ st)
+stepped (Node.value x c v) st = Some (Core.select (Selector.value x c v) ∷ st)
+stepped (Node.link x c r) st = Some (Core.select (Selector.link x c r) ∷ st)
 
 unfoldable pub runs : List Node → List Core → Option (List Core)
-runs [] st = some st
+runs [] st = Some st
 runs (n ∷ l) st = stepped n st >>= runs l
 
 -- The one query that is left.
 abbrev pub only : List Core → Option Core
-only [] = none
-only (q ∷ []) = some q
-only (q ∷ r ∷ st) = none
+only [] = None
+only (q ∷ []) = Some q
+only (q ∷ r ∷ st) = None
 
 -- The core query that nodes are the postfix code of.
 unfoldable pub read_back : List Node → Option Core

@@ -1,6 +1,5 @@
 -- Working definitions: what a declared node says of a text, whether it keeps the rules, and what reading one answers.
-use Rattle.std.specs.Prelude.{◌≡◌, Bool, true, false, ◌&&◌}
-use Rattle.std.proofs.Math.Option.{Option, some, none}
+use Rattle.std.specs.Prelude.{◌≡◌, Bool, true, false, ◌&&◌, Option, Some, None}
 use Rattle.text.specs.Bytes.{Bytes}
 use Rattle.text.specs.Parts.{part_of}
 use Rattle.names.specs.Names.{is_composed_name, is_composed_property_name, is_composed_namespace}
@@ -76,16 +75,16 @@ keeps s n = keeps_joined s n.connective n.selector
 
 -- What the reading functions answer.
 abbrev pub comparator_read : Option Comparator → ComparatorRead
-comparator_read none = ComparatorRead.Nothing
-comparator_read (some c) = ComparatorRead.Is c
+comparator_read None = ComparatorRead.Nothing
+comparator_read (Some c) = ComparatorRead.Is c
 
 abbrev pub chosen : Bool → Constant → ConstantRead
 chosen true c = ConstantRead.Is c
 chosen false c = ConstantRead.Nothing
 
 abbrev pub constant_read_by : Bytes → ConstantRead → Option CoreConstant
-constant_read_by s ConstantRead.Nothing = none
-constant_read_by s (ConstantRead.Is c) = some (constant_by s c)
+constant_read_by s ConstantRead.Nothing = None
+constant_read_by s (ConstantRead.Is c) = Some (constant_by s c)
 
 abbrev pub keeps_constant_read : Bytes → ConstantRead → Bool
 keeps_constant_read s ConstantRead.Nothing = true
@@ -104,8 +103,8 @@ abbrev pub joining : Connective → NodeRead
 joining c = NodeRead.Is (record { connective = c; selector = Selector.Category (record { start = 0; len = 0 }) })
 
 abbrev pub read_by : Bytes → NodeRead → Option Postfix.Node
-read_by s NodeRead.Nothing = none
-read_by s (NodeRead.Is n) = some (node_by s n)
+read_by s NodeRead.Nothing = None
+read_by s (NodeRead.Is n) = Some (node_by s n)
 
 abbrev pub keeps_read : Bytes → NodeRead → Bool
 keeps_read s NodeRead.Nothing = true
@@ -130,4 +129,4 @@ expects_kind (Postfix.link x c r) = true
 
 -- What is told of a node, where there is one.
 unfoldable pub TestsNode : (Postfix.Node → Bool) → Option Postfix.Node → Bool → Type 0
-TestsNode f o r = (m : Postfix.Node) → o ≡ some m → r ≡ f m
+TestsNode f o r = (m : Postfix.Node) → o ≡ Some m → r ≡ f m

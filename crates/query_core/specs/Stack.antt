@@ -1,6 +1,5 @@
 -- Working definitions: the stack after the first nodes, and its height.
-use Rattle.std.specs.Prelude.{ℕ, ◌+◌, ◌-◌, ◌≤◌, ◌≡◌, Bool, true, false, List, [], ◌∷◌, leb, length}
-use Rattle.std.proofs.Math.Option.{Option, some, none}
+use Rattle.std.specs.Prelude.{ℕ, ◌+◌, ◌-◌, ◌≤◌, ◌≡◌, Bool, true, false, List, [], ◌∷◌, leb, length, Option, Some, None}
 use Rattle.text.specs.Bytes.{Bytes}
 use Rattle.values.specs.Values.{map_option}
 use Rattle.language.specs.Answer.{◌>>=◌, only_if}
@@ -14,8 +13,8 @@ use Rattle.query_core.specs.Held.{query_size, count_in, nodes_to}
 
 -- Something was read.
 abbrev pub is_some : {A : Type 0} → Option A → Bool
-is_some none = false
-is_some (some a) = true
+is_some None = false
+is_some (Some a) = true
 
 -- The queries on the stack after the first i nodes, and how many they are.
 unfoldable pub stack_at : Bytes → ℕ → Option (List Core)
@@ -29,7 +28,7 @@ pub record HoldsCore (h : Bytes) (q : Core) : Type 0 where
   pub long : query_size ≤ length h
   pub some_node : 1 ≤ count_in h
   pub few : count_in h ≤ 256
-  pub stack : stack_at h (count_in h) ≡ some (q ∷ [])
+  pub stack : stack_at h (count_in h) ≡ Some (q ∷ [])
 
 -- How many queries a node takes; it leaves one.
 abbrev pub arity : Postfix.Node → ℕ
@@ -44,7 +43,7 @@ arity (Postfix.value x c v) = 0
 arity (Postfix.link x c r) = 0
 
 unfoldable pub risen : Postfix.Node → ℕ → Option ℕ
-risen m k = only_if (leb (arity m) k) (some ((k - arity m) + 1))
+risen m k = only_if (leb (arity m) k) (Some ((k - arity m) + 1))
 
 -- The same of a declared node.
 abbrev pub selector_arity : Selector → ℕ

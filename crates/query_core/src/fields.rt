@@ -5,8 +5,8 @@ ghost use Rattle.query_core.specs.Reading.{selected};
 
 use crate::{Connective, Node, NodeRead, Selector, Slot};
 use buffer::{eight_at, two_at};
-use tables::widen;
-use text::{Span, byte_at};
+use tables::get_or;
+use text::Span;
 
 // The node of a selector, where its name keeps its rule.
 pub fn selected_if(fit: bool, s: Selector) -> NodeRead
@@ -27,8 +27,8 @@ pub fn first_of(b: &[u8]) -> Span
     ensures { result ≡ (slot_from b.now).first }
 {
     Span {
-        start: widen(two_at(b, 4)),
-        len: widen(two_at(b, 6)),
+        start: usize::from(two_at(b, 4)),
+        len: usize::from(two_at(b, 6)),
     }
 }
 
@@ -36,8 +36,8 @@ pub fn second_of(b: &[u8]) -> Span
     ensures { result ≡ (slot_from b.now).second }
 {
     Span {
-        start: widen(two_at(b, 8)),
-        len: widen(two_at(b, 10)),
+        start: usize::from(two_at(b, 8)),
+        len: usize::from(two_at(b, 10)),
     }
 }
 
@@ -48,9 +48,9 @@ pub fn slot_from(b: &[u8]) -> Slot
     let first = first_of(b);
     let second = second_of(b);
     Slot {
-        tag: byte_at(b, 0),
-        comparator: byte_at(b, 1),
-        kind: byte_at(b, 2),
+        tag: get_or(b, 0, 0),
+        comparator: get_or(b, 1, 0),
+        kind: get_or(b, 2, 0),
         first,
         second,
         number: eight_at(b, 12),

@@ -10,15 +10,15 @@ use crate::{NodeRead, Selector};
 use buffer::two_at;
 use language::{LAST_COMPARATOR, comparator_from as comparator_as_written};
 use names::{is_composed_name, is_composed_namespace, is_composed_property_name};
-use tables::widen;
-use text::{Span, byte_at, part};
+use tables::get_or;
+use text::{Span, part};
 use values::Split;
 
 // How many bytes of a place of n bytes stand before the last k.
 fn before_last(n: u16, k: u16) -> usize
     ensures { result ≡ n - k }
 {
-    if n < k { 0 } else { widen(n - k) }
+    if n < k { 0 } else { usize::from(n - k) }
 }
 
 // Where the property's name of a link lies, and its reference, by the bytes of a slot: with a namespace of n bytes behind the name.
@@ -26,7 +26,7 @@ fn link_name(b: &[u8], n: u16) -> Span
     ensures { result ≡ before n (slot_from b.now).first }
 {
     Span {
-        start: widen(two_at(b, 4)),
+        start: usize::from(two_at(b, 4)),
         len: before_last(two_at(b, 6), n),
     }
 }
@@ -36,8 +36,8 @@ fn link_namespace(b: &[u8], n: u16) -> Span
 {
     let name = before_last(two_at(b, 6), n);
     Span {
-        start: widen(two_at(b, 4)) + name,
-        len: widen(n),
+        start: usize::from(two_at(b, 4)) + name,
+        len: usize::from(n),
     }
 }
 
@@ -61,8 +61,8 @@ fn link_at(heap: &[u8], code: u8, name: Span, split: Split) -> NodeRead
 pub fn link_from(heap: &[u8], b: &[u8]) -> NodeRead
     ensures { ReadsNode heap.now (node_of heap.now 8 (slot_from b.now)) result }
 {
-    let code = byte_at(b, 1);
-    let mark = byte_at(b, 2);
+    let code = get_or(b, 1, 0);
+    let mark = get_or(b, 2, 0);
     let article = second_of(b);
     if mark == 0 {
         let none = Span { start: 0, len: 0 };

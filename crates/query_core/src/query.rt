@@ -6,7 +6,6 @@ ghost use Rattle.query_core.specs.Stack.{arity_by, is_some};
 use crate::reading::node_at;
 use crate::{Connective, Node, NodeRead, QUERY_BYTES, Selector, layout};
 use buffer::two_at;
-use tables::widen;
 
 // How many queries a node takes from the stack; each node leaves one.
 fn arity(node: Node) -> usize
@@ -33,7 +32,7 @@ fn arity(node: Node) -> usize
 pub fn is_query(h: &[u8]) -> bool
     ensures { result ≡ is_some (held_query h.now) }
 {
-    let count = widen(two_at(h, 0));
+    let count = usize::from(two_at(h, 0));
     let sized = (QUERY_BYTES <= h.len()) & (1 <= count) & (count <= layout::MOST_NODES);
     if !sized {
         return false;

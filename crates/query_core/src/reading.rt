@@ -11,7 +11,8 @@ use crate::{
 };
 use language::Comparator;
 use names::{is_composed_name, is_composed_namespace, is_composed_property_name};
-use text::{Span, byte_at, part};
+use tables::get_or;
+use text::{Span, part};
 use values::{KIND_COUNT, Kind, in_range, is_value, kind_from};
 
 // The comparator of a code.
@@ -65,7 +66,7 @@ fn constant_from(heap: &[u8], x: Slot) -> ConstantRead
 fn article_from(heap: &[u8], b: &[u8]) -> NodeRead
     ensures { ReadsNode heap.now (node_of heap.now 6 (slot_from b.now)) result }
 {
-    let read = comparator_from(byte_at(b, 1));
+    let read = comparator_from(get_or(b, 1, 0));
     let ComparatorRead::Is(c) = read else {
         return NodeRead::Nothing;
     };
@@ -162,7 +163,7 @@ fn slot_bytes(h: &[u8], i: usize) -> &[u8]
 fn tag_at(h: &[u8], i: usize) -> u8
     ensures { result ≡ (slot_in h.now i).tag }
 {
-    byte_at(slot_bytes(h, i), 0)
+    get_or(slot_bytes(h, i), 0, 0)
 }
 
 // Whether the node in a place is a subquery, a value comparison or a link: by its tag alone.
@@ -179,5 +180,5 @@ pub fn node_at(h: &[u8], i: usize) -> NodeRead
 {
     let heap = part(h, layout::HEAP, layout::HEAP_BYTES);
     let b = slot_bytes(h, i);
-    node_from(heap, byte_at(b, 0), b)
+    node_from(heap, get_or(b, 0, 0), b)
 }

@@ -1,24 +1,22 @@
 -- A piece of the text as a constant of a kind.
+use Rattle.std.specs.Prelude.{Option, Some, None}
 use Prim.Native.Nat.{ℕ}
 use mathlib.Core.Path.{◌≡◌, refl, sym, ap, ◌∙◌}
-use mathlib.Core.Option.{Option, some, none}
 use Rattle.text.specs.Bytes.{Bytes}
 use Rattle.text.specs.Parts.{part_of}
 use Rattle.text.specs.declared.Span.{Span}
 use Rattle.values.specs.declared.Kind.{Kind}
 use Rattle.values.specs.declared.Scalar.{Scalar}
-use Rattle.values.specs.declared.CodeRead.{CodeRead}
 use Rattle.values.specs.Values.{scalar, map_option, read_scalar, read_constant}
-use Rattle.values.specs.Answers.{code_read}
 use Rattle.query_core.specs.declared.Constant.{Constant}
 use Rattle.query_core.specs.declared.ConstantRead.{ConstantRead}
 use Rattle.query_core.specs.Reading.{constant_read_by}
 use Rattle.query_core_emit.specs.Emission.{scalar_constant, constant_in}
 
 -- The ways to read a constant.
-abbrev told : Scalar → CodeRead → ConstantRead
-told j (CodeRead.Code n) = ConstantRead.Is (Constant.Scalar j n)
-told j CodeRead.Unfit = ConstantRead.Nothing
+abbrev told : Scalar → Option ℕ → ConstantRead
+told j (Some n) = ConstantRead.Is (Constant.Scalar j n)
+told j None = ConstantRead.Nothing
 
 module _ (s : Bytes) (p : Span) (k : Kind) where
   pub page_none : k ≡ Kind.Page → ConstantRead.Nothing ≡ constant_in s p k
@@ -29,19 +27,19 @@ module _ (s : Bytes) (p : Span) (k : Kind) where
   unfolding constant_in
   string_in f = rw f
 
-  module _ (j : Scalar) (f : k ≡ Kind.Scalar j) (t : Bytes) (e : t ≡ part_of s p) (r : CodeRead) (is : r ≡ code_read (read_scalar j t)) where
+  module _ (j : Scalar) (f : k ≡ Kind.Scalar j) (t : Bytes) (e : t ≡ part_of s p) (r : Option ℕ) (is : r ≡ (read_scalar j t)) where
     told_in : told j r ≡ constant_in s p k
     unfolding constant_in
     told_in = ap (told j) is ∙ rw (f, ← e) (go (read_scalar j t))
       where
-        go : (o : Option ℕ) → told j (code_read o) ≡ scalar_constant j o
-        go none = refl
-        go (some n) = refl
+        go : (o : Option ℕ) → told j (o) ≡ scalar_constant j o
+        go None = refl
+        go (Some n) = refl
 
-    pub code_in : (n : ℕ) → r ≡ CodeRead.Code n → ConstantRead.Is (Constant.Scalar j n) ≡ constant_in s p k
+    pub code_in : (n : ℕ) → r ≡ Some n → ConstantRead.Is (Constant.Scalar j n) ≡ constant_in s p k
     code_in n g = sym (ap (told j) g) ∙ told_in
 
-    pub code_none : r ≡ CodeRead.Unfit → ConstantRead.Nothing ≡ constant_in s p k
+    pub code_none : r ≡ None → ConstantRead.Nothing ≡ constant_in s p k
     code_none g = sym (ap (told j) g) ∙ told_in
 
 pub ruleset constants = (page_none, string_in, code_in, code_none)
@@ -54,6 +52,6 @@ module _ (s : Bytes) (p : Span) where
   constant_is (Kind.Scalar k) = go (read_scalar k (part_of s p))
     where
       go : (o : Option ℕ) → map_option (scalar k) o ≡ constant_read_by s (scalar_constant k o)
-      go none = refl
-      go (some n) = refl
+      go None = refl
+      go (Some n) = refl
   constant_is Kind.String = refl

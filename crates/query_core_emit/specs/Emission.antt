@@ -1,6 +1,5 @@
 -- Working definitions: nodes put behind those that a held query has, and the core queries of references and values.
-use Rattle.std.specs.Prelude.{ℕ, ◌≡◌, Bool, true, false, cond, List, ◌++◌}
-use Rattle.std.proofs.Math.Option.{Option, some, none}
+use Rattle.std.specs.Prelude.{ℕ, ◌≡◌, Bool, true, false, cond, List, ◌++◌, Option, Some, None}
 use Rattle.text.specs.Bytes.{Bytes}
 use Rattle.text.specs.Parts.{part_of}
 use Rattle.text.specs.declared.Span.{Span}
@@ -31,8 +30,8 @@ pub record Adds (k : List Node) (h : Bytes) (p : Place) (h' : Bytes) (p' : Place
 
 -- What emission answers, where o is the core query that is meant, if there is one.
 unfoldable pub Emits : Option Core → Bytes → Place → Emitted → Bytes → Type 0
-Emits o h p Emitted.Unfit h' = o ≡ none
-Emits o h p (Emitted.At p') h' = (c : Core) × (o ≡ some c) × Adds (post c) h p h' p'
+Emits o h p Emitted.Unfit h' = o ≡ None
+Emits o h p (Emitted.At p') h' = (c : Core) × (o ≡ Some c) × Adds (post c) h p h' p'
 
 -- The node of OR, and of AND.
 abbrev pub connective_node : Bool → Node
@@ -56,8 +55,8 @@ scope_of c r =
 
 -- The constant that the piece at p writes in a kind.
 abbrev pub scalar_constant : Scalar → Option ℕ → ConstantRead
-scalar_constant k none = ConstantRead.Nothing
-scalar_constant k (some n) = ConstantRead.Is (Constant.Scalar k n)
+scalar_constant k None = ConstantRead.Nothing
+scalar_constant k (Some n) = ConstantRead.Is (Constant.Scalar k n)
 
 unfoldable pub constant_in : Bytes → Span → Kind → ConstantRead
 constant_in s p Kind.Page = ConstantRead.Nothing

@@ -4,7 +4,7 @@ ghost use Rattle.query_core_emit.specs.Emission.{constant_in};
 
 use query_core::{Constant, ConstantRead};
 use text::{Span, part};
-use values::{CodeRead, Kind, read_scalar};
+use values::{Kind, read_scalar};
 
 // The constant that the piece at p writes in a kind.
 pub fn constant_of(text: &[u8], p: Span, kind: Kind) -> ConstantRead
@@ -14,8 +14,8 @@ pub fn constant_of(text: &[u8], p: Span, kind: Kind) -> ConstantRead
     match kind {
         Kind::Page => ConstantRead::Nothing,
         Kind::Scalar(k) => match read_scalar(k, piece) {
-            CodeRead::Code(n) => ConstantRead::Is(Constant::Scalar(k, n)),
-            CodeRead::Unfit => ConstantRead::Nothing,
+            Some(n) => ConstantRead::Is(Constant::Scalar(k, n)),
+            None => ConstantRead::Nothing,
         },
         Kind::String => ConstantRead::Is(Constant::String(p)),
     }

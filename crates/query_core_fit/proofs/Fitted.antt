@@ -1,9 +1,9 @@
 -- What fitting a tree answers, by what was called.
+use Rattle.std.specs.Prelude.{Option, Some, None}
 use Prim.Native.Nat.{ℕ, ◌+◌, ◌≤◌, ◌<◌, min}
 use mathlib.Core.Path.{◌≡◌, sym, ap, subst, ◌∙◌}
 use mathlib.Core.Bool.{Bool, true, false, cond}
 use mathlib.Core.List.{[], append-nil}
-use mathlib.Core.Option.{Option, some, none}
 use native.Mathlib.Omega.{arith}
 use borrow.Author.Tests.{lt-ltb, le-ltb}
 use lib.Dec.{ltb}
@@ -81,14 +81,14 @@ module _ (t g : Bytes) (n w : ℕ) (u : Bool) (there : w ≡ two_at t 0) (wide :
           bytes = λ q c e s z a. absurd (let y : refused 18 ≡ accepted c = sym (let b : fit Γ q ≡ refused 18 = rw (declared_is q e, none_there q e) in b) ∙ a in let x : ◌≡◌ {A = ℕ} 0 1 = cc in omega arith);
         }
       where
-        none_there : (q : Query) → nodes_in t ≡ tree q → elaborate q Γ ≡ none
+        none_there : (q : Query) → nodes_in t ≡ tree q → elaborate q Γ ≡ None
         none_there q e = subst (λ (x : Emitted). Emits (elaborate q Γ) h start x h₁) f (emitted q e)
 
     module _ (p : Place) (f : v ≡ Emitted.At p) where
       -- the core query whose nodes are laid
       record CoreLaid (q : Query) : Type 0 where
         core : Core
-        says : elaborate q Γ ≡ some core
+        says : elaborate q Γ ≡ Some core
         laid : Laid h₁ p (post core)
         count : count_of p ≡ min 257 (nodes core)
 

@@ -1,9 +1,9 @@
 -- Two sides joined, and a query inside a property: what is emitted, by what was emitted of the parts.
+use Rattle.std.specs.Prelude.{Option, Some, None}
 use Prim.Native.Nat.{ℕ, ◌+◌, ◌<◌}
 use mathlib.Core.Path.{◌≡◌, refl, sym, ◌∙◌}
 use mathlib.Core.Bool.{Bool, true, false}
 use mathlib.Core.List.{List, [], ◌∷◌, ◌++◌, append_assoc}
-use mathlib.Core.Option.{Option, some, none}
 use native.Mathlib.Omega.{arith}
 use lib.ListN.{length, length-append}
 use Rattle.text.specs.Bytes.{Bytes}
@@ -25,10 +25,10 @@ join_adds : (or : Bool) (a b : Core) {h h₁ h₂ h₃ : Bytes} {p p₁ p₂ p�
 join_adds true a b f g d = disjunction_adds a b f g d
 join_adds false a b f g d = conjunction_adds a b f g d
 
-joined_none : (k : Core → Core → Core) (a : Option Core) → joined k a none ≡ none
+joined_none : (k : Core → Core → Core) (a : Option Core) → joined k a None ≡ None
 unfolding joined
-joined_none k none = refl
-joined_none k (some c) = refl
+joined_none k None = refl
+joined_none k (Some c) = refl
 
 module _ {A : Type 0} (t : A → List Node) (e : A → Option Core) (or : Bool) (l : List Node) (n i j : ℕ) (h : Bytes) (p : Place) where
   -- there are not as many nodes
@@ -48,11 +48,11 @@ module _ {A : Type 0} (t : A → List Node) (e : A → Option Core) (or : Bool) 
 
     pub two_first : (h₁ : Bytes) → Fits t e l i h p Emitted.Unfit h₁ → FitsTwo t e or l n j h p Emitted.Unfit h₁
     unfolding Emits joined
-    two_first h₁ x = record { is = λ k m a b f g d. let z : e a ≡ none = x.is k (t b ++ m) a f (first_ends k m a b g d) in rw z }
+    two_first h₁ x = record { is = λ k m a b f g d. let z : e a ≡ None = x.is k (t b ++ m) a f (first_ends k m a b g d) in rw z }
 
     pub two_second : (h₁ h₂ : Bytes) (p₁ : Place) → Fits t e l i h p (Emitted.At p₁) h₁ → Fits t e l j h₁ p₁ Emitted.Unfit h₂ → FitsTwo t e or l n j h p Emitted.Unfit h₂
     unfolding Emits
-    two_second h₁ h₂ p₁ x y = record { is = λ k m a b f g d. let z : e b ≡ none = y.is (k ++ t a) m b (second_there k m a b f) (second_ends k a b d) in rw z (joined_none (join_core or) (e a)) }
+    two_second h₁ h₂ p₁ x y = record { is = λ k m a b f g d. let z : e b ≡ None = y.is (k ++ t a) m b (second_there k m a b f) (second_ends k a b d) in rw z (joined_none (join_core or) (e a)) }
 
     pub two_both : (h₁ h₂ h₃ : Bytes) (p₁ p₂ p₃ : Place) → Fits t e l i h p (Emitted.At p₁) h₁ → Fits t e l j h₁ p₁ (Emitted.At p₂) h₂ → Adds (connective_node or ∷ []) h₂ p₂ h₃ p₃ → FitsTwo t e or l n j h p (Emitted.At p₃) h₃
     unfolding Emits joined
@@ -66,17 +66,17 @@ module _ {A : Type 0} (t : A → List Node) (e : A → Option Core) (or : Bool) 
         }
 
 -- A query inside a property.
-inside_none : (x : Bytes) (k : Option Kind) → inside x k none ≡ none
+inside_none : (x : Bytes) (k : Option Kind) → inside x k None ≡ None
 unfolding inside
-inside_none x none = refl
-inside_none x (some Kind.Page) = refl
-inside_none x (some (Kind.Scalar j)) = refl
-inside_none x (some Kind.String) = refl
+inside_none x None = refl
+inside_none x (Some Kind.Page) = refl
+inside_none x (Some (Kind.Scalar j)) = refl
+inside_none x (Some Kind.String) = refl
 
 module _ {A : Type 0} (t : A → List Node) (e : A → Option Core) (l : List Node) (i : ℕ) (x : Bytes) (k : Option Kind) (h h₁ : Bytes) (p : Place) where
   pub wrap_unfit : Fits t e l i h p Emitted.Unfit h₁ → Fits t (λ a. inside x k (e a)) l i h p Emitted.Unfit h₁
   unfolding Emits
-  wrap_unfit d = record { is = λ f m a g n. let z : e a ≡ none = d.is f m a g n in rw z (inside_none x k) }
+  wrap_unfit d = record { is = λ f m a g n. let z : e a ≡ None = d.is f m a g n in rw z (inside_none x k) }
 
   pub wrap_at : (r : Emitted) (p₁ : Place) (h₂ : Bytes) → Fits t e l i h p (Emitted.At p₁) h₁ → Wraps x k h₁ p₁ r h₂ → Fits t (λ a. inside x k (e a)) l i h p r h₂
   unfolding Emits inside post

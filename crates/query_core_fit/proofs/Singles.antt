@@ -1,13 +1,12 @@
 -- What a single node puts.
+use Rattle.std.specs.Prelude.{Option, Some, None}
 use mathlib.Core.Path.{◌≡◌, refl, ap, ◌∙◌}
 use mathlib.Core.Bool.{true, false}
 use mathlib.Core.List.{[], ◌∷◌}
-use mathlib.Core.Option.{Option}
 use Rattle.text.specs.Bytes.{Bytes}
 use Rattle.text.specs.Parts.{part_of}
 use Rattle.text.specs.declared.Span.{Span}
 use Rattle.values.specs.declared.Kind.{Kind}
-use Rattle.values.specs.declared.KindRead.{KindRead}
 use Rattle.values.specs.declared.Scalar.{Scalar}
 use Rattle.values.specs.Answers.{split_of}
 use Rattle.language.specs.Register.{kinds_of}
@@ -32,35 +31,35 @@ use Rattle.query_core_fit.specs.Fitting.{step_of, piece_core, LeafAt, LeafIn, Wr
 pub step_is : (node t : TreeNode) (r : Step) → node ≡ t → r ≡ step_of t → r ≡ step_of node
 step_is node t r e f = rw e f
 
-pub kind_there : (g s t : Bytes) (x : Span) (r : KindRead) → t ≡ part_of s x → kind_of r ≡ kinds_of (register_in g) t → kind_of r ≡ kinds_of (register_in g) (part_of s x)
+pub kind_there : (g s t : Bytes) (x : Span) (r : Option Kind) → t ≡ part_of s x → r ≡ kinds_of (register_in g) t → r ≡ kinds_of (register_in g) (part_of s x)
 kind_there g s t x r e f = f ∙ ap (kinds_of (register_in g)) e
 
 -- A subquery's node.
-module _ (x : Bytes) (kind : KindRead) (h : Bytes) (p : Place) where
-  pub wraps_nothing : kind ≡ KindRead.Nothing → Wraps x (kind_of kind) h p Emitted.Unfit h
+module _ (x : Bytes) (kind : Option Kind) (h : Bytes) (p : Place) where
+  pub wraps_nothing : kind ≡ None → Wraps x (kind) h p Emitted.Unfit h
   unfolding inside
   wraps_nothing e o = rw e
 
-  pub wraps_page : (k : Kind) (h' : Bytes) (p' : Place) → kind ≡ KindRead.Kind k → k ≡ Kind.Page → Adds (Rattle.query_core.specs.Postfix.subquery x ∷ []) h p h' p' → Wraps x (kind_of kind) h p (Emitted.At p') h'
+  pub wraps_page : (k : Kind) (h' : Bytes) (p' : Place) → kind ≡ Some k → k ≡ Kind.Page → Adds (Rattle.query_core.specs.Postfix.subquery x ∷ []) h p h' p' → Wraps x (kind) h p (Emitted.At p') h'
   wraps_page k h' p' e f a = (rw (e, f), a)
 
-  module _ (k : Kind) (e : kind ≡ KindRead.Kind k) where
-    pub wraps_scalar : (j : Scalar) → k ≡ Kind.Scalar j → Wraps x (kind_of kind) h p Emitted.Unfit h
+  module _ (k : Kind) (e : kind ≡ Some k) where
+    pub wraps_scalar : (j : Scalar) → k ≡ Kind.Scalar j → Wraps x (kind) h p Emitted.Unfit h
     unfolding inside
     wraps_scalar j f o = rw (e, f)
 
-    pub wraps_string : k ≡ Kind.String → Wraps x (kind_of kind) h p Emitted.Unfit h
+    pub wraps_string : k ≡ Kind.String → Wraps x (kind) h p Emitted.Unfit h
     unfolding inside
     wraps_string f o = rw (e, f)
 
 pub ruleset wrapping = (wraps_nothing, wraps_page, wraps_scalar, wraps_string)
 
 -- A piece.
-module _ (x v : Bytes) (c : SurfaceComparator) (kind : KindRead) (h : Bytes) (p : Place) (r : Emitted) (h' : Bytes) where
-  pub piece_kind : (k : Kind) → kind ≡ KindRead.Kind k → Emits (elaborate_value x c v k) h p r h' → Emits (piece_core x c v (kind_of kind)) h p r h'
+module _ (x v : Bytes) (c : SurfaceComparator) (kind : Option Kind) (h : Bytes) (p : Place) (r : Emitted) (h' : Bytes) where
+  pub piece_kind : (k : Kind) → kind ≡ Some k → Emits (elaborate_value x c v k) h p r h' → Emits (piece_core x c v (kind)) h p r h'
   piece_kind k e d = rw e d
 
-pub piece_none : (x v : Bytes) (c : SurfaceComparator) (kind : KindRead) (h : Bytes) (p : Place) → kind ≡ KindRead.Nothing → Emits (piece_core x c v (kind_of kind)) h p Emitted.Unfit h
+pub piece_none : (x v : Bytes) (c : SurfaceComparator) (kind : Option Kind) (h : Bytes) (p : Place) → kind ≡ None → Emits (piece_core x c v (kind)) h p Emitted.Unfit h
 unfolding Emits
 piece_none x v c kind h p e = rw e
 

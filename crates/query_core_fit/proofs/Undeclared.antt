@@ -1,10 +1,10 @@
 -- 17: a property of the tree that is not declared.
+use Rattle.std.specs.Prelude.{Option, Some, None}
 use Prim.Native.Nat.{ℕ, zero, suc, ◌+◌, ◌≤◌, ◌<◌}
 use mathlib.Core.Path.{◌≡◌, refl, sym, ap, ◌∙◌}
 use mathlib.Core.Bool.{Bool, true, false, ◌||◌, or-false}
 use mathlib.Core.List.{List, [], ◌∷◌, ◌++◌}
 use mathlib.Core.Logic.{⊎_elim}
-use mathlib.Core.Option.{Option, some, none}
 use native.Mathlib.Nat.{eq-or-lt_of_le}
 use native.Mathlib.Numerals.{add-one}
 use native.Mathlib.Omega.{arith}
@@ -15,7 +15,6 @@ use Rattle.text.specs.Table.{tabulate}
 use Rattle.text.specs.declared.Span.{Span}
 use Rattle.text.proofs.Laws.{any_append}
 use Rattle.values.specs.declared.Kind.{Kind}
-use Rattle.values.specs.declared.KindRead.{KindRead}
 use Rattle.language.specs.Answer.{found}
 use Rattle.language.specs.Register.{Typing, kinds_of}
 use Rattle.language.specs.Surface.{Chain, single, chain, Categories, Identifiers, Alternatives, Query, names_of, properties_in, properties_of}
@@ -29,10 +28,10 @@ use Rattle.query_tree.specs.declared.TreeNode.{TreeNode}
 use Rattle.query_core_fit.specs.declared.Step.{Step}
 use Rattle.query_core_fit.specs.Fitting.{step_of, lacks_kind, node_undeclared}
 
-pub lacks_nothing : (k : KindRead) → k ≡ KindRead.Nothing → true ≡ lacks_kind (kind_of k)
+pub lacks_nothing : (k : Option Kind) → k ≡ None → true ≡ lacks_kind (k)
 lacks_nothing k e = rw e
 
-pub lacks_none : (k : KindRead) (a : Kind) → k ≡ KindRead.Kind a → false ≡ lacks_kind (kind_of k)
+pub lacks_none : (k : Option Kind) (a : Kind) → k ≡ Some a → false ≡ lacks_kind (k)
 lacks_none k a e = rw e
 
 pub ruleset kinds = (lacks_nothing, lacks_none)
@@ -72,7 +71,7 @@ module _ (g s : Bytes) (node : TreeNode) (step : Step) (asks : step ≡ step_of 
   pub leaf_names : step ≡ Step.Leaf → false ≡ node_undeclared (kinds_of (register_in g)) (node_by s node)
   leaf_names e = step_is Step.Leaf e
 
-  module _ (x : Span) (kind : KindRead) (u : Bool) (known : kind_of kind ≡ kinds_of (register_in g) (part_of s x)) (is : u ≡ lacks_kind (kind_of kind)) where
+  module _ (x : Span) (kind : Option Kind) (u : Bool) (known : kind ≡ kinds_of (register_in g) (part_of s x)) (is : u ≡ lacks_kind (kind)) where
     pub property_names : step ≡ Step.Property x → u ≡ node_undeclared (kinds_of (register_in g)) (node_by s node)
     property_names e = is ∙ ap lacks_kind known ∙ step_is (Step.Property x) e
 
@@ -133,8 +132,8 @@ module _ (Γ : Typing) where
   name17 x = go (Γ x)
     where
       go : (k : Option Kind) → lacks_kind k ≡ found k (λ a. false) true
-      go none = refl
-      go (some k) = refl
+      go None = refl
+      go (Some k) = refl
 
   two17 : (l m : List Node) (y : Node) → node_undeclared Γ y ≡ false → some17 (l ++ m ++ (y ∷ [])) ≡ some17 l || some17 m
   two17 l m y e =

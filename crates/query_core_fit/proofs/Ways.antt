@@ -1,15 +1,14 @@
 -- What the functions that fit parts answer, by what they called.
+use Rattle.std.specs.Prelude.{Option}
 use Prim.Native.Nat.{ℕ, suc, ◌+◌, ◌-◌, ◌≤◌, ◌<◌}
 use mathlib.Core.Path.{◌≡◌, sym, subst, ◌∙◌}
 use mathlib.Core.Bool.{Bool}
 use mathlib.Core.List.{List, [], ◌∷◌, ◌++◌}
-use mathlib.Core.Option.{Option}
 use native.Mathlib.Omega.{arith}
 use lib.ListN.{length, length-append}
 use Rattle.text.specs.Bytes.{Bytes, part}
 use Rattle.text.specs.Parts.{part_of}
 use Rattle.text.specs.declared.Span.{Span}
-use Rattle.values.specs.declared.KindRead.{KindRead}
 use Rattle.language.specs.Core.{Core}
 use Rattle.language.specs.Elaboration.{inside}
 use Rattle.language.specs.Register.{Typing, kinds_of}
@@ -71,13 +70,13 @@ module _ (t g : Bytes) where
     pub chain_none : Fits (chain_tree (kinds_of (register_in g))) (chain_core (kinds_of (register_in g))) (nodes_in t) i h p Emitted.Unfit h
     chain_none = none_there (chain_tree Γ) (chain_core Γ) (λ c. chain_some c.0 (tree_in c.1)) (nodes_in t) i h p z
 
-    pub in_none : (x : Span) (kind : KindRead) → FitsIn (strings_in t) (kinds_of (register_in g)) (nodes_in t) x kind i h p Emitted.Unfit h
+    pub in_none : (x : Span) (kind : Option Kind) → FitsIn (strings_in t) (kinds_of (register_in g)) (nodes_in t) x kind i h p Emitted.Unfit h
     unfolding FitsIn
     in_none x kind known = none_there tree_in (in_core Γ (part_of (strings_in t) x)) in_some (nodes_in t) i h p z
 
-  module _ (node : TreeNode) (step : Step) (i : ℕ) (some : i ≡ 0 → ⊥) (is : node_by (strings_in t) node ≡ node_in t (i - 1)) (asks : step ≡ step_of node) (h : Bytes) (p : Place) (r : Emitted) (h' : Bytes) where
+  module _ (node : TreeNode) (step : Step) (i : ℕ) (Some : i ≡ 0 → ⊥) (is : node_by (strings_in t) node ≡ node_in t (i - 1)) (asks : step ≡ step_of node) (h : Bytes) (p : Place) (r : Emitted) (h' : Bytes) where
     next : i ≡ suc (i - 1)
-    next = omega (arith, some)
+    next = omega (arith, Some)
 
     next_fits : {A : Type 0} (f : A → List Node) (e : A → Option Core) → Fits f e (nodes_in t) i h p r h' → Fits f e (nodes_in t) (suc (i - 1)) h p r h'
     next_fits f e d = subst (λ (n : ℕ). Fits f e (nodes_in t) n h p r h') next d
@@ -179,7 +178,7 @@ module _ (t g : Bytes) where
       in_by : (u : Step) → step ≡ u → InStep node u → Fits tree_in (in_core Γ (part_of (strings_in t) x)) (nodes_in t) i h p r h'
       in_by u e d = in_fits t Γ (node_by (strings_in t) node) i (i - 1) is next h p r h' (part_of (strings_in t) x) (step_in node (subst (InStep node) (sym e ∙ asks) d))
 
-      module _ (kind : KindRead) where
+      module _ (kind : Option Kind) where
         pub in_property : (y : Span) → step ≡ Step.Property y → FitsIn (strings_in t) (kinds_of (register_in g)) (nodes_in t) x kind i h p r h'
         unfolding FitsIn
         in_property y e known = in_by (Step.Property y) e tt
@@ -188,41 +187,41 @@ module _ (t g : Bytes) where
         unfolding FitsIn
         in_link y e known = in_by (Step.Link y) e tt
 
-        pub in_leaf : (s : Bytes) → step ≡ Step.Leaf → s ≡ part t 4088 1024 → LeafIn (part_of s x) (kind_of kind) (node_by s node) h p r h' → FitsIn (strings_in t) (kinds_of (register_in g)) (nodes_in t) x kind i h p r h'
+        pub in_leaf : (s : Bytes) → step ≡ Step.Leaf → s ≡ part t 4088 1024 → LeafIn (part_of s x) (kind) (node_by s node) h p r h' → FitsIn (strings_in t) (kinds_of (register_in g)) (nodes_in t) x kind i h p r h'
         unfolding FitsIn
         in_leaf s e f d known = in_by Step.Leaf e (subst (λ k. LeafIn (part_of (strings_in t) x) k (node_by (strings_in t) node) h p r h') known (rw f at d))
 
   -- A chain's last name, and one that leads on.
-  module _ (node : TreeNode) (step : Step) (i : ℕ) (some : i ≡ 0 → ⊥) (is : node_by (strings_in t) node ≡ node_in t (i - 1)) (asks : step ≡ step_of node) (x : Span) (kind : KindRead) (s : Bytes) (f : s ≡ part t 4088 1024) (known : kind_of kind ≡ kinds_of (register_in g) (part_of s x)) (h : Bytes) (p : Place) where
-    here : kind_of kind ≡ Γ (part_of (strings_in t) x)
+  module _ (node : TreeNode) (step : Step) (i : ℕ) (Some : i ≡ 0 → ⊥) (is : node_by (strings_in t) node ≡ node_in t (i - 1)) (asks : step ≡ step_of node) (x : Span) (kind : Option Kind) (s : Bytes) (f : s ≡ part t 4088 1024) (known : kind ≡ kinds_of (register_in g) (part_of s x)) (h : Bytes) (p : Place) where
+    here : kind ≡ Γ (part_of (strings_in t) x)
     here = rw f at known
 
     pub chain_property : (r : Emitted) (h' : Bytes) → step ≡ Step.Property x → FitsIn (strings_in t) (kinds_of (register_in g)) (nodes_in t) x kind (i - 1) h p r h' → Fits (chain_tree (kinds_of (register_in g))) (chain_core (kinds_of (register_in g))) (nodes_in t) i h p r h'
     unfolding FitsIn
-    chain_property r h' e d = chain_by node step i some is asks h p r h' (Step.Property x) e (d here)
+    chain_property r h' e d = chain_by node step i Some is asks h p r h' (Step.Property x) e (d here)
 
-    pub chain_link : (r v : Emitted) (p₁ : Place) (h₁ h' : Bytes) → step ≡ Step.Link x → Fits (chain_tree (kinds_of (register_in g))) (chain_core (kinds_of (register_in g))) (nodes_in t) (i - 1) h p v h₁ → v ≡ Emitted.At p₁ → Wraps (part_of s x) (kind_of kind) h₁ p₁ r h' → Fits (chain_tree (kinds_of (register_in g))) (chain_core (kinds_of (register_in g))) (nodes_in t) i h p r h'
+    pub chain_link : (r v : Emitted) (p₁ : Place) (h₁ h' : Bytes) → step ≡ Step.Link x → Fits (chain_tree (kinds_of (register_in g))) (chain_core (kinds_of (register_in g))) (nodes_in t) (i - 1) h p v h₁ → v ≡ Emitted.At p₁ → Wraps (part_of s x) (kind) h₁ p₁ r h' → Fits (chain_tree (kinds_of (register_in g))) (chain_core (kinds_of (register_in g))) (nodes_in t) i h p r h'
     chain_link r v p₁ h₁ h' e d u w =
-        chain_by node step i some is asks h p r h' (Step.Link x) e
+        chain_by node step i Some is asks h p r h' (Step.Link x) e
         (wrap_at (chain_tree Γ) (chain_core Γ) (nodes_in t) (i - 1) (part_of (strings_in t) x) (Γ (part_of (strings_in t) x)) h h₁ p r p₁ h' (rw u at d) (subst (λ k. Wraps (part_of (strings_in t) x) k h₁ p₁ r h') here (rw f at w)))
 
     pub chain_unfit : (v : Emitted) (h₁ : Bytes) → step ≡ Step.Link x → Fits (chain_tree (kinds_of (register_in g))) (chain_core (kinds_of (register_in g))) (nodes_in t) (i - 1) h p v h₁ → v ≡ Emitted.Unfit → Fits (chain_tree (kinds_of (register_in g))) (chain_core (kinds_of (register_in g))) (nodes_in t) i h p Emitted.Unfit h₁
     chain_unfit v h₁ e d u =
-        chain_by node step i some is asks h p Emitted.Unfit h₁ (Step.Link x) e
+        chain_by node step i Some is asks h p Emitted.Unfit h₁ (Step.Link x) e
         (wrap_unfit (chain_tree Γ) (chain_core Γ) (nodes_in t) (i - 1) (part_of (strings_in t) x) (Γ (part_of (strings_in t) x)) h h₁ p (rw u at d))
 
   -- A query inside a property.
-  module _ (node : TreeNode) (step : Step) (i : ℕ) (some : i ≡ 0 → ⊥) (is : node_by (strings_in t) node ≡ node_in t (i - 1)) (asks : step ≡ step_of node) (x : Span) (kind : KindRead) (h : Bytes) (p : Place) (e : step ≡ Step.Subquery) where
-    pub in_subquery : (r v : Emitted) (p₁ : Place) (h₁ h' s : Bytes) → s ≡ part t 4088 1024 → Fits tree (core_of_query (kinds_of (register_in g))) (nodes_in t) (i - 1) h p v h₁ → v ≡ Emitted.At p₁ → Wraps (part_of s x) (kind_of kind) h₁ p₁ r h' → FitsIn (strings_in t) (kinds_of (register_in g)) (nodes_in t) x kind i h p r h'
+  module _ (node : TreeNode) (step : Step) (i : ℕ) (Some : i ≡ 0 → ⊥) (is : node_by (strings_in t) node ≡ node_in t (i - 1)) (asks : step ≡ step_of node) (x : Span) (kind : Option Kind) (h : Bytes) (p : Place) (e : step ≡ Step.Subquery) where
+    pub in_subquery : (r v : Emitted) (p₁ : Place) (h₁ h' s : Bytes) → s ≡ part t 4088 1024 → Fits tree (core_of_query (kinds_of (register_in g))) (nodes_in t) (i - 1) h p v h₁ → v ≡ Emitted.At p₁ → Wraps (part_of s x) (kind) h₁ p₁ r h' → FitsIn (strings_in t) (kinds_of (register_in g)) (nodes_in t) x kind i h p r h'
     unfolding FitsIn
     in_subquery r v p₁ h₁ h' s f d u w known =
-        in_by node step i some is asks h p r h' x Step.Subquery e
+        in_by node step i Some is asks h p r h' x Step.Subquery e
         (wrap_at tree (core_of_query Γ) (nodes_in t) (i - 1) (part_of (strings_in t) x) (Γ (part_of (strings_in t) x)) h h₁ p r p₁ h' (rw u at d) (subst (λ k. Wraps (part_of (strings_in t) x) k h₁ p₁ r h') known (rw f at w)))
 
     pub in_unfit : (v : Emitted) (h₁ : Bytes) → Fits tree (core_of_query (kinds_of (register_in g))) (nodes_in t) (i - 1) h p v h₁ → v ≡ Emitted.Unfit → FitsIn (strings_in t) (kinds_of (register_in g)) (nodes_in t) x kind i h p Emitted.Unfit h₁
     unfolding FitsIn
     in_unfit v h₁ d u known =
-        in_by node step i some is asks h p Emitted.Unfit h₁ x Step.Subquery e
+        in_by node step i Some is asks h p Emitted.Unfit h₁ x Step.Subquery e
         (wrap_unfit tree (core_of_query Γ) (nodes_in t) (i - 1) (part_of (strings_in t) x) (Γ (part_of (strings_in t) x)) h h₁ p (rw u at d))
 
   -- Two sides, n nodes in the second, and what joins them.
@@ -239,17 +238,17 @@ module _ (t g : Bytes) where
     sides_both : (v w : Emitted) (h₁ h₂ h₃ : Bytes) (p₁ p₂ p₃ : Place) → Fits f e (nodes_in t) (j - n) h p v h₁ → v ≡ Emitted.At p₁ → Fits f e (nodes_in t) j h₁ p₁ w h₂ → w ≡ Emitted.At p₂ → Adds (connective_node or ∷ []) h₂ p₂ h₃ p₃ → FitsTwo f e or (nodes_in t) n j h p (Emitted.At p₃) h₃
     sides_both v w h₁ h₂ h₃ p₁ p₂ p₃ a u b y d = two_both f e or (nodes_in t) n (j - n) j h p whole h₁ h₂ h₃ p₁ p₂ p₃ (rw u at a) (rw y at b) d
 
-  module _ (node : TreeNode) (step : Step) (i : ℕ) (some : i ≡ 0 → ⊥) (is : node_by (strings_in t) node ≡ node_in t (i - 1)) (asks : step ≡ step_of node) (n : ℕ) (or : Bool) (e : step ≡ Step.Two n or) (h : Bytes) (p : Place) where
+  module _ (node : TreeNode) (step : Step) (i : ℕ) (Some : i ≡ 0 → ⊥) (is : node_by (strings_in t) node ≡ node_in t (i - 1)) (asks : step ≡ step_of node) (n : ℕ) (or : Bool) (e : step ≡ Step.Two n or) (h : Bytes) (p : Place) where
     abbrev at_two : (r : Emitted) (h' : Bytes) → FitsTwo tree (core_of_query Γ) or (nodes_in t) n (i - 1) h p r h' → Fits tree (core_of_query Γ) (nodes_in t) i h p r h'
-    at_two r h' d = by_step_lem node step i some is asks h p r h' (Step.Two n or) e d
+    at_two r h' d = by_step_lem node step i Some is asks h p r h' (Step.Two n or) e d
 
     abbrev in_two : (x : Span) (r : Emitted) (h' : Bytes) → FitsTwo tree_in (in_core Γ (part_of (strings_in t) x)) or (nodes_in t) n (i - 1) h p r h' → Fits tree_in (in_core Γ (part_of (strings_in t) x)) (nodes_in t) i h p r h'
-    in_two x r h' d = in_by node step i some is asks h p r h' x (Step.Two n or) e d
+    in_two x r h' d = in_by node step i Some is asks h p r h' x (Step.Two n or) e d
 
     pub query_short : i - 1 < n → Fits tree (core_of_query (kinds_of (register_in g))) (nodes_in t) i h p Emitted.Unfit h
     query_short l = at_two Emitted.Unfit h (two_short tree (core_of_query Γ) or (nodes_in t) n 0 (i - 1) h p l)
 
-    pub in_short : (x : Span) (kind : KindRead) → i - 1 < n → FitsIn (strings_in t) (kinds_of (register_in g)) (nodes_in t) x kind i h p Emitted.Unfit h
+    pub in_short : (x : Span) (kind : Option Kind) → i - 1 < n → FitsIn (strings_in t) (kinds_of (register_in g)) (nodes_in t) x kind i h p Emitted.Unfit h
     unfolding FitsIn
     in_short x kind l known = in_two x Emitted.Unfit h (two_short tree_in (in_core Γ (part_of (strings_in t) x)) or (nodes_in t) n 0 (i - 1) h p l)
 
@@ -263,7 +262,7 @@ module _ (t g : Bytes) where
       pub query_both : (v w : Emitted) (h₁ h₂ h₃ : Bytes) (p₁ p₂ p₃ : Place) → Fits tree (core_of_query (kinds_of (register_in g))) (nodes_in t) (i - 1 - n) h p v h₁ → v ≡ Emitted.At p₁ → Fits tree (core_of_query (kinds_of (register_in g))) (nodes_in t) (i - 1) h₁ p₁ w h₂ → w ≡ Emitted.At p₂ → Adds (connective_node or ∷ []) h₂ p₂ h₃ p₃ → Fits tree (core_of_query (kinds_of (register_in g))) (nodes_in t) i h p (Emitted.At p₃) h₃
       query_both v w h₁ h₂ h₃ p₁ p₂ p₃ a u b y d = at_two (Emitted.At p₃) h₃ (sides_both tree (core_of_query Γ) or n (i - 1) enough h p v w h₁ h₂ h₃ p₁ p₂ p₃ a u b y d)
 
-      module _ (x : Span) (kind : KindRead) where
+      module _ (x : Span) (kind : Option Kind) where
         pub in_first : (v : Emitted) (h₁ : Bytes) → FitsIn (strings_in t) (kinds_of (register_in g)) (nodes_in t) x kind (i - 1 - n) h p v h₁ → v ≡ Emitted.Unfit → FitsIn (strings_in t) (kinds_of (register_in g)) (nodes_in t) x kind i h p Emitted.Unfit h₁
         unfolding FitsIn
         in_first v h₁ a u known = in_two x Emitted.Unfit h₁ (sides_first tree_in (in_core Γ (part_of (strings_in t) x)) or n (i - 1) enough h p v h₁ (a known) u)

@@ -1,12 +1,10 @@
 -- Working definitions: what fitting a part of a tree answers. l are the nodes of the tree, Γ the kinds of the register's properties; names
 -- and pieces lie in s.
-use Rattle.std.specs.Prelude.{ℕ, suc, ◌+◌, ◌≡◌, Bool, true, false, List, [], ◌∷◌, ◌++◌, length}
-use Rattle.std.proofs.Math.Option.{Option, some, none}
+use Rattle.std.specs.Prelude.{ℕ, suc, ◌+◌, ◌≡◌, Bool, true, false, List, [], ◌∷◌, ◌++◌, length, Option, Some, None}
 use Rattle.text.specs.Bytes.{Bytes}
 use Rattle.text.specs.Parts.{part_of}
 use Rattle.text.specs.declared.Span.{Span}
 use Rattle.values.specs.declared.Kind.{Kind}
-use Rattle.values.specs.declared.KindRead.{KindRead}
 use Rattle.language.specs.Answer.{◌>>=◌}
 use Rattle.language.specs.Register.{Typing}
 use Rattle.language.specs.Surface.{Chain, Alternatives, Query}
@@ -40,8 +38,8 @@ step_of (TreeNode.Link p) = Step.Link p
 
 -- 17, of a kind that was looked for, and of one node.
 abbrev pub lacks_kind : Option Kind → Bool
-lacks_kind none = true
-lacks_kind (some k) = false
+lacks_kind None = true
+lacks_kind (Some k) = false
 
 abbrev pub node_undeclared : Typing → Node → Bool
 node_undeclared Γ (Node.and n) = false
@@ -71,8 +69,8 @@ pub record FitsTwo {A : Type 0} (t : A → List Node) (e : A → Option Core) (o
 
 -- A subquery's node is put where the property's kind is page.
 abbrev pub Wraps : Bytes → Option Kind → Bytes → Place → Emitted → Bytes → Type 0
-Wraps x k h p Emitted.Unfit h' = (o : Option Core) → inside x k o ≡ none
-Wraps x k h p (Emitted.At p') h' = (k ≡ some Kind.Page) × Adds (Postfix.subquery x ∷ []) h p h' p'
+Wraps x k h p Emitted.Unfit h' = (o : Option Core) → inside x k o ≡ None
+Wraps x k h p (Emitted.At p') h' = (k ≡ Some Kind.Page) × Adds (Postfix.subquery x ∷ []) h p h' p'
 
 -- A piece under the property x, by its kind.
 abbrev pub piece_core : Bytes → SurfaceComparator → Bytes → Option Kind → Option Core
@@ -83,9 +81,9 @@ abbrev pub LeafAt : Node → Bytes → Place → Emitted → Bytes → Type 0
 LeafAt (Node.and n) h p r h' = Unit {0}
 LeafAt (Node.or n) h p r h' = Unit {0}
 LeafAt (Node.bar n) h p r h' = Unit {0}
-LeafAt (Node.category x) h p r h' = Emits (some (Core.select (Core.category x))) h p r h'
-LeafAt (Node.namespace n) h p r h' = Emits (some (Core.select (Core.namespace n))) h p r h'
-LeafAt (Node.reference c f) h p r h' = Emits (some (elaborate_reference c f)) h p r h'
+LeafAt (Node.category x) h p r h' = Emits (Some (Core.select (Core.category x))) h p r h'
+LeafAt (Node.namespace n) h p r h' = Emits (Some (Core.select (Core.namespace n))) h p r h'
+LeafAt (Node.reference c f) h p r h' = Emits (Some (elaborate_reference c f)) h p r h'
 LeafAt Node.existence h p r h' = Unit {0}
 LeafAt (Node.value c v) h p r h' = Unit {0}
 LeafAt Node.subquery h p r h' = Unit {0}
@@ -99,7 +97,7 @@ LeafIn x k (Node.bar n) h p r h' = Unit {0}
 LeafIn x k (Node.category y) h p r h' = Unit {0}
 LeafIn x k (Node.namespace n) h p r h' = Unit {0}
 LeafIn x k (Node.reference c f) h p r h' = Unit {0}
-LeafIn x k Node.existence h p r h' = Emits (some (Core.select (Core.existence x))) h p r h'
+LeafIn x k Node.existence h p r h' = Emits (Some (Core.select (Core.existence x))) h p r h'
 LeafIn x k (Node.value c v) h p r h' = Emits (piece_core x c v k) h p r h'
 LeafIn x k Node.subquery h p r h' = Unit {0}
 LeafIn x k (Node.property y) h p r h' = Unit {0}
@@ -163,5 +161,5 @@ module _ (Γ : Typing) where
     ChainNode (Node.link x) i h p r h' = Fits chain_tree (λ c. inside x (Γ x) (chain_core c)) l i h p r h'
 
 -- The nodes before node i end with those of the alternatives of the property whose name lies at x; k is its kind.
-unfoldable pub FitsIn : Bytes → Typing → List Node → Span → KindRead → ℕ → Bytes → Place → Emitted → Bytes → Type 0
-FitsIn s Γ l x k i h p r h' = kind_of k ≡ Γ (part_of s x) → Fits tree_in (in_core Γ (part_of s x)) l i h p r h'
+unfoldable pub FitsIn : Bytes → Typing → List Node → Span → Option Kind → ℕ → Bytes → Place → Emitted → Bytes → Type 0
+FitsIn s Γ l x k i h p r h' = k ≡ Γ (part_of s x) → Fits tree_in (in_core Γ (part_of s x)) l i h p r h'

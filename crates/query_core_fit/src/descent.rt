@@ -14,7 +14,7 @@ use query_core_emit::{Emitted, again};
 use query_tree::layout;
 use query_tree::reading::node_at;
 use text::{Span, part};
-use values::KindRead;
+use values::Option<Kind>;
 
 // A query.
 #[cycle(fit_chain_fit_in_fit_query)]
@@ -85,7 +85,7 @@ fn fit_in(
     tree: &[u8],
     i: usize,
     x: Span,
-    kind: KindRead,
+    kind: Option<Kind>,
     register: &[u8],
     held: &mut [u8],
     at: Place,

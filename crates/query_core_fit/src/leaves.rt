@@ -3,7 +3,6 @@ ghost use Rattle.std.specs.Prelude.{◌≡◌};
 ghost use Rattle.text.specs.Parts.{part_of};
 ghost use Rattle.language.specs.Register.{kinds_of};
 ghost use Rattle.register_form.specs.Form.{register_in};
-ghost use Rattle.register_form_view.specs.View.{kind_of};
 ghost use Rattle.query_core_emit.specs.Emission.{Emits};
 ghost use Rattle.query_tree.specs.Reading.{node_by};
 ghost use Rattle.query_core_fit.specs.Fitting.{step_of, piece_core, LeafAt, LeafIn, Wraps};
@@ -16,7 +15,7 @@ use query_core_emit::writing::{put_reference, put_select, put_value};
 use query_tree::TreeNode;
 use register_form_view::kind_of;
 use text::{Span, part};
-use values::{Kind, KindRead, Split};
+use values::{Kind, Split};
 
 // What a node asks for.
 pub fn step_of(node: TreeNode) -> Step
@@ -39,17 +38,17 @@ pub fn step_of(node: TreeNode) -> Step
 }
 
 // The kind of the property whose name lies at x.
-pub fn kind_at(s: &[u8], x: Span, register: &[u8]) -> KindRead
-    ensures { kind_of result ≡ kinds_of (register_in register.now) (part_of s.now x) }
+pub fn kind_at(s: &[u8], x: Span, register: &[u8]) -> Option<Kind>
+    ensures { result ≡ kinds_of (register_in register.now) (part_of s.now x) }
 {
     kind_of(register, part(s, x.start, x.len))
 }
 
 // The node of a subquery: a page property's.
-pub fn put_subquery(s: &[u8], held: &mut [u8], at: Place, x: Span, kind: KindRead) -> Emitted
-    ensures { Wraps (part_of s.now x) (kind_of kind) held.old at result held.new }
+pub fn put_subquery(s: &[u8], held: &mut [u8], at: Place, x: Span, kind: Option<Kind>) -> Emitted
+    ensures { Wraps (part_of s.now x) (kind) held.old at result held.new }
 {
-    let KindRead::Kind(k) = kind else {
+    let Some(k) = kind else {
         return Emitted::Unfit;
     };
     match k {
@@ -67,13 +66,13 @@ fn put_piece(
     x: Span,
     c: SurfaceComparator,
     p: Span,
-    kind: KindRead,
+    kind: Option<Kind>,
 ) -> Emitted
-    ensures { Emits (piece_core (part_of s.now x) c (part_of s.now p) (kind_of kind)) held.old at result held.new }
+    ensures { Emits (piece_core (part_of s.now x) c (part_of s.now p) (kind)) held.old at result held.new }
 {
     match kind {
-        KindRead::Kind(k) => put_value(s, held, at, x, c, p, k),
-        KindRead::Nothing => Emitted::Unfit,
+        Some(k) => put_value(s, held, at, x, c, p, k),
+        None => Emitted::Unfit,
     }
 }
 
@@ -119,9 +118,9 @@ pub fn put_leaf_in(
     at: Place,
     node: TreeNode,
     x: Span,
-    kind: KindRead,
+    kind: Option<Kind>,
 ) -> Emitted
-    ensures { LeafIn (part_of s.now x) (kind_of kind) (node_by s.now node) held.old at result held.new }
+    ensures { LeafIn (part_of s.now x) (kind) (node_by s.now node) held.old at result held.new }
 {
     match node {
         TreeNode::Existence => Emitted::At(put_select(s, s, held, at, Selector::Existence(x))),

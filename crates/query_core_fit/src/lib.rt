@@ -10,7 +10,6 @@ use descent::fit_query;
 use properties::some_undeclared;
 use query_core::{Place, count_of, finish, layout};
 use query_core_emit::Emitted;
-use tables::widen;
 use text::Span;
 
 pub mod descent; // descent.rt: a tree from its last node down
@@ -42,7 +41,7 @@ pub enum Fit {
 pub fn fit_tree(tree: &[u8], register: &[u8], held: &mut [u8]) -> Fit
     ensures { FitsTree tree.now (kinds_of (register_in register.now)) held.old result held.new }
 {
-    let n = widen(two_at(tree, 0));
+    let n = usize::from(two_at(tree, 0));
     if some_undeclared(tree, n, register) {
         return Fit::Undeclared;
     }

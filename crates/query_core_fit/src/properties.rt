@@ -5,7 +5,6 @@ ghost use Rattle.text.specs.Table.{tabulate};
 ghost use Rattle.language.specs.Answer.{found};
 ghost use Rattle.language.specs.Register.{kinds_of};
 ghost use Rattle.register_form.specs.Form.{register_in};
-ghost use Rattle.register_form_view.specs.View.{kind_of};
 ghost use Rattle.query_tree.specs.Form.{node_in};
 ghost use Rattle.query_tree.specs.Reading.{node_by};
 ghost use Rattle.query_core_fit.specs.Fitting.{node_undeclared, lacks_kind};
@@ -15,15 +14,15 @@ use crate::leaves::{kind_at, step_of};
 use query_tree::reading::node_at;
 use query_tree::{TreeNode, layout};
 use text::part;
-use values::KindRead;
+use values::Option<Kind>;
 
 // Whether no kind was found.
-fn is_nothing(kind: KindRead) -> bool
-    ensures { result ≡ lacks_kind (kind_of kind) }
+fn is_nothing(kind: Option<Kind>) -> bool
+    ensures { result ≡ lacks_kind (kind) }
 {
     match kind {
-        KindRead::Nothing => true,
-        KindRead::Kind(_) => false,
+        None => true,
+        Some(_) => false,
     }
 }
 

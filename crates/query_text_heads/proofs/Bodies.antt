@@ -1,9 +1,9 @@
 -- Laws of heads, pieces and brackets without `::`, and the ways through their functions.
+use Rattle.std.specs.Prelude.{Option, Some, None}
 use Prim.Native.Nat.{ℕ, ◌+◌, ◌-◌, ◌≤◌, ◌<◌, max}
 use mathlib.Core.Path.{◌≡◌, refl, sym, ◌∙◌}
 use mathlib.Core.Bool.{Bool, true, false, cond, not, ◌&&◌, ◌||◌, or-false}
 use mathlib.Core.List.{List, [], ◌∷◌, ◌++◌, append_assoc, append-nil}
-use mathlib.Core.Option.{Option, some, none}
 use native.Mathlib.Omega.{arith}
 use lib.Dec.{ltb, leb, eqb}
 use lib.ListN.{length}
@@ -111,12 +111,12 @@ module _ (s : Bytes) (c : SurfaceComparator) (text : Span) (p : Split) (e : spli
   node_bare h q = rw (h, q) at node_split
 
 -- Whether it breaks a rule.
-module _ (s : Bytes) (i : Identifiers) (b : Bool) (p : Read) (h : read_told s p ≡ only_if (not b) (some i)) where
+module _ (s : Bytes) (i : Identifiers) (b : Bool) (p : Read) (h : read_told s p ≡ only_if (not b) (Some i)) where
   pub unbroken_namespace : (x : Span) → p ≡ Read.Namespace x → false ≡ b
   unfolding read_told
   unbroken_namespace x e = go b (rw e at h)
     where
-      go : (b : Bool) → some (Identifiers.namespace (part_of s x)) ≡ only_if (not b) (some i) → false ≡ b
+      go : (b : Bool) → Some (Identifiers.namespace (part_of s x)) ≡ only_if (not b) (Some i) → false ≡ b
       go true h = cc
       go false h = refl
 
@@ -124,7 +124,7 @@ module _ (s : Bytes) (i : Identifiers) (b : Bool) (p : Read) (h : read_told s p 
   unfolding read_told
   unbroken_reference c x e = go b (rw e at h)
     where
-      go : (b : Bool) → some (Identifiers.reference c (reference (part_of s x))) ≡ only_if (not b) (some i) → false ≡ b
+      go : (b : Bool) → Some (Identifiers.reference c (reference (part_of s x))) ≡ only_if (not b) (Some i) → false ≡ b
       go true h = cc
       go false h = refl
 
@@ -132,12 +132,12 @@ module _ (s : Bytes) (i : Identifiers) (b : Bool) (p : Read) (h : read_told s p 
   unfolding read_told
   broken_piece e = go b (rw e at h)
     where
-      go : (b : Bool) → none ≡ only_if (not b) (some i) → true ≡ b
+      go : (b : Bool) → None ≡ only_if (not b) (Some i) → true ≡ b
       go true h = refl
       go false h = cc
 
 -- by its number
-pub broken_number : (s : Bytes) (i : Identifiers) (b : Bool) (p : Read) (n : ℕ) → read_told s p ≡ only_if (not b) (some i) → n ≡ number_of_read p → not (eqb n 0) ≡ b
+pub broken_number : (s : Bytes) (i : Identifiers) (b : Bool) (p : Read) (n : ℕ) → read_told s p ≡ only_if (not b) (Some i) → n ≡ number_of_read p → not (eqb n 0) ≡ b
 broken_number s i b (Read.Namespace x) n h e = rw e (unbroken_namespace s i b (Read.Namespace x) h x refl)
 broken_number s i b (Read.Reference c x) n h e = rw e (unbroken_reference s i b (Read.Reference c x) h c x refl)
 broken_number s i b Read.Broken n h e = rw e (broken_piece s i b Read.Broken h refl)
@@ -183,21 +183,21 @@ module _ (s : Bytes) (c : SurfaceComparator) (text : Span) (t t' : Bytes) (n r :
 
 -- The pieces behind a first one.
 abbrev headed : Piece → Option (List Piece × Bytes) → Option (List Piece × Bytes)
-headed p o = o >>= λ l. some (p ∷ l.0, l.1)
+headed p o = o >>= λ l. Some (p ∷ l.0, l.1)
 
 abbrev ended : List Piece → Option Bytes → Option (List Piece × Bytes)
-ended l o = o >>= λ r. some (l, r)
+ended l o = o >>= λ r. Some (l, r)
 
 pieces_tail : (s : Bytes) → read_pieces s ≡ headed (piece_at s).0 (tail_pieces (piece_at s).1)
 unfolding tail_pieces
 pieces_tail s = pieces_eq s ∙ go (after (bytes "||") (piece_at s).1) (after (bytes "]]") (piece_at s).1)
   where
     go : (o w : Option Bytes) → found o (λ r. headed (piece_at s).0 (read_pieces r)) (ended ((piece_at s).0 ∷ []) w) ≡ headed (piece_at s).0 (found o read_pieces (ended [] w))
-    go (some r) w = refl
-    go none (some r) = refl
-    go none none = refl
+    go (Some r) w = refl
+    go None (Some r) = refl
+    go None None = refl
 
-tail_some : (x y : Bytes) → after (bytes "||") x ≡ some y → tail_pieces x ≡ read_pieces y
+tail_some : (x y : Bytes) → after (bytes "||") x ≡ Some y → tail_pieces x ≡ read_pieces y
 unfolding tail_pieces
 tail_some x y h = rw h
 
@@ -256,13 +256,13 @@ rest_references [] = refl
 rest_references (p ∷ l) = rw (rest_references l, or-false)
 
 -- A bracket without `::`.
-plain_tail : (s : Bytes) → plain_body s ≡ (tail_pieces (piece_at s).1 >>= λ l. some (RawQuery.pieces (piece_at s).0 l.0, l.1))
+plain_tail : (s : Bytes) → plain_body s ≡ (tail_pieces (piece_at s).1 >>= λ l. Some (RawQuery.pieces (piece_at s).0 l.0, l.1))
 unfolding plain_body
 plain_tail s = rw (pieces_tail s) (go (tail_pieces (piece_at s).1))
   where
-    go : (o : Option (List Piece × Bytes)) → ◌>>=◌ {B = RawQuery × Bytes} (headed (piece_at s).0 o) (λ x. bracket_of x.0 >>= λ q. some (q, x.1)) ≡ (o >>= λ l. some (RawQuery.pieces (piece_at s).0 l.0, l.1))
-    go none = refl
-    go (some x) = refl
+    go : (o : Option (List Piece × Bytes)) → ◌>>=◌ {B = RawQuery × Bytes} (headed (piece_at s).0 o) (λ x. bracket_of x.0 >>= λ q. Some (q, x.1)) ≡ (o >>= λ l. Some (RawQuery.pieces (piece_at s).0 l.0, l.1))
+    go None = refl
+    go (Some x) = refl
 
 shallow : (d : ℕ) (b : Bool) (l : List Piece) → ltb 8 (max (d + 0) 0) ≡ (ltb 8 d || false || (rest_effect b l).deep)
 shallow d b l = rw (rest_deep b l, or-false (ltb 8 d || false), or-false (ltb 8 d)) (same_test 8 (max (d + 0) 0) 8 d (λ h. omega arith) (λ h. omega arith))
@@ -279,16 +279,16 @@ module _ (d : ℕ) (p : Piece) (l : List Piece) where
   identifiers_effect e =
       same_effect (rw e (identifiers_tree (identifier_of p) l ∙ rw (one_node p))) (shallow d false l) (rw (e, rest_references l)) (sym (rest_value false l))
 
-only_some : {A : Type 0} (b : Bool) (x y : A) → some x ≡ only_if b (some y) → (b ≡ true) × (x ≡ y)
+only_some : {A : Type 0} (b : Bool) (x y : A) → Some x ≡ only_if b (Some y) → (b ≡ true) × (x ≡ y)
 only_some true x y h = (refl, cc)
 only_some false x y h = let z : ◌≡◌ {A = ℕ} 0 1 = cc in absurd (omega arith)
 
-only_none : {A : Type 0} (b : Bool) (y : A) → none ≡ only_if b (some y) → b ≡ false
+only_none : {A : Type 0} (b : Bool) (y : A) → None ≡ only_if b (Some y) → b ≡ false
 only_none true y h = let z : ◌≡◌ {A = ℕ} 0 1 = cc in absurd (omega arith)
 only_none false y h = refl
 
 module _ (s : Bytes) (at d : ℕ) (t t₁ t₂ : Bytes) (n n₁ n₂ : Seen) (r : Outcome) (p : Placed) (f : First) (h : piece_at (from s at) ≡ tells_piece s p) (k : n₁ ≡ flagged n (ltb 8 d) false false)
-    (c : category_told s f ≡ only_if (is_category (piece_of s p.comparator p.text)) (some (article_of (reference (part_of s p.text))))) where
+    (c : category_told s f ≡ only_if (is_category (piece_of s p.comparator p.text)) (Some (article_of (reference (part_of s p.text))))) where
   begun : (b : Bool) (e : Effect) → After t n₁ e t₁ n₂ → ((l : List Piece) → effect d (RawQuery.pieces (piece_of s p.comparator p.text) l) ≡ met (ltb 8 d) false false then e then rest_effect b l)
       → ReadsPart s (rest_effect b) t₁ n₂ (tail_pieces (from s p.next)) r t₂ → ReadsPart s (effect d) t n (plain_body (from s at)) r t₂
   unfolding tells_piece

@@ -1,8 +1,8 @@
 -- Laws of what readers answer: effects that are equal, and readings that are mapped and read on.
+use Rattle.std.specs.Prelude.{Option, Some}
 use Prim.Native.Nat.{ℕ, suc, ◌+◌, ◌≤◌, ◌<◌, max}
 use mathlib.Core.Path.{◌≡◌, refl, sym, ◌∙◌}
 use mathlib.Core.Bool.{Bool, true, false, cond, ◌||◌}
-use mathlib.Core.Option.{Option, some}
 use native.Mathlib.Omega.{arith}
 use lib.Dec.{ltb}
 use lib.ListN.{length}
@@ -53,7 +53,7 @@ module _ {A : Type 0} (s : Bytes) (e : A → Effect) (t t' : Bytes) (n : Seen) (
   -- What was read, changed by g.
   pub reads_map : {B : Type 0} (f : B → Effect) (t₀ : Bytes) (n₀ : Seen) (g : A → B) (r : Outcome) → length t ≡ length t₀
       → ((a : A) (n' : Seen) → After t n (e a) t' n' → After t₀ n₀ (f (g a)) t' n')
-      → ReadsPart s e t n o r t' → ReadsPart s f t₀ n₀ (o >>= λ x. some (g x.0, x.1)) r t'
+      → ReadsPart s e t n o r t' → ReadsPart s f t₀ n₀ (o >>= λ x. Some (g x.0, x.1)) r t'
   unfolding ReadsPart
   reads_map f t₀ n₀ g (Outcome.Got next n') l h r = (g r.0, rw r.1, h r.0 n' r.2)
   reads_map f t₀ n₀ g Outcome.Refused l h r = (rw r.0, r.1 ∙ l)

@@ -1,6 +1,5 @@
 -- Working definitions: what the readers do to the tree and to what was seen, as effects that are added up.
-use Rattle.std.specs.Prelude.{ℕ, ◌≡◌, Bool, false, ◌||◌, List, [], ◌∷◌, ◌++◌, length}
-use Rattle.std.proofs.Math.Option.{Option, some, none}
+use Rattle.std.specs.Prelude.{ℕ, ◌≡◌, Bool, false, ◌||◌, List, [], ◌∷◌, ◌++◌, length, Option, Some, None}
 use Rattle.text.specs.Bytes.{Bytes}
 use Rattle.query_text_pieces.specs.Places.{from}
 use Rattle.query_tree.specs.Nodes.{Node, composed_nodes}
@@ -56,8 +55,8 @@ connective Connective.Bar n = Node.bar n
 
 -- What a reader answers of what o reads: e tells the effect of what was read.
 unfoldable pub ReadsPart : {A : Type 0} → Bytes → (A → Effect) → Bytes → Seen → Option (A × Bytes) → Outcome → Bytes → Type 0
-ReadsPart s e t n o Outcome.Refused t' = (o ≡ none) × (length t' ≡ length t)
-ReadsPart {A} s e t n o (Outcome.Got next n') t' = (a : A) × (o ≡ some (a, from s next)) × After t n (e a) t' n'
+ReadsPart s e t n o Outcome.Refused t' = (o ≡ None) × (length t' ≡ length t)
+ReadsPart {A} s e t n o (Outcome.Got next n') t' = (a : A) × (o ≡ Some (a, from s next)) × After t n (e a) t' n'
 
 -- The same behind something whose effect is there already: f reads on from it.
 unfoldable pub ReadsOn : {A : Type 0} → Bytes → (A → Effect) → Bytes → Seen → (A → Bytes → Option (A × Bytes)) → ℕ → Outcome → Bytes → Type 0

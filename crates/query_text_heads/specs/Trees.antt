@@ -1,6 +1,5 @@
 -- Working definitions: the effects of what is read, by the published definitions.
-use Rattle.std.specs.Prelude.{ℕ, ◌+◌, max, Bool, true, false, cond, List, [], ◌∷◌, ◌++◌, ltb, take, drop}
-use Rattle.std.proofs.Math.Option.{Option, some}
+use Rattle.std.specs.Prelude.{ℕ, ◌+◌, max, Bool, true, false, cond, List, [], ◌∷◌, ◌++◌, ltb, take, drop, Option, Some}
 use Rattle.text.specs.Bytes.{Bytes, bytes, all, after}
 use Rattle.text.specs.Class.{is_free}
 use Rattle.text.specs.declared.Span.{Span}
@@ -53,7 +52,7 @@ rest_effect b (p ∷ l) = piece_effect b p then one (Node.bar 1) then rest_effec
 
 -- The pieces behind a first one, and `]]`.
 unfoldable pub tail_pieces : Bytes → Option (List Piece × Bytes)
-tail_pieces s = found (after (bytes "||") s) read_pieces (after (bytes "]]") s >>= λ r. some ([], r))
+tail_pieces s = found (after (bytes "||") s) read_pieces (after (bytes "]]") s >>= λ r. Some ([], r))
 
 -- A property body whose head has k bytes, and its `]]`.
 unfoldable pub property_body : Bytes → ℕ → Option (RawQuery × Bytes)

@@ -1,9 +1,9 @@
 -- Laws of words, heads and pieces by their places, and the ways through the functions.
+use Rattle.std.specs.Prelude.{Option, Some, None}
 use Prim.Native.Nat.{ℕ, zero, suc, ◌+◌, ◌-◌, ◌≤◌, ◌<◌}
 use mathlib.Core.Path.{◌≡◌, refl, ap, sym, ◌∙◌}
 use mathlib.Core.Bool.{Bool, true, false, cond, not, ◌&&◌, ◌||◌, false≢true}
 use mathlib.Core.List.{List, [], ◌∷◌}
-use mathlib.Core.Option.{Option, some, none}
 use native.Mathlib.Omega.{arith}
 use native.Mathlib.Numerals.{add-one}
 use lib.Dec.{eqb}
@@ -109,12 +109,12 @@ module _ (s : Bytes) (i n : ℕ) (c : SurfaceComparator) (e : c ≡ first_typed 
       rw (drop-drop (span is_blank (drop at s)) at s, ← p, comparator_is, h.is, k, q, drop-drop)
 
 -- The `::` of a property body.
-head_colon : (s : Bytes) → starts (bytes "::") s ≡ true → head_length s ≡ some 0
+head_colon : (s : Bytes) → starts (bytes "::") s ≡ true → head_length s ≡ Some 0
 unfolding head_length starts
 head_colon [] h = absurd (false≢true h)
 head_colon (b ∷ s) h = rw (h, head_length)
 
-head_stops : (s : Bytes) → starts (bytes "::") s ≡ false → ends_head s ≡ true → head_length s ≡ none
+head_stops : (s : Bytes) → starts (bytes "::") s ≡ false → ends_head s ≡ true → head_length s ≡ None
 unfolding head_length
 head_stops [] h e = refl
 head_stops (b ∷ s) h e = rw (h, head_length) (rw e)
@@ -128,7 +128,7 @@ module _ (s : Bytes) (i : ℕ) where
   module _ (w : Bool) (p : w ≡ starts (bytes "::") (drop i s)) where
     pub head_here : w ≡ true → place_of (Found.At i) ≡ head_at s i
     unfolding head_at from place_of
-    head_here h = rw (head_colon (drop i s) (sym p ∙ h)) (ap some (omega arith))
+    head_here h = rw (head_colon (drop i s) (sym p ∙ h)) (ap Some (omega arith))
 
     module _ (e : Bool) (q : e ≡ ends_head (from s i)) (n : w ≡ false) where
       pub head_none : e ≡ true → place_of Found.Nothing ≡ head_at s i
@@ -142,8 +142,8 @@ module _ (s : Bytes) (i : ℕ) where
           rw (k, head_goes _ _ (rw k at (sym p ∙ n)) (rw k at (sym q ∙ h)), add-one) (moved (head_length (drop (suc i) s)))
         where
           moved : (o : Option ℕ) → map_option (λ k. i + k) (map_option suc o) ≡ map_option (λ k. suc i + k) o
-          moved none = refl
-          moved (some k) = ap some (omega arith)
+          moved None = refl
+          moved (Some k) = ap Some (omega arith)
 
   pub head_over : length s ≤ i → place_of Found.Nothing ≡ head_at s i
   unfolding head_at from place_of head_length
@@ -218,15 +218,15 @@ module _ (s : Bytes) (c : SurfaceComparator) (text : Span) (r : Split) (b m : Bo
         go false true = refl
         go false false = refl
 
-    pub category_yes : (b && r.qualified && m) ≡ true → category_told s (First.Category r.article) ≡ only_if (is_category (piece_of s c text)) (some (article_of (reference (part_of s text))))
+    pub category_yes : (b && r.qualified && m) ≡ true → category_told s (First.Category r.article) ≡ only_if (is_category (piece_of s c text)) (Some (article_of (reference (part_of s text))))
     unfolding category_told
-    category_yes h = rw (test, h, ← e) (ap some (go r.qualified))
+    category_yes h = rw (test, h, ← e) (ap Some (go r.qualified))
       where
         go : (q : Bool) → part_of s r.article ≡ article_of (cond q (qualified (part_of s r.namespace) (part_of s r.article)) (bare (part_of s r.article)))
         go true = refl
         go false = refl
 
-    pub category_no : (b && r.qualified && m) ≡ false → category_told s First.Other ≡ only_if (is_category (piece_of s c text)) (some (article_of (reference (part_of s text))))
+    pub category_no : (b && r.qualified && m) ≡ false → category_told s First.Other ≡ only_if (is_category (piece_of s c text)) (Some (article_of (reference (part_of s text))))
     unfolding category_told
     category_no h = rw (test, h)
 
@@ -248,11 +248,11 @@ module _ (s : Bytes) (c : SurfaceComparator) (text : Span) (r : Split) (b m : Bo
         go true false h = absurd (false≢true h)
         go false false h = absurd (false≢true h)
 
-    pub read_namespace : (b && r.qualified && m) ≡ true → t ≡ true → read_told s (Read.Namespace r.namespace) ≡ only_if (not (breaks_reference (piece_of s c text))) (some (identifier_of (piece_of s c text)))
+    pub read_namespace : (b && r.qualified && m) ≡ true → t ≡ true → read_told s (Read.Namespace r.namespace) ≡ only_if (not (breaks_reference (piece_of s c text))) (Some (identifier_of (piece_of s c text)))
     unfolding read_told
     read_namespace h j = rw (plus, h, named h, ← i, ← l, j)
 
-    pub read_no_namespace : (b && r.qualified && m) ≡ true → t ≡ false → read_told s Read.Broken ≡ only_if (not (breaks_reference (piece_of s c text))) (some (identifier_of (piece_of s c text)))
+    pub read_no_namespace : (b && r.qualified && m) ≡ true → t ≡ false → read_told s Read.Broken ≡ only_if (not (breaks_reference (piece_of s c text))) (Some (identifier_of (piece_of s c text)))
     unfolding read_told
     read_no_namespace h j = rw (plus, h, named h, ← i, ← l, j)
 
@@ -264,10 +264,10 @@ module _ (s : Bytes) (c : SurfaceComparator) (text : Span) (r : Split) (b m : Bo
           go true = rw (l, v, i, k)
           go false = rw (v, k)
 
-      pub read_reference : ((not r.qualified || t) && u) ≡ true → read_told s (Read.Reference c text) ≡ only_if (not (breaks_reference (piece_of s c text))) (some (identifier_of (piece_of s c text)))
+      pub read_reference : ((not r.qualified || t) && u) ≡ true → read_told s (Read.Reference c text) ≡ only_if (not (breaks_reference (piece_of s c text))) (Some (identifier_of (piece_of s c text)))
       unfolding read_told
       read_reference j = rw (plus, h, judged, j)
 
-      pub read_no_reference : ((not r.qualified || t) && u) ≡ false → read_told s Read.Broken ≡ only_if (not (breaks_reference (piece_of s c text))) (some (identifier_of (piece_of s c text)))
+      pub read_no_reference : ((not r.qualified || t) && u) ≡ false → read_told s Read.Broken ≡ only_if (not (breaks_reference (piece_of s c text))) (Some (identifier_of (piece_of s c text)))
       unfolding read_told
       read_no_reference j = rw (plus, h, judged, j)

@@ -1,6 +1,5 @@
 -- Working definitions: what the answers of this crate tell of a text, by the published definitions.
-use Rattle.std.specs.Prelude.{ℕ, ◌+◌, ◌≤◌, ◌≡◌, length, drop}
-use Rattle.std.proofs.Math.Option.{Option, some, none}
+use Rattle.std.specs.Prelude.{ℕ, ◌+◌, ◌≤◌, ◌≡◌, length, drop, Option, Some, None}
 use Rattle.text.specs.Bytes.{Bytes, bytes, is_blank, behind, part}
 use Rattle.text.specs.Parts.{part_of}
 use Rattle.text.specs.declared.Span.{Span}
@@ -27,17 +26,17 @@ text_at s p = part_of s p
 
 -- What is behind the place that was found.
 unfoldable pub rest_of : Bytes → Found → Option Bytes
-rest_of s (Found.At i) = some (from s i)
-rest_of s Found.Nothing = none
+rest_of s (Found.At i) = Some (from s i)
+rest_of s Found.Nothing = None
 
 -- What is behind the `</q>` that closes a subquery, and behind blanks.
 unfoldable pub inner_end : Bytes → Option Bytes
-inner_end s = token (bytes "</q>") s >>= λ r. some (behind is_blank r)
+inner_end s = token (bytes "</q>") s >>= λ r. Some (behind is_blank r)
 
 -- The place that was found.
 unfoldable pub place_of : Found → Option ℕ
-place_of (Found.At i) = some i
-place_of Found.Nothing = none
+place_of (Found.At i) = Some i
+place_of Found.Nothing = None
 
 -- Where the `::` of a property body stands that begins at a place.
 unfoldable pub head_at : Bytes → ℕ → Option ℕ
@@ -67,10 +66,10 @@ pub record SplitsAt (s : Bytes) (p : Span) (r : Split) : Type 0 where
 
 -- What each answer tells.
 unfoldable pub category_told : Bytes → First → Option Bytes
-category_told s (First.Category p) = some (part_of s p)
-category_told s First.Other = none
+category_told s (First.Category p) = Some (part_of s p)
+category_told s First.Other = None
 
 unfoldable pub read_told : Bytes → Read → Option Identifiers
-read_told s (Read.Namespace p) = some (Identifiers.namespace (part_of s p))
-read_told s (Read.Reference c p) = some (Identifiers.reference c (reference (part_of s p)))
-read_told s Read.Broken = none
+read_told s (Read.Namespace p) = Some (Identifiers.namespace (part_of s p))
+read_told s (Read.Reference c p) = Some (Identifiers.reference c (reference (part_of s p)))
+read_told s Read.Broken = None

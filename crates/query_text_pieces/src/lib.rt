@@ -2,7 +2,6 @@
 #![tactic(auto)]
 
 ghost use Rattle.std.specs.Prelude.{◌≡◌, not};
-ghost use Rattle.std.proofs.Math.Option.{some};
 ghost use Rattle.text.specs.Bytes.{after as after_word};
 ghost use Rattle.text.specs.Parts.{part_of};
 ghost use Rattle.values.specs.Names.{reference};
@@ -13,7 +12,7 @@ ghost use Rattle.query_text_pieces.specs.Places.{from, text_at, rest_of, inner_e
 
 use language::{SurfaceComparator, comparator_at, is_equal, word_length};
 use names::{is_name, is_namespace};
-use text::{Class, Span, part, same_bytes, scan, trimmed, widen, word_at};
+use text::{Class, Span, part, same_bytes, scan, trimmed, word_at};
 use values::{Split, split_reference};
 
 // A place that was looked for, or none.
@@ -120,7 +119,7 @@ pub fn piece_at(s: &[u8], at: usize) -> Placed
 {
     let begin = scan(s, at, Class::Blank);
     let comparator = comparator_at(s, begin);
-    let start = begin + widen(word_length(comparator));
+    let start = begin + usize::from(word_length(comparator));
     let end = scan(s, start, Class::Free);
     let text = trimmed(s, start, end - start);
     Placed {

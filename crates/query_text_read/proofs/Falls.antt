@@ -1,8 +1,8 @@
 -- Each call of the readers has less text left, or stands lower in the grammar.
+use Rattle.std.specs.Prelude.{Option, Some, None}
 use Prim.Native.Nat.{ℕ, ◌+◌, ◌*◌, ◌≤◌, ◌<◌}
 use mathlib.Core.Path.{◌≡◌}
 use mathlib.Core.List.{◌∷◌}
-use mathlib.Core.Option.{Option, some, none}
 use native.Mathlib.Omega.{arith}
 use lib.ListN.{length, drop, length-drop}
 use Rattle.text.specs.Bytes.{Bytes, after}
@@ -90,9 +90,9 @@ head_within : (s : Bytes) (at e : ℕ) (a : Found) → place_of a ≡ head_at s 
 unfolding place_of head_at from
 head_within s at e a p g = go (head_length (drop at s)) (head_leaves (drop at s)) (rw g at p)
   where
-    go : (o : Option ℕ) → OnSome (λ k. 2 + k ≤ length (drop at s)) o → some e ≡ map_option (λ k. at + k) o → (at ≤ e) × (e + 2 ≤ length s)
-    go none h q = let z : ◌≡◌ {A = ℕ} 0 1 = cc in absurd (omega arith)
-    go (some k) h q = let l : e ≡ at + k = cc in (omega arith, omega (arith, length-drop at s))
+    go : (o : Option ℕ) → OnSome (λ k. 2 + k ≤ length (drop at s)) o → Some e ≡ map_option (λ k. at + k) o → (at ≤ e) × (e + 2 ≤ length s)
+    go None h q = let z : ◌≡◌ {A = ℕ} 0 1 = cc in absurd (omega arith)
+    go (Some k) h q = let l : e ≡ at + k = cc in (omega arith, omega (arith, length-drop at s))
 
 module _ (s : Bytes) (at e : ℕ) (a : Found) (p : place_of a ≡ head_at s at) (g : a ≡ Found.At e) where
   pub head_after : at ≤ e

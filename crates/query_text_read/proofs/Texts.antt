@@ -1,9 +1,9 @@
 -- The answers of a whole text, and the ways through its reader.
+use Rattle.std.specs.Prelude.{Some, None}
 use Prim.Native.Nat.{ℕ, ◌+◌, ◌-◌, ◌≤◌, ◌<◌, max}
 use mathlib.Core.Path.{◌≡◌, refl, sym, ap, ◌∙◌}
 use mathlib.Core.Bool.{Bool, true, false, cond}
 use mathlib.Core.List.{[], ◌∷◌}
-use mathlib.Core.Option.{some, none}
 use native.Mathlib.Omega.{arith}
 use native.Mathlib.Nat.{zero-add}
 use lib.Dec.{ltb, eqb}
@@ -71,11 +71,11 @@ abbrev nothing : Seen
 nothing = record { place = record { count = 0; end = 0 }; deep = false; name = false; value = false }
 
 module _ (s : Bytes) (short : length s ≤ 1024) where
-  no_reading : read_whole s ≡ none → read_text s ≡ refused 13
+  no_reading : read_whole s ≡ None → read_text s ≡ refused 13
   unfolding read_text
   no_reading e = rw (le-ltb 1024 (length s) short, e)
 
-  a_reading : (q : RawQuery) → read_whole s ≡ some q → read_text s ≡ judge (checks q) (composed_query (surface q))
+  a_reading : (q : RawQuery) → read_whole s ≡ Some q → read_text s ≡ judge (checks q) (composed_query (surface q))
   unfolding read_text
   a_reading q e = rw (le-ltb 1024 (length s) short, e)
 
@@ -94,7 +94,7 @@ module _ (s : Bytes) (short : length s ≤ 1024) where
           let o : eqb (length (behind is_blank (from s next))) 0 ≡ false = ap (λ m. eqb m 0) (left_over s next end e) ∙ ne_eqb (length s - end) 0 (λ u. omega arith) in
           text_refused s t t' Reading.NoReading (no_reading (rw (z.1, o))) z.2.adds.long
 
-      read_whole_lem : (q : RawQuery) → length s ≤ end → read_query (from s 0) ≡ some (q, from s next) → read_whole s ≡ some q
+      read_whole_lem : (q : RawQuery) → length s ≤ end → read_query (from s 0) ≡ Some (q, from s next) → read_whole s ≡ Some q
       unfolding read_whole from
       read_whole_lem q l u =
           let o : eqb (length (behind is_blank (from s next))) 0 ≡ true = ap (λ m. eqb m 0) (left_over s next end e) ∙ eq-eqb (length s - end) 0 (omega arith) in

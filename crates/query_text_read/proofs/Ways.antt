@@ -1,8 +1,8 @@
 -- The ways through the readers that call each other: what each answers, from what its calls gave.
+use Rattle.std.specs.Prelude.{Option, Some, None}
 use Prim.Native.Nat.{ℕ, ◌+◌, ◌-◌}
 use mathlib.Core.Path.{◌≡◌, refl, ap, sym, ◌∙◌}
 use mathlib.Core.Bool.{Bool, true, false, not}
-use mathlib.Core.Option.{Option, some, none}
 use native.Mathlib.Omega.{arith}
 use borrow.Author.Tests.{not-true, not-false}
 use lib.ListN.{length, take, drop}
@@ -38,7 +38,7 @@ module _ {A : Type 0} (e : A → Effect) (f : A → Bytes → Option (A × Bytes
   abbrev pub Done : Type 0
   Done = (s : Bytes) (at : ℕ) (t : Bytes) (n : Seen) (x : Found) → rest_of s x ≡ w (from s at) → x ≡ Found.Nothing → ReadsOn s e t n f at (Outcome.Got at n) t
 
-  module _ (j : A → A → A) (eq : (s : Bytes) (a : A) → f a s ≡ found (w s) (λ r. o r >>= λ b. f (j a b.0) b.1) (some (a, s))) where
+  module _ (j : A → A → A) (eq : (s : Bytes) (a : A) → f a s ≡ found (w s) (λ r. o r >>= λ b. f (j a b.0) b.1) (Some (a, s))) where
     on_joined : ((a b : A) → e (j a b) ≡ e a then e b then one (connective kind (length (e b).nodes))) → Joined
     unfolding rest_of ReadsPart ReadsOn
     on_joined both s at i next t t₁ t₂ t₃ n n₁ n₂ x y r p g h k c l a t₀ n₀ before =
@@ -115,7 +115,7 @@ module _ (s : Bytes) (d at i : ℕ) (t t' : Bytes) (n : Seen) (a : Found) (p : r
           let z = rw l at h in
           (RawQuery.group z.0, closes z.0 z.1, rw (effect_group d z.0, ← e) z.2)
         where
-          closes : (x : RawQuery) → read_query (from s i) ≡ some (x, from s next) → read_term (from s at) ≡ some (RawQuery.group x, from s end)
+          closes : (x : RawQuery) → read_query (from s i) ≡ Some (x, from s next) → read_term (from s at) ≡ Some (RawQuery.group x, from s end)
           closes x m = rw (term_eq (from s at), ← p, g, m, ← q, f)
 
       pub term_open : b ≡ Found.Nothing → ReadsPart s (effect d) t n (read_term (from s at)) Outcome.Refused t'
@@ -140,13 +140,13 @@ module _ (s : Bytes) (d at : ℕ) (t : Bytes) (n : Seen) (a b : Found) (p : rest
   term_none f = (rw (term_eq (from s at), ← p, g, ← q, f), refl)
 
 -- A bracket with `::`, or without.
-head_some : (at e : ℕ) (o : Option ℕ) → some e ≡ map_option (λ k. at + k) o → o ≡ some (e - at)
-head_some at e none h = cc
-head_some at e (some k) h = let l : e ≡ at + k = cc in ap some (omega arith)
+head_some : (at e : ℕ) (o : Option ℕ) → Some e ≡ map_option (λ k. at + k) o → o ≡ Some (e - at)
+head_some at e None h = cc
+head_some at e (Some k) h = let l : e ≡ at + k = cc in ap Some (omega arith)
 
-head_no : (at : ℕ) (o : Option ℕ) → none ≡ map_option (λ k. at + k) o → o ≡ none
-head_no at none h = refl
-head_no at (some k) h = cc
+head_no : (at : ℕ) (o : Option ℕ) → None ≡ map_option (λ k. at + k) o → o ≡ None
+head_no at None h = refl
+head_no at (Some k) h = cc
 
 pub bracket_plain : (s : Bytes) (d at : ℕ) (t t' : Bytes) (n : Seen) (a : Found) (r : Outcome) → place_of a ≡ head_at s at → a ≡ Found.Nothing → ReadsPart s (effect d) t n (plain_body (from s at)) r t' → ReadsPart s (effect d) t n (read_body (from s at)) r t'
 unfolding place_of head_at
@@ -186,7 +186,7 @@ module _ (s h : Bytes) (d at i : ℕ) (t : Bytes) (n : Seen) (a : Found) (b : Bo
           let z = rw l at r in
           (rw (body, free (not-false b g), behind_head, z.1, ← q, m), z.2.adds.long)
 
-      closed : (end : ℕ) (w : RawAlternatives) → c ≡ Found.At end → read_alternatives (from s (i + 2)) ≡ some (w, from s next) → read_body (from s at) ≡ some (RawQuery.property (head_of s at (i - at)) w, from s end)
+      closed : (end : ℕ) (w : RawAlternatives) → c ≡ Found.At end → read_alternatives (from s (i + 2)) ≡ Some (w, from s next) → read_body (from s at) ≡ Some (RawQuery.property (head_of s at (i - at)) w, from s end)
       unfolding property_body closed_body rest_of head_of from
       closed end w m k = rw (body, free (not-false b g), behind_head, k, ← q, m)
 
@@ -197,13 +197,13 @@ module _ (s h : Bytes) (d at i : ℕ) (t : Bytes) (n : Seen) (a : Found) (b : Bo
           (RawQuery.property (head_of s at (i - at)) z.0, closed end z.0 m z.1, rw (effect_property d (head_of s at (i - at)) z.0) (after_then t t' t'' n n' n'' _ _ z.2 v))
 
 -- A subquery, or a piece.
-inner_is : (q : RawQuery) (s : Bytes) → closed_inner q s ≡ (inner_end s >>= λ r. some (RawAlternatives.subquery q, r))
+inner_is : (q : RawQuery) (s : Bytes) → closed_inner q s ≡ (inner_end s >>= λ r. Some (RawAlternatives.subquery q, r))
 unfolding closed_inner inner_end
 inner_is q s = go (token (bytes "</q>") s)
   where
-    go : (o : Option Bytes) → ◌>>=◌ {B = RawAlternatives × Bytes} o (λ r. some (RawAlternatives.subquery q, behind is_blank r)) ≡ ((o >>= λ r. some (behind is_blank r)) >>= λ r. some (RawAlternatives.subquery q, r))
-    go none = refl
-    go (some r) = refl
+    go : (o : Option Bytes) → ◌>>=◌ {B = RawAlternatives × Bytes} o (λ r. Some (RawAlternatives.subquery q, behind is_blank r)) ≡ ((o >>= λ r. Some (behind is_blank r)) >>= λ r. Some (RawAlternatives.subquery q, r))
+    go None = refl
+    go (Some r) = refl
 
 module _ (s : Bytes) (d at : ℕ) (t t' : Bytes) (n : Seen) (a : Found) (p : rest_of s a ≡ token (bytes "<q>") (from s at)) where
   module _ (i : ℕ) (g : a ≡ Found.At i) (k : ℕ) (e : k ≡ deeper d) (y : Outcome) (h : ReadsPart s (effect k) t n (read_query (from s i)) y t') where
@@ -214,7 +214,7 @@ module _ (s : Bytes) (d at : ℕ) (t t' : Bytes) (n : Seen) (a : Found) (p : res
           let z = rw l at h in
           (RawAlternatives.subquery z.0, closes z.0 z.1, rw (effect_inner d z.0, ← e) (after_then t t' t'' n n' n'' _ _ z.2 w))
         where
-          closes : (x : RawQuery) → read_query (from s i) ≡ some (x, from s next) → read_alternative (from s at) ≡ some (RawAlternatives.subquery x, from s end)
+          closes : (x : RawQuery) → read_query (from s i) ≡ Some (x, from s next) → read_alternative (from s at) ≡ Some (RawAlternatives.subquery x, from s end)
           closes x m = rw (alternative_eq (from s at), ← p, g, m, inner_is, ← q, f)
 
       pub alternative_open : b ≡ Found.Nothing → ReadsPart s (effect_in d) t n (read_alternative (from s at)) Outcome.Refused t'

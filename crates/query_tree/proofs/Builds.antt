@@ -1,9 +1,9 @@
 -- Nodes build the query whose tree they are: a tree builds its query, and what is built has the nodes that built it.
+use Rattle.std.specs.Prelude.{Option, Some, None}
 use Prim.Native.Nat.{ℕ}
 use mathlib.Core.Path.{◌≡◌, refl, sym, ap, ◌∙◌}
 use mathlib.Core.Bool.{Bool, true, false}
 use mathlib.Core.List.{List, [], ◌∷◌, ◌++◌, append_assoc}
-use mathlib.Core.Option.{Option, some, none}
 use lib.Dec.{eqb}
 use borrow.Author.Tests.{eqb-true}
 use lib.ListN.{length}
@@ -26,41 +26,41 @@ all_nodes (p ∷ st) = all_nodes st ++ nodes_of p
 abbrev pub AsBuilt : List Part → Node → List Part → Type 0
 AsBuilt st x st' = all_nodes st ++ (x ∷ []) ≡ all_nodes st'
 
-one_built : (x : Node) (f : Part → Option Part) → ((a p : Part) → f a ≡ some p → nodes_of a ++ (x ∷ []) ≡ nodes_of p) → (st st' : List Part) → on_one f st ≡ some st' → AsBuilt st x st'
+one_built : (x : Node) (f : Part → Option Part) → ((a p : Part) → f a ≡ Some p → nodes_of a ++ (x ∷ []) ≡ nodes_of p) → (st st' : List Part) → on_one f st ≡ Some st' → AsBuilt st x st'
 unfolding all_nodes
 one_built x f h [] st' e = cc
 one_built x f h (a ∷ st) st' e = go (f a) refl e
   where
-    go : (o : Option Part) → f a ≡ o → (o >>= λ k. some (k ∷ st)) ≡ some st' → all_nodes st ++ nodes_of a ++ (x ∷ []) ≡ all_nodes st'
-    go none i j = cc
-    go (some p) i j = append_assoc (all_nodes st) (nodes_of a) (x ∷ []) ∙ ap (λ (l : List Node). all_nodes st ++ l) (h a p i) ∙ ap all_nodes (let k : p ∷ st ≡ st' = cc in k)
+    go : (o : Option Part) → f a ≡ o → (o >>= λ k. Some (k ∷ st)) ≡ Some st' → all_nodes st ++ nodes_of a ++ (x ∷ []) ≡ all_nodes st'
+    go None i j = cc
+    go (Some p) i j = append_assoc (all_nodes st) (nodes_of a) (x ∷ []) ∙ ap (λ (l : List Node). all_nodes st ++ l) (h a p i) ∙ ap all_nodes (let k : p ∷ st ≡ st' = cc in k)
 
 two : (k a b : List Node) (x : Node) → k ++ a ++ b ++ (x ∷ []) ≡ k ++ (a ++ b ++ (x ∷ []))
 two k a b x = ap (λ (l : List Node). l ++ (x ∷ [])) (append_assoc k a b) ∙ append_assoc k (a ++ b) (x ∷ [])
 
-two_built : (x : Node) (f : Part → Part → Option Part) → ((a b p : Part) → f a b ≡ some p → nodes_of a ++ nodes_of b ++ (x ∷ []) ≡ nodes_of p) → (st st' : List Part) → on_two f st ≡ some st' → AsBuilt st x st'
+two_built : (x : Node) (f : Part → Part → Option Part) → ((a b p : Part) → f a b ≡ Some p → nodes_of a ++ nodes_of b ++ (x ∷ []) ≡ nodes_of p) → (st st' : List Part) → on_two f st ≡ Some st' → AsBuilt st x st'
 unfolding all_nodes
 two_built x f h [] st' e = cc
 two_built x f h (b ∷ []) st' e = cc
 two_built x f h (b ∷ a ∷ st) st' e = go (f a b) refl e
   where
-    go : (o : Option Part) → f a b ≡ o → (o >>= λ k. some (k ∷ st)) ≡ some st' → all_nodes st ++ nodes_of a ++ nodes_of b ++ (x ∷ []) ≡ all_nodes st'
-    go none i j = cc
-    go (some p) i j = two (all_nodes st) (nodes_of a) (nodes_of b) x ∙ ap (λ (l : List Node). all_nodes st ++ l) (h a b p i) ∙ ap all_nodes (let k : p ∷ st ≡ st' = cc in k)
+    go : (o : Option Part) → f a b ≡ o → (o >>= λ k. Some (k ∷ st)) ≡ Some st' → all_nodes st ++ nodes_of a ++ nodes_of b ++ (x ∷ []) ≡ all_nodes st'
+    go None i j = cc
+    go (Some p) i j = two (all_nodes st) (nodes_of a) (nodes_of b) x ∙ ap (λ (l : List Node). all_nodes st ++ l) (h a b p i) ∙ ap all_nodes (let k : p ∷ st ≡ st' = cc in k)
 
-leaf_built : (x : Node) (p : Part) (st st' : List Part) → nodes_of p ≡ x ∷ [] → some (p ∷ st) ≡ some st' → AsBuilt st x st'
+leaf_built : (x : Node) (p : Part) (st st' : List Part) → nodes_of p ≡ x ∷ [] → Some (p ∷ st) ≡ Some st' → AsBuilt st x st'
 unfolding all_nodes
 leaf_built x p st st' e j = ap (λ (l : List Node). all_nodes st ++ l) (sym e) ∙ ap all_nodes (let k : p ∷ st ≡ st' = cc in k)
 
 -- Where n is how many nodes the second has, the two are what the node joins.
-sized_nodes : (n : ℕ) (f : ℕ → Node) (k l : List Node) (p r : Part) → nodes_of p ≡ join_by f k l → sized n l p ≡ some r → k ++ l ++ (f n ∷ []) ≡ nodes_of r
+sized_nodes : (n : ℕ) (f : ℕ → Node) (k l : List Node) (p r : Part) → nodes_of p ≡ join_by f k l → sized n l p ≡ Some r → k ++ l ++ (f n ∷ []) ≡ nodes_of r
 sized_nodes n f k l p r h e = go (eqb n (length l)) refl e
   where
-    go : (t : Bool) → eqb n (length l) ≡ t → only_if t (some p) ≡ some r → k ++ l ++ (f n ∷ []) ≡ nodes_of r
+    go : (t : Bool) → eqb n (length l) ≡ t → only_if t (Some p) ≡ Some r → k ++ l ++ (f n ∷ []) ≡ nodes_of r
     go true i j = rw (eqb-true n (length l) i) (sym h ∙ ap nodes_of (let q : p ≡ r = cc in q))
     go false i j = cc
 
-bar_nodes : (n : ℕ) (a b r : Part) → bar_parts n a b ≡ some r → nodes_of a ++ nodes_of b ++ (Node.bar n ∷ []) ≡ nodes_of r
+bar_nodes : (n : ℕ) (a b r : Part) → bar_parts n a b ≡ Some r → nodes_of a ++ nodes_of b ++ (Node.bar n ∷ []) ≡ nodes_of r
 unfolding bar_parts bar_categories bar_identifiers bar_alternatives nodes_of tree tree_categories tree_identifiers
 bar_nodes n (Part.query (Query.category a)) (Part.query (Query.category b)) r e = sized_nodes n Node.bar (tree_categories a) (tree_categories b) _ r refl e
 bar_nodes n (Part.query (Query.category a)) (Part.query (Query.identifier b)) r e = cc
@@ -84,24 +84,24 @@ bar_nodes n (Part.alternatives a) (Part.query (Query.disjunction b c)) r e = cc
 bar_nodes n (Part.alternatives a) (Part.query (Query.conjunction b c)) r e = cc
 bar_nodes n (Part.alternatives a) (Part.alternatives b) r e = sized_nodes n Node.bar (tree_in a) (tree_in b) _ r refl e
 
-join_nodes : (g : Query → Query → Query) (f : ℕ → Node) → ((a b : Query) → tree (g a b) ≡ join_by f (tree a) (tree b)) → (n : ℕ) (a b r : Part) → join_parts g n a b ≡ some r → nodes_of a ++ nodes_of b ++ (f n ∷ []) ≡ nodes_of r
+join_nodes : (g : Query → Query → Query) (f : ℕ → Node) → ((a b : Query) → tree (g a b) ≡ join_by f (tree a) (tree b)) → (n : ℕ) (a b r : Part) → join_parts g n a b ≡ Some r → nodes_of a ++ nodes_of b ++ (f n ∷ []) ≡ nodes_of r
 unfolding join_parts nodes_of
 join_nodes g f h n (Part.query a) (Part.query b) r e = sized_nodes n f (tree a) (tree b) (Part.query (g a b)) r (h a b) e
 join_nodes g f h n (Part.query a) (Part.alternatives b) r e = cc
 join_nodes g f h n (Part.alternatives a) (Part.query b) r e = cc
 join_nodes g f h n (Part.alternatives a) (Part.alternatives b) r e = cc
 
-subquery_nodes : (a r : Part) → subquery_part a ≡ some r → nodes_of a ++ (Node.subquery ∷ []) ≡ nodes_of r
+subquery_nodes : (a r : Part) → subquery_part a ≡ Some r → nodes_of a ++ (Node.subquery ∷ []) ≡ nodes_of r
 unfolding subquery_part nodes_of tree
 subquery_nodes (Part.query q) r e = ap nodes_of (let k : Part.alternatives (Alternatives.subquery q) ≡ r = cc in k)
 subquery_nodes (Part.alternatives a) r e = cc
 
-property_nodes : (x : Bytes) (a r : Part) → property_part x a ≡ some r → nodes_of a ++ (Node.property x ∷ []) ≡ nodes_of r
+property_nodes : (x : Bytes) (a r : Part) → property_part x a ≡ Some r → nodes_of a ++ (Node.property x ∷ []) ≡ nodes_of r
 unfolding property_part nodes_of tree tree_chain
 property_nodes x (Part.query q) r e = cc
 property_nodes x (Part.alternatives a) r e = ap nodes_of (let k : Part.query (Query.property (single x) a) ≡ r = cc in k)
 
-link_nodes : (x : Bytes) (a r : Part) → link_part x a ≡ some r → nodes_of a ++ (Node.link x ∷ []) ≡ nodes_of r
+link_nodes : (x : Bytes) (a r : Part) → link_part x a ≡ Some r → nodes_of a ++ (Node.link x ∷ []) ≡ nodes_of r
 unfolding link_part nodes_of tree tree_chain
 link_nodes x (Part.query (Query.category c)) r e = cc
 link_nodes x (Part.query (Query.identifier i)) r e = cc
@@ -110,7 +110,7 @@ link_nodes x (Part.query (Query.disjunction a b)) r e = cc
 link_nodes x (Part.query (Query.conjunction a b)) r e = cc
 link_nodes x (Part.alternatives a) r e = cc
 
-pub step_built : (x : Node) (st st' : List Part) → step x st ≡ some st' → AsBuilt st x st'
+pub step_built : (x : Node) (st st' : List Part) → step x st ≡ Some st' → AsBuilt st x st'
 unfolding nodes_of tree tree_categories tree_identifiers
 step_built (Node.and n) st st' e = two_built (Node.and n) _ (join_nodes Query.conjunction Node.and (λ a b. refl) n) st st' e
 step_built (Node.or n) st st' e = two_built (Node.or n) _ (join_nodes Query.disjunction Node.or (λ a b. refl) n) st st' e
@@ -124,12 +124,12 @@ step_built Node.subquery st st' e = one_built Node.subquery _ subquery_nodes st 
 step_built (Node.property x) st st' e = one_built (Node.property x) _ (property_nodes x) st st' e
 step_built (Node.link x) st st' e = one_built (Node.link x) _ (link_nodes x) st st' e
 
-run_none : (l : List Node) → run l none ≡ none
+run_none : (l : List Node) → run l None ≡ None
 unfolding run
 run_none [] = refl
 run_none (x ∷ l) = run_none l
 
-pub run_built : (l : List Node) (st st' : List Part) → run l (some st) ≡ some st' → all_nodes st ++ l ≡ all_nodes st'
+pub run_built : (l : List Node) (st st' : List Part) → run l (Some st) ≡ Some st' → all_nodes st ++ l ≡ all_nodes st'
 unfolding run
 run_built [] st st' e = append_nil (all_nodes st) ∙ ap all_nodes (let k : st ≡ st' = cc in k)
   where
@@ -138,6 +138,6 @@ run_built [] st st' e = append_nil (all_nodes st) ∙ ap all_nodes (let k : st �
     append_nil (x ∷ k) = ap (λ (l : List Node). x ∷ l) (append_nil k)
 run_built (x ∷ l) st st' e = go (λ st'' j. run_built l st'' st' j) (step x st) refl e
   where
-    go : ((st'' : List Part) → run l (some st'') ≡ some st' → all_nodes st'' ++ l ≡ all_nodes st') → (o : Option (List Part)) → step x st ≡ o → run l o ≡ some st' → all_nodes st ++ (x ∷ l) ≡ all_nodes st'
-    go ih none i j = let k : none ≡ some st' = sym (run_none l) ∙ j in cc
-    go ih (some st'') i j = sym (append_assoc (all_nodes st) (x ∷ []) l) ∙ ap (λ (k : List Node). k ++ l) (step_built x st st'' i) ∙ ih st'' j
+    go : ((st'' : List Part) → run l (Some st'') ≡ Some st' → all_nodes st'' ++ l ≡ all_nodes st') → (o : Option (List Part)) → step x st ≡ o → run l o ≡ Some st' → all_nodes st ++ (x ∷ l) ≡ all_nodes st'
+    go ih None i j = let k : None ≡ Some st' = sym (run_none l) ∙ j in cc
+    go ih (Some st'') i j = sym (append_assoc (all_nodes st) (x ∷ []) l) ∙ ap (λ (k : List Node). k ++ l) (step_built x st st'' i) ∙ ih st'' j

@@ -1,9 +1,9 @@
 -- The pass over a tree of an accepted text needs at most 28 entries, and every tree builds its query.
+use Rattle.std.specs.Prelude.{Option, Some}
 use Prim.Native.Nat.{ℕ, suc, ◌+◌, ◌*◌, ◌≤◌, max}
 use mathlib.Core.Path.{◌≡◌, refl, ap, ◌∙◌}
 use mathlib.Core.Bool.{true, false, false≢true}
 use mathlib.Core.List.{List, [], ◌∷◌, ◌++◌}
-use mathlib.Core.Option.{Option, some}
 use native.Mathlib.Omega.{arith}
 use lib.ListN.{length}
 use borrow.Author.Tests.{le-leb, eq-eqb}
@@ -133,30 +133,30 @@ unfolding run_within
 within_append m [] l o = refl
 within_append m (x ∷ k) l o = within_append m k l (o >>= λ st. within m (step x st))
 
-last_within : (m : ℕ) (x : Node) (o : Option (List Part)) (st st' : List Part) → o ≡ some st → step x st ≡ some st' → length st' ≤ m → run_within m (x ∷ []) o ≡ some st'
+last_within : (m : ℕ) (x : Node) (o : Option (List Part)) (st st' : List Part) → o ≡ Some st → step x st ≡ Some st' → length st' ≤ m → run_within m (x ∷ []) o ≡ Some st'
 unfolding run_within
 last_within m x o st st' e f h = rw (e, f, le-leb (length st') m h)
 
 -- Nodes build a part with n entries.
 unfoldable pub Builds : List Node → Part → ℕ → Type 0
-Builds l p n = (m : ℕ) (st : List Part) → length st + n ≤ m → run_within m l (some st) ≡ some (p ∷ st)
+Builds l p n = (m : ℕ) (st : List Part) → length st + n ≤ m → run_within m l (Some st) ≡ Some (p ∷ st)
 
-leaf_within : (x : Node) (p : Part) → ((st : List Part) → step x st ≡ some (p ∷ st)) → Builds (x ∷ []) p 1
+leaf_within : (x : Node) (p : Part) → ((st : List Part) → step x st ≡ Some (p ∷ st)) → Builds (x ∷ []) p 1
 unfolding Builds
-leaf_within x p e m st h = last_within m x (some st) st (p ∷ st) refl (e st) (omega (arith, h))
+leaf_within x p e m st h = last_within m x (Some st) st (p ∷ st) refl (e st) (omega (arith, h))
 
-one_within : (l : List Node) (x : Node) (a p : Part) (n : ℕ) → 1 ≤ n → Builds l a n → ((st : List Part) → step x (a ∷ st) ≡ some (p ∷ st)) → Builds (l ++ (x ∷ [])) p n
+one_within : (l : List Node) (x : Node) (a p : Part) (n : ℕ) → 1 ≤ n → Builds l a n → ((st : List Part) → step x (a ∷ st) ≡ Some (p ∷ st)) → Builds (l ++ (x ∷ [])) p n
 unfolding Builds
-one_within l x a p n k b e m st h = within_append m l (x ∷ []) (some st) ∙ last_within m x (run_within m l (some st)) (a ∷ st) (p ∷ st) (b m st h) (e st) (omega (arith, h))
+one_within l x a p n k b e m st h = within_append m l (x ∷ []) (Some st) ∙ last_within m x (run_within m l (Some st)) (a ∷ st) (p ∷ st) (b m st h) (e st) (omega (arith, h))
 
-pair_within : (f : ℕ → Node) (k l : List Node) (a b p : Part) (n n' : ℕ) → Builds k a n → Builds l b n' → ((st : List Part) → step (f (length l)) (b ∷ a ∷ st) ≡ some (p ∷ st)) → Builds (join_by f k l) p (max n (suc n'))
+pair_within : (f : ℕ → Node) (k l : List Node) (a b p : Part) (n n' : ℕ) → Builds k a n → Builds l b n' → ((st : List Part) → step (f (length l)) (b ∷ a ∷ st) ≡ Some (p ∷ st)) → Builds (join_by f k l) p (max n (suc n'))
 unfolding Builds
 pair_within f k l a b p n n' i j e m st h =
-    within_append m (k ++ l) (f (length l) ∷ []) (some st) ∙ last_within m (f (length l)) (run_within m (k ++ l) (some st)) (b ∷ a ∷ st) (p ∷ st)
-    (within_append m k l (some st) ∙ ap (run_within m l) (i m st (omega (arith, h))) ∙ j m (a ∷ st) (omega (arith, h))) (e st) (omega (arith, h))
+    within_append m (k ++ l) (f (length l) ∷ []) (Some st) ∙ last_within m (f (length l)) (run_within m (k ++ l) (Some st)) (b ∷ a ∷ st) (p ∷ st)
+    (within_append m k l (Some st) ∙ ap (run_within m l) (i m st (omega (arith, h))) ∙ j m (a ∷ st) (omega (arith, h))) (e st) (omega (arith, h))
 
 -- What joins two has the second's count.
-counted : (l : List Node) (p : Part) (st : List Part) → (sized (length l) l p >>= λ k. some (k ∷ st)) ≡ some (p ∷ st)
+counted : (l : List Node) (p : Part) (st : List Part) → (sized (length l) l p >>= λ k. Some (k ∷ st)) ≡ Some (p ∷ st)
 counted l p st = rw (eq-eqb (length l) (length l) refl)
 
 categories_within : (c : Categories) → Builds (tree_categories c) (Part.query (Query.category c)) (height_categories c)

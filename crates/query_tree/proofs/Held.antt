@@ -1,10 +1,10 @@
 -- A held tree is the form of one query, and each query that some text has is the one of its form.
+use Rattle.std.specs.Prelude.{Option, Some, None}
 use Prim.Native.Nat.{ℕ, zero, suc, ◌+◌, ◌*◌, ◌≤◌, ◌<◌}
 use mathlib.Core.Path.{◌≡◌, refl, sym, ap, subst, ◌∙◌}
 use mathlib.Core.Logic.{◌↔◌}
 use mathlib.Core.Bool.{Bool, true, false, ◌&&◌, false≢true}
 use mathlib.Core.List.{List, [], ◌∷◌, ◌++◌}
-use mathlib.Core.Option.{Option, some, none}
 use native.Mathlib.Omega.{arith}
 use lib.Dec.{leb}
 use lib.ListN.{length, get_or, take, length-append, length-take, length-replicate, get_or-replicate, replicate}
@@ -66,27 +66,27 @@ pub record IsHeld (h : Bytes) (q : Query) : Type 0 where
   pub has : has_text q ≡ true
   pub bytes : take tree_size h ≡ tree_of q
 
-is_held : (h : Bytes) (q : Query) → held_tree h ≡ some q → IsHeld h q
+is_held : (h : Bytes) (q : Query) → held_tree h ≡ Some q → IsHeld h q
 unfolding held_tree
 is_held h q e = go (built (nodes_in (take tree_size h))) e
   where
-    only : (t : Bool) (r : Query) → has_text r && same (take tree_size h) (tree_of r) ≡ t → only_if t (some r) ≡ some q → IsHeld h q
+    only : (t : Bool) (r : Query) → has_text r && same (take tree_size h) (tree_of r) ≡ t → only_if t (Some r) ≡ Some q → IsHeld h q
     only true r i j =
         let k = and_true (has_text r) (same (take tree_size h) (tree_of r)) i in
         subst (IsHeld h) (let z : r ≡ q = cc in z) (record { has = k.0; bytes = same_eq (take tree_size h) (tree_of r) k.1 })
     only false r i j = absurd (false≢true (let z : false ≡ true = cc in z))
 
-    go : (o : Option Query) → (o >>= λ r. only_if (has_text r && same (take tree_size h) (tree_of r)) (some r)) ≡ some q → IsHeld h q
-    go none i = absurd (false≢true (let z : false ≡ true = cc in z))
-    go (some r) i = only (has_text r && same (take tree_size h) (tree_of r)) r refl i
+    go : (o : Option Query) → (o >>= λ r. only_if (has_text r && same (take tree_size h) (tree_of r)) (Some r)) ≡ Some q → IsHeld h q
+    go None i = absurd (false≢true (let z : false ≡ true = cc in z))
+    go (Some r) i = only (has_text r && same (take tree_size h) (tree_of r)) r refl i
 
-held_is : (h : Bytes) (q : Query) → IsHeld h q → held_tree h ≡ some q
+held_is : (h : Bytes) (q : Query) → IsHeld h q → held_tree h ≡ Some q
 unfolding held_tree
 held_is h q d =
-    ap (λ (o : Option Query). o >>= λ r. only_if (has_text r && same (take tree_size h) (tree_of r)) (some r)) (ap built (ap nodes_in d.bytes ∙ tree_back q d.has) ∙ built_tree q)
-    ∙ ap (λ (t : Bool). only_if t (some q)) (both_true d.has (ap (λ (x : Bytes). same x (tree_of q)) d.bytes ∙ same_refl (tree_of q)))
+    ap (λ (o : Option Query). o >>= λ r. only_if (has_text r && same (take tree_size h) (tree_of r)) (Some r)) (ap built (ap nodes_in d.bytes ∙ tree_back q d.has) ∙ built_tree q)
+    ∙ ap (λ (t : Bool). only_if t (Some q)) (both_true d.has (ap (λ (x : Bytes). same x (tree_of q)) d.bytes ∙ same_refl (tree_of q)))
 
-pub held_tree_lem : (h : Bytes) (q : Query) → (held_tree h ≡ some q) ↔ IsHeld h q
+pub held_tree_lem : (h : Bytes) (q : Query) → (held_tree h ≡ Some q) ↔ IsHeld h q
 held_tree_lem h q = (is_held h q, held_is h q)
 
 -- Only the first bytes count.
@@ -95,12 +95,12 @@ unfolding held_tree
 held_cut h more b = rw (take-append-le tree_size h more b)
 
 -- A query's form is held as the query, and two queries with one form are one.
-pub form_held : (q : Query) (more : Bytes) → has_text q ≡ true → held_tree (tree_of q ++ more) ≡ some q
+pub form_held : (q : Query) (more : Bytes) → has_text q ≡ true → held_tree (tree_of q ++ more) ≡ Some q
 form_held q more h = held_is (tree_of q ++ more) q (record { has = h; bytes = take-append-le tree_size (tree_of q) more (omega (arith, length_tree q h)) ∙ take_all tree_size (tree_of q) (omega (arith, length_tree q h)) })
 
 pub form_once : (q r : Query) → has_text q ≡ true → has_text r ≡ true → tree_of q ≡ tree_of r → q ≡ r
 form_once q r h k e =
-    let z : some q ≡ some r = sym (form_held q [] h) ∙ ap (λ (x : Bytes). held_tree (x ++ [])) e ∙ form_held r [] k in
+    let z : Some q ≡ Some r = sym (form_held q [] h) ∙ ap (λ (x : Bytes). held_tree (x ++ [])) e ∙ form_held r [] k in
     let w : q ≡ r = cc in
     w
 
@@ -124,7 +124,7 @@ held_tested h small = both_ways (held_tree h) refl (leb tree_size (length h) && 
     little : (j : ℕ) → get_or g j 0 < 256
     little j = small_take tree_size h j small
 
-    passed : leb tree_size (length h) && (is_exact g && is_tree (nodes_in g)) ≡ true → (q : Query) × (held_tree h ≡ some q)
+    passed : leb tree_size (length h) && (is_exact g && is_tree (nodes_in g)) ≡ true → (q : Query) × (held_tree h ≡ Some q)
     passed t =
         let l = and_true (leb tree_size (length h)) _ t in
         let e = and_true (is_exact g) (is_tree (nodes_in g)) l.1 in
@@ -132,7 +132,7 @@ held_tested h small = both_ways (held_tree h) refl (leb tree_size (length h) && 
         let p = passes_tree (nodes_in g) e.1 in
         (p.query, held_is h p.query (record { has = p.has; bytes = exact_bytes g long little e.0 ∙ ap node_bytes (sym p.is) ∙ form p.query }))
 
-    held : (q : Query) → held_tree h ≡ some q → leb tree_size (length h) && (is_exact g && is_tree (nodes_in g)) ≡ true
+    held : (q : Query) → held_tree h ≡ Some q → leb tree_size (length h) && (is_exact g && is_tree (nodes_in g)) ≡ true
     held q e =
         let d = is_held h q e in
         let f = text_fits q d.has in
@@ -141,16 +141,16 @@ held_tested h small = both_ways (held_tree h) refl (leb tree_size (length h) && 
         (both_true (bytes_exact g (tree q) f (subst (λ x. Holds x (tree q)) (sym (d.bytes ∙ sym (form q))) (bytes_hold (tree q) f)) long) (ap is_tree (ap nodes_in d.bytes ∙ tree_back q d.has) ∙ tree_passes q d.has))
 
     both_ways : (o : Option Query) → held_tree h ≡ o → (t : Bool) → (leb tree_size (length h) && (is_exact g && is_tree (nodes_in g))) ≡ t → found o (λ q. true) false ≡ t
-    both_ways none e true i = let k = passed i in absurd (false≢true (let z : none ≡ some k.0 = sym e ∙ k.1 in let w : false ≡ true = cc in w))
-    both_ways none e false i = refl
-    both_ways (some q) e t i = sym (held q e) ∙ i
+    both_ways None e true i = let k = passed i in absurd (false≢true (let z : None ≡ Some k.0 = sym e ∙ k.1 in let w : false ≡ true = cc in w))
+    both_ways None e false i = refl
+    both_ways (Some q) e t i = sym (held q e) ∙ i
 
 two_is : (x : Bytes) → two_at x 0 ≡ get_or x 0 0 + 256 * get_or x 1 0
 unfolding two_at
 two_is x = refl
 
 -- 255 everywhere is a form of nothing.
-pub all_255 : (n : ℕ) → held_tree (replicate n 255) ≡ none
+pub all_255 : (n : ℕ) → held_tree (replicate n 255) ≡ None
 all_255 n = go (held_tree l) refl
   where
     l : Bytes
@@ -162,9 +162,9 @@ all_255 n = go (held_tree l) refl
         let most : tree_size ≤ n = omega (arith, long, length-take tree_size l, length-replicate {A = ℕ} n 255) in
         ap (λ (r : Bytes). get_or r i 0) (sym d.bytes) ∙ get_or-take tree_size l i 0 (omega (arith, b)) ∙ get_or-replicate n i 255 0 (omega (arith, b, most))
 
-    go : (o : Option Query) → held_tree l ≡ o → o ≡ none
-    go none e = refl
-    go (some q) e =
+    go : (o : Option Query) → held_tree l ≡ o → o ≡ None
+    go None e = refl
+    go (Some q) e =
         let d = is_held l q e in
         let f = text_fits q d.has in
         let c : two_at (tree_of q) 0 ≡ length (tree q) = ap (λ (x : Bytes). two_at x 0) (sym (form q)) ∙ (bytes_hold (tree q) f).count in

@@ -1,9 +1,9 @@
 -- What the pass keeps of each part goes with the building of the parts.
+use Rattle.std.specs.Prelude.{Option, Some, None}
 use Prim.Native.Nat.{ℕ, suc, ◌+◌, ◌-◌, max}
 use mathlib.Core.Path.{◌≡◌, refl, sym, ap, ap₂, ◌∙◌}
 use mathlib.Core.Bool.{Bool, true, false, ◌&&◌}
 use mathlib.Core.List.{List, [], ◌∷◌, ◌++◌}
-use mathlib.Core.Option.{Option, some, none}
 use native.Mathlib.Omega.{arith}
 use lib.Dec.{leb, eqb}
 use lib.ListN.{length, length-append}
@@ -67,8 +67,8 @@ kept at (Query.conjunction a b) = record { good = and_yes (is_spelled a && is_sp
 pub joined_count : (f : ℕ → Node) (k l : List Node) → suc (length k + length l) ≡ length (join_by f k l)
 joined_count f k l = omega (arith, length-append (k ++ l) (f (length l) ∷ []), length-append k l)
 
-only : (t u : Bool) (i : Item) (at : ℕ) (p : Part) → t ≡ u → i ≡ item at p → only_if t (some i) ≡ map_option (item at) (only_if u (some p))
-only t true i at p h e = rw h (ap some e)
+only : (t u : Bool) (i : Item) (at : ℕ) (p : Part) → t ≡ u → i ≡ item at p → only_if t (Some i) ≡ map_option (item at) (only_if u (Some p))
+only t true i at p h e = rw h (ap Some e)
 only t false i at p h e = rw h
 
 -- Counts that stop go with counts.
@@ -207,7 +207,7 @@ property_item_lem x at (Part.query (Query.identifier i)) = refl
 property_item_lem x at (Part.query (Query.property p a)) = refl
 property_item_lem x at (Part.query (Query.disjunction a b)) = refl
 property_item_lem x at (Part.query (Query.conjunction a b)) = refl
-property_item_lem x at (Part.alternatives a) = ap some (same_item Shape.Property at true false refl (ap (λ (t : Bool). t && spelled_in a) (sym (name_kept x))) (sum_stops (6 + length x) (6 + length x) (up_to_bytes (cost_in a)) (cost_in a) refl (omega arith)) (omega arith))
+property_item_lem x at (Part.alternatives a) = ap Some (same_item Shape.Property at true false refl (ap (λ (t : Bool). t && spelled_in a) (sym (name_kept x))) (sum_stops (6 + length x) (6 + length x) (up_to_bytes (cost_in a)) (cost_in a) refl (omega arith)) (omega arith))
 
 link_kept : (b k t u s : Bool) → (t ≡ true → u ≡ true) → b && (t && ((k && u) && s)) ≡ ((b && k) && t) && s
 link_kept true true true u s h = rw (h refl)
@@ -229,7 +229,7 @@ unfolding link_item link_part item names_in cost_chain spelled_chain spelled_nam
 link_item_lem x at (Part.query (Query.category c)) = refl
 link_item_lem x at (Part.query (Query.identifier i)) = refl
 link_item_lem x at (Part.query (Query.property p a)) =
-    ap some (same_item Shape.Property at true false (omega arith)
+    ap Some (same_item Shape.Property at true false (omega arith)
     (ap (λ (t : Bool). is_composed_property_name x && (t && ((spelled_names p && leb (names_in p) 8) && spelled_in a))) (names_stop (names_in p))
     ∙ link_kept (is_composed_property_name x) (spelled_names p) (leb (suc (names_in p)) 8) (leb (names_in p) 8) (spelled_in a) (λ e. le-leb (names_in p) 8 (omega (arith, leb-true (suc (names_in p)) 8 e))))
     (omega arith) (omega arith))
@@ -242,20 +242,20 @@ on_two_lem : (f : Part → Part → Option Part) (g : ℕ → Item → Item → 
 unfolding OnTwo items all_nodes
 on_two_lem f g e [] = refl
 on_two_lem f g e (b ∷ []) = refl
-on_two_lem f g e (b ∷ a ∷ st) = ap (λ (o : Option Item). o >>= λ k. some (k ∷ items st)) (e _ (length (all_nodes st)) (length (all_nodes st ++ nodes_of a)) a b (length-append (all_nodes st ++ nodes_of a) (nodes_of b))) ∙ go (f a b)
+on_two_lem f g e (b ∷ a ∷ st) = ap (λ (o : Option Item). o >>= λ k. Some (k ∷ items st)) (e _ (length (all_nodes st)) (length (all_nodes st ++ nodes_of a)) a b (length-append (all_nodes st ++ nodes_of a) (nodes_of b))) ∙ go (f a b)
   where
-    go : (o : Option Part) → (map_option (item (length (all_nodes st))) o >>= λ k. some (k ∷ items st)) ≡ map_option items (o >>= λ k. some (k ∷ st))
-    go none = refl
-    go (some x) = refl
+    go : (o : Option Part) → (map_option (item (length (all_nodes st))) o >>= λ k. Some (k ∷ items st)) ≡ map_option items (o >>= λ k. Some (k ∷ st))
+    go None = refl
+    go (Some x) = refl
 
 on_one_lem : (f : Part → Option Part) (g : Item → Option Item) → ((at : ℕ) (a : Part) → g (item at a) ≡ map_option (item at) (f a)) → (st : List Part) → on_one g (items st) ≡ map_option items (on_one f st)
 unfolding items
 on_one_lem f g e [] = refl
-on_one_lem f g e (a ∷ st) = ap (λ (o : Option Item). o >>= λ k. some (k ∷ items st)) (e (length (all_nodes st)) a) ∙ go (f a)
+on_one_lem f g e (a ∷ st) = ap (λ (o : Option Item). o >>= λ k. Some (k ∷ items st)) (e (length (all_nodes st)) a) ∙ go (f a)
   where
-    go : (o : Option Part) → (map_option (item (length (all_nodes st))) o >>= λ k. some (k ∷ items st)) ≡ map_option items (o >>= λ k. some (k ∷ st))
-    go none = refl
-    go (some x) = refl
+    go : (o : Option Part) → (map_option (item (length (all_nodes st))) o >>= λ k. Some (k ∷ items st)) ≡ map_option items (o >>= λ k. Some (k ∷ st))
+    go None = refl
+    go (Some x) = refl
 
 pub step_item : (x : Node) (st : List Part) → item_step (length (all_nodes st)) x (items st) ≡ map_option items (step x st)
 unfolding items item leaf_item spelled_categories spelled_identifiers reads_as_category cost_categories cost_identifiers is_spelled cost deep

@@ -1,6 +1,5 @@
 -- The held tree: a surface query in 5,112 bytes. docs/LAYOUT.md has the table.
-use Rattle.std.specs.Prelude.{ℕ, ◌+◌, ◌*◌, cond, ◌&&◌, List, [], ◌∷◌, ◌++◌, eqb, length, get_or, take}
-use Rattle.std.proofs.Math.Option.{Option, some}
+use Rattle.std.specs.Prelude.{ℕ, ◌+◌, ◌*◌, cond, ◌&&◌, List, [], ◌∷◌, ◌++◌, eqb, length, get_or, take, Option, Some}
 use Rattle.text.specs.Bytes.{Bytes, part, same}
 use Rattle.text.specs.Table.{tabulate}
 use Rattle.buffer.specs.Numbers.{two_bytes, two_at, padded}
@@ -98,4 +97,4 @@ module _ (h : Bytes) where
 -- "A held input is its first bytes of that size, and a shorter one is a form of nothing": the query whose form they are, where some text
 -- is read as it.
 unfoldable pub held_tree : Bytes → Option Query
-held_tree h = built (nodes_in (take tree_size h)) >>= λ q. only_if (has_text q && same (take tree_size h) (tree_of q)) (some q)
+held_tree h = built (nodes_in (take tree_size h)) >>= λ q. only_if (has_text q && same (take tree_size h) (tree_of q)) (Some q)

@@ -1,8 +1,7 @@
 -- Working definitions: one pass over nodes that says whether they are the tree of a text that reading accepts (34). By `is_tree_lem` it says so
 -- exactly. It keeps of each part a few numbers and truth values: what its shortest spelling costs, how deep that is, whether the rules are
 -- kept.
-use Rattle.std.specs.Prelude.{ℕ, suc, ◌+◌, ◌-◌, max, min, Bool, true, false, not, ◌&&◌, List, [], ◌∷◌, leb, eqb, length}
-use Rattle.std.proofs.Math.Option.{Option, some, none}
+use Rattle.std.specs.Prelude.{ℕ, suc, ◌+◌, ◌-◌, max, min, Bool, true, false, not, ◌&&◌, List, [], ◌∷◌, leb, eqb, length, Option, Some, None}
 use Rattle.text.specs.Bytes.{Bytes, bytes, same}
 use Rattle.names.specs.Names.{is_composed_name, is_composed_property_name, is_composed_namespace}
 use Rattle.values.specs.Names.{is_composed_reference}
@@ -109,58 +108,58 @@ unfoldable pub leaf_item : Shape → ℕ → Bool → Bool → ℕ → Item
 leaf_item s at leads kept n = item_of s at 0 true leads kept n 0
 
 unfoldable pub subquery_item : Item → Option Item
-subquery_item i = only_if (is_query i.shape) (some (item_of Shape.Alternatives i.from 0 true false (is_good i) (7 + full_bytes i) (suc i.depth)))
+subquery_item i = only_if (is_query i.shape) (Some (item_of Shape.Alternatives i.from 0 true false (is_good i) (7 + full_bytes i) (suc i.depth)))
 
 unfoldable pub property_item : Bytes → Item → Option Item
-property_item x i = only_if (is_alternatives i.shape) (some (item_of Shape.Property i.from 1 true false (is_composed_property_name x && i.kept) (6 + length x + i.bytes) i.depth))
+property_item x i = only_if (is_alternatives i.shape) (Some (item_of Shape.Property i.from 1 true false (is_composed_property_name x && i.kept) (6 + length x + i.bytes) i.depth))
 
 unfoldable pub link_item : Bytes → Item → Option Item
-link_item x i = only_if (is_property i.shape) (some (item_of Shape.Property i.from (suc i.names) true false (is_composed_property_name x && (leb (suc i.names) 8 && i.kept)) (i.bytes + suc (length x)) i.depth))
+link_item x i = only_if (is_property i.shape) (Some (item_of Shape.Property i.from (suc i.names) true false (is_composed_property_name x && (leb (suc i.names) 8 && i.kept)) (i.bytes + suc (length x)) i.depth))
 
 -- Two with what joins them, node `at`, which tells how many nodes the second has.
 unfoldable pub bar_item : ℕ → ℕ → Item → Item → Option Item
 bar_item at n i j =
     only_if (alike i.shape j.shape && eqb n (at - j.from))
-    (some (item_of i.shape i.from 0 false i.leads (i.kept && (j.one && j.kept)) (i.bytes + (2 + j.bytes)) (max i.depth j.depth)))
+    (Some (item_of i.shape i.from 0 false i.leads (i.kept && (j.one && j.kept)) (i.bytes + (2 + j.bytes)) (max i.depth j.depth)))
 
 unfoldable pub or_item : ℕ → ℕ → Item → Item → Option Item
 or_item at n i j =
     only_if (is_query i.shape && (is_query j.shape && eqb n (at - j.from)))
-    (some (item_of Shape.Disjunction i.from 0 false false (is_good i && is_good j) (full_bytes i + (2 + wrapped (is_or j.shape) (full_bytes j))) (max i.depth (under (is_or j.shape) j.depth))))
+    (Some (item_of Shape.Disjunction i.from 0 false false (is_good i && is_good j) (full_bytes i + (2 + wrapped (is_or j.shape) (full_bytes j))) (max i.depth (under (is_or j.shape) j.depth))))
 
 unfoldable pub and_item : ℕ → ℕ → Item → Item → Option Item
 and_item at n i j =
     only_if (is_query i.shape && (is_query j.shape && eqb n (at - j.from)))
-    (some (item_of Shape.Conjunction i.from 0 false false (is_good i && is_good j) (wrapped (is_or i.shape) (full_bytes i) + wrapped (is_two j.shape) (full_bytes j)) (max (under (is_or i.shape) i.depth) (under (is_two j.shape) j.depth))))
+    (Some (item_of Shape.Conjunction i.from 0 false false (is_good i && is_good j) (wrapped (is_or i.shape) (full_bytes i) + wrapped (is_two j.shape) (full_bytes j)) (max (under (is_or i.shape) i.depth) (under (is_two j.shape) j.depth))))
 
 -- What a node does with the last part, or the last two, of a stack.
 abbrev pub on_one : {A : Type 0} → (A → Option A) → List A → Option (List A)
-on_one f [] = none
-on_one f (i ∷ st) = f i >>= λ k. some (k ∷ st)
+on_one f [] = None
+on_one f (i ∷ st) = f i >>= λ k. Some (k ∷ st)
 
 abbrev pub on_two : {A : Type 0} → (A → A → Option A) → List A → Option (List A)
-on_two f [] = none
-on_two f (j ∷ []) = none
-on_two f (j ∷ i ∷ st) = f i j >>= λ k. some (k ∷ st)
+on_two f [] = None
+on_two f (j ∷ []) = None
+on_two f (j ∷ i ∷ st) = f i j >>= λ k. Some (k ∷ st)
 
 -- Node `at`.
 abbrev pub item_step : ℕ → Node → List Item → Option (List Item)
 item_step at (Node.and n) st = on_two (and_item at n) st
 item_step at (Node.or n) st = on_two (or_item at n) st
 item_step at (Node.bar n) st = on_two (bar_item at n) st
-item_step at (Node.category x) st = some (leaf_item Shape.Categories at false (is_composed_name x) (length x) ∷ st)
-item_step at (Node.namespace n) st = some (leaf_item Shape.Identifiers at (same n (bytes "Category")) (is_composed_namespace n) (length n + 2) ∷ st)
-item_step at (Node.reference c r) st = some (leaf_item Shape.Identifiers at (is_equal c && is_category_of r) (is_composed_reference r) (length (word c) + cost_reference r) ∷ st)
-item_step at Node.existence st = some (leaf_item Shape.Alternatives at false true 1 ∷ st)
-item_step at (Node.value c v) st = some (leaf_item Shape.Alternatives at false (spelled_value c v) (length (word c) + length v) ∷ st)
+item_step at (Node.category x) st = Some (leaf_item Shape.Categories at false (is_composed_name x) (length x) ∷ st)
+item_step at (Node.namespace n) st = Some (leaf_item Shape.Identifiers at (same n (bytes "Category")) (is_composed_namespace n) (length n + 2) ∷ st)
+item_step at (Node.reference c r) st = Some (leaf_item Shape.Identifiers at (is_equal c && is_category_of r) (is_composed_reference r) (length (word c) + cost_reference r) ∷ st)
+item_step at Node.existence st = Some (leaf_item Shape.Alternatives at false true 1 ∷ st)
+item_step at (Node.value c v) st = Some (leaf_item Shape.Alternatives at false (spelled_value c v) (length (word c) + length v) ∷ st)
 item_step at Node.subquery st = on_one subquery_item st
 item_step at (Node.property x) st = on_one (property_item x) st
 item_step at (Node.link x) st = on_one (link_item x) st
 
 -- A stack of at most n entries.
 abbrev pub within : {A : Type 0} → ℕ → Option (List A) → Option (List A)
-within n none = none
-within n (some st) = only_if (leb (length st) n) (some st)
+within n None = None
+within n (Some st) = only_if (leb (length st) n) (Some st)
 
 -- The pass from node `at` on; no tree of an accepted text needs more than 28 entries.
 unfoldable pub item_run : ℕ → List Node → Option (List Item) → Option (List Item)
@@ -174,4 +173,4 @@ is_whole (i ∷ []) = is_query i.shape && (is_good i && (leb (full_bytes i) 1024
 is_whole (j ∷ i ∷ st) = false
 
 unfoldable pub is_tree : List Node → Bool
-is_tree l = found (item_run 0 l (some [])) is_whole false
+is_tree l = found (item_run 0 l (Some [])) is_whole false

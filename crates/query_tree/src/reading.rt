@@ -7,7 +7,8 @@ ghost use Rattle.query_tree.specs.Reading.{node_by};
 use crate::{Row, TreeNode, layout};
 use buffer::two_at;
 use language::comparator_from;
-use text::{Span, byte_at, widen};
+use tables::get_or;
+use text::Span;
 
 // The node of a row.
 fn node_from(row: Row) -> TreeNode
@@ -15,11 +16,11 @@ fn node_from(row: Row) -> TreeNode
 {
     let start = tables::widen(row.number);
     let c = comparator_from(row.comparator);
-    let len = widen(row.first);
+    let len = usize::from(row.first);
     let first = Span { start, len };
     let second = Span {
         start: start + len,
-        len: widen(row.second),
+        len: usize::from(row.second),
     };
     let tag = row.tag;
     match tag {
@@ -53,11 +54,11 @@ pub fn row_at(h: &[u8], i: usize) -> Row
     }
     let at = layout::NODE_BYTES * i;
     Row {
-        tag: byte_at(h, at + 2),
-        comparator: byte_at(h, at + 3),
+        tag: get_or(h, at + 2, 0),
+        comparator: get_or(h, at + 3, 0),
         number: two_at(h, at + 4),
-        first: byte_at(h, at + 6),
-        second: byte_at(h, at + 7),
+        first: get_or(h, at + 6, 0),
+        second: get_or(h, at + 7, 0),
     }
 }
 

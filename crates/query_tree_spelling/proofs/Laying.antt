@@ -1,9 +1,9 @@
 -- What is read of a text: its groups stand where the grammar wants them, and it costs no more bytes than were read.
+use Rattle.std.specs.Prelude.{Option, Some}
 use Prim.Native.Nat.{ℕ, zero, suc, ◌+◌, ◌≤◌}
 use mathlib.Core.Path.{◌≡◌, refl, ap, ◌∙◌}
 use mathlib.Core.Bool.{Bool, true, false, cond, ◌&&◌}
 use mathlib.Core.List.{List, [], ◌∷◌}
-use mathlib.Core.Option.{Option, some}
 use native.Mathlib.Omega.{arith}
 use lib.Dec.{eqb}
 use lib.ListN.{length, take, drop, length-drop, length-take}
@@ -186,7 +186,7 @@ plain_takes : (s : Bytes) → OnSome (TermFrom (2 + length s)) (plain_body s)
 unfolding plain_body read_pieces size size_pieces
 plain_takes s = on_bind _ (TermFrom (2 + length s)) (pieces_within (suc (length s)) s) _ (pieces_take (suc (length s)) s) (λ x l. go x.0 x.1 l)
   where
-    go : (l : List Piece) (r : Bytes) → size_pieces l + length r ≤ length s → OnSome (TermFrom (2 + length s)) (bracket_of l >>= λ q. some (q, r))
+    go : (l : List Piece) (r : Bytes) → size_pieces l + length r ≤ length s → OnSome (TermFrom (2 + length s)) (bracket_of l >>= λ q. Some (q, r))
     go [] r h = tt
     go (p ∷ l) r h = (tt, refl, refl, omega (arith, h))
 
@@ -282,4 +282,4 @@ pub whole_takes : (s : Bytes) → OnSome (λ q. Laid q × (size q ≤ length s))
 unfolding read_whole read_query
 whole_takes s =
     on_bind (QueryFrom (length s)) (λ q. Laid q × (size q ≤ length s)) (query_within (enough 3 s) s) _ (query_takes (enough 3 s) s)
-    (λ x l. when_true (λ q. Laid q × (size q ≤ length s)) (eqb (length (behind is_blank x.1)) 0) (some x.0) (l.0, omega (arith, l.1)))
+    (λ x l. when_true (λ q. Laid q × (size q ≤ length s)) (eqb (length (behind is_blank x.1)) 0) (Some x.0) (l.0, omega (arith, l.1)))

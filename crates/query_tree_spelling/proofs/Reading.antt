@@ -1,9 +1,9 @@
 -- A raw query whose pieces are clean and whose groups stand where they are needed is read back from its text.
+use Rattle.std.specs.Prelude.{Option, Some, None}
 use Prim.Native.Nat.{ℕ, ◌+◌}
 use mathlib.Core.Path.{◌≡◌, refl, ap, ap₂, ◌∙◌}
 use mathlib.Core.Bool.{Bool, true, false, cond, ◌&&◌, true≢false}
 use mathlib.Core.List.{List, [], ◌∷◌, ◌++◌}
-use mathlib.Core.Option.{Option, some, none}
 use native.Mathlib.Omega.{arith}
 use lib.Dec.{eqb}
 use lib.ListN.{length, take, drop}
@@ -62,16 +62,16 @@ rest_stops [] s = refl
 rest_stops (p ∷ l) s = refl
 
 onward : Piece × Bytes → Option (List Piece × Bytes)
-onward x = found (after (bytes "||") x.1) (λ r. read_pieces r >>= λ l. some (x.0 ∷ l.0, l.1)) (after (bytes "]]") x.1 >>= λ r. some (x.0 ∷ [], r))
+onward x = found (after (bytes "||") x.1) (λ r. read_pieces r >>= λ l. Some (x.0 ∷ l.0, l.1)) (after (bytes "]]") x.1 >>= λ r. Some (x.0 ∷ [], r))
 
 first_read : (p : Piece) (l : List Piece) (s : Bytes) → Clean p → read_pieces (unread_piece p (unread_pieces l s)) ≡ onward (p, unread_pieces l s)
 unfolding onward
 first_read p l s h = pieces_eq (unread_piece p (unread_pieces l s)) ∙ ap onward (piece_reads p (unread_pieces l s) h (rest_stops l s))
 
-pub pieces_read : (p : Piece) (l : List Piece) (s : Bytes) → Clean p → AllClean l → read_pieces (unread_piece p (unread_pieces l s)) ≡ some (p ∷ l, s)
+pub pieces_read : (p : Piece) (l : List Piece) (s : Bytes) → Clean p → AllClean l → read_pieces (unread_piece p (unread_pieces l s)) ≡ Some (p ∷ l, s)
 unfolding onward unread_pieces after starts
 pieces_read p [] s h k = first_read p [] s h
-pieces_read p (q ∷ l) s h k = first_read p (q ∷ l) s h ∙ ap (λ (o : Option (List Piece × Bytes)). o >>= λ l. some (p ∷ l.0, l.1)) (pieces_read q l s k.0 k.1)
+pieces_read p (q ∷ l) s h k = first_read p (q ∷ l) s h ∙ ap (λ (o : Option (List Piece × Bytes)). o >>= λ l. Some (p ∷ l.0, l.1)) (pieces_read q l s k.0 k.1)
 
 -- What may follow an alternative.
 abbrev pub Ends : Bytes → Type 0
@@ -99,12 +99,12 @@ is_raw_either (RawAlternatives.either a b) = true
 
 -- What is read back.
 pub record CleanHead (c : Chain) : Type 0 where
-  pub head : (s : Bytes) → head_length (unread_chain c ++ (bytes "::" ++ s)) ≡ some (length (unread_chain c))
+  pub head : (s : Bytes) → head_length (unread_chain c ++ (bytes "::" ++ s)) ≡ Some (length (unread_chain c))
   pub free : all is_free (unread_chain c) ≡ true
   pub names : trim_names (split_dots (unread_chain c)) ≡ c
 
 pub record CleanFirst (p : Piece) : Type 0 where
-  pub headless : (s : Bytes) → head_length s ≡ none → head_length (unread_piece p s) ≡ none
+  pub headless : (s : Bytes) → head_length s ≡ None → head_length (unread_piece p s) ≡ None
 
 abbrev mutual
   pub ProperIn : RawAlternatives → Type 0
@@ -121,13 +121,13 @@ abbrev mutual
 
 -- The readers on a text.
 abbrev AsTerm : RawQuery → Type 0
-AsTerm q = (s : Bytes) → read_term (unread q s) ≡ some (q, s)
+AsTerm q = (s : Bytes) → read_term (unread q s) ≡ Some (q, s)
 
 abbrev AsConjunction : RawQuery → Type 0
 AsConjunction q = (s : Bytes) → read_conjunction (unread q s) ≡ read_and q s
 
 abbrev AsQuery : RawQuery → Type 0
-AsQuery q = (s : Bytes) → next_term s ≡ none → read_query (unread q s) ≡ read_or q s
+AsQuery q = (s : Bytes) → next_term s ≡ None → read_query (unread q s) ≡ read_or q s
 
 pub record Reads (q : RawQuery) : Type 0 where
   pub term : is_raw_joined q ≡ false → AsTerm q
@@ -135,16 +135,16 @@ pub record Reads (q : RawQuery) : Type 0 where
   pub query : AsQuery q
 
 pub record ReadsIn (a : RawAlternatives) : Type 0 where
-  pub one : is_raw_either a ≡ false → (s : Bytes) → Ends s → read_alternative (unread_in a s) ≡ some (a, s)
+  pub one : is_raw_either a ≡ false → (s : Bytes) → Ends s → read_alternative (unread_in a s) ≡ Some (a, s)
   pub more : (s : Bytes) → Ends s → read_alternatives (unread_in a s) ≡ read_more a s
 
 conjunction_of : (q : RawQuery) → AsTerm q → AsConjunction q
 conjunction_of q h s = conjunction_eq (unread q s) ∙ ap (λ (o : Option (RawQuery × Bytes)). o >>= λ q. read_and q.0 q.1) (h s)
 
-no_and : (q : RawQuery) (s : Bytes) → next_term s ≡ none → read_and q s ≡ some (q, s)
+no_and : (q : RawQuery) (s : Bytes) → next_term s ≡ None → read_and q s ≡ Some (q, s)
 no_and q s h = and_eq s q ∙ rw h
 
-no_or : (q : RawQuery) (s : Bytes) → token (bytes "OR") s ≡ none → read_or q s ≡ some (q, s)
+no_or : (q : RawQuery) (s : Bytes) → token (bytes "OR") s ≡ None → read_or q s ≡ Some (q, s)
 no_or q s h = or_eq s q ∙ rw h
 
 query_of_lem : (q : RawQuery) → AsConjunction q → AsQuery q
@@ -154,15 +154,15 @@ from_term : (q : RawQuery) → AsTerm q → Reads q
 from_term q h = record { term = λ e. h; conjunction = λ e. conjunction_of q h; query = query_of_lem q (conjunction_of q h) }
 
 -- A term's text begins with `[[` or `<q>`, so it is a next term.
-next_bracket : (s : Bytes) → next_term (bytes "[[" ++ s) ≡ some (bytes "[[" ++ s)
+next_bracket : (s : Bytes) → next_term (bytes "[[" ++ s) ≡ Some (bytes "[[" ++ s)
 unfolding next_term token after starts span
 next_bracket s = refl
 
-next_group : (s : Bytes) → next_term (bytes "<q>" ++ s) ≡ some (bytes "<q>" ++ s)
+next_group : (s : Bytes) → next_term (bytes "<q>" ++ s) ≡ Some (bytes "<q>" ++ s)
 unfolding next_term token after starts span
 next_group s = refl
 
-next_is : (q : RawQuery) (s : Bytes) → is_raw_joined q ≡ false → next_term (unread q s) ≡ some (unread q s)
+next_is : (q : RawQuery) (s : Bytes) → is_raw_joined q ≡ false → next_term (unread q s) ≡ Some (unread q s)
 unfolding unread
 next_is (RawQuery.pieces p l) s h = next_bracket _
 next_is (RawQuery.property c a) s h = next_bracket _
@@ -170,15 +170,15 @@ next_is (RawQuery.group q) s h = next_group _
 next_is (RawQuery.disjunction a b) s h = absurd (true≢false h)
 next_is (RawQuery.conjunction a b) s h = absurd (true≢false h)
 
-next_or : (s : Bytes) → next_term (bytes "OR" ++ s) ≡ none
+next_or : (s : Bytes) → next_term (bytes "OR" ++ s) ≡ None
 unfolding next_term token after starts span
 next_or s = refl
 
-next_close : (s : Bytes) → next_term (bytes "</q>" ++ s) ≡ none
+next_close : (s : Bytes) → next_term (bytes "</q>" ++ s) ≡ None
 unfolding next_term token after starts span
 next_close s = refl
 
-or_close : (s : Bytes) → token (bytes "OR") (bytes "</q>" ++ s) ≡ none
+or_close : (s : Bytes) → token (bytes "OR") (bytes "</q>" ++ s) ≡ None
 unfolding token after starts span
 or_close s = refl
 
@@ -195,19 +195,19 @@ term_bracket : (s : Bytes) → read_term (bytes "[[" ++ s) ≡ read_body s
 unfolding token after starts span
 term_bracket s = term_eq (bytes "[[" ++ s)
 
-closes_group : (q : RawQuery) (s : Bytes) → closed_group q (bytes "</q>" ++ s) ≡ some (RawQuery.group q, s)
+closes_group : (q : RawQuery) (s : Bytes) → closed_group q (bytes "</q>" ++ s) ≡ Some (RawQuery.group q, s)
 unfolding closed_group token after starts span
 closes_group q s = refl
 
-closes_inner : (q : RawQuery) (s : Bytes) → span is_blank s ≡ 0 → closed_inner q (bytes "</q>" ++ s) ≡ some (RawAlternatives.subquery q, s)
+closes_inner : (q : RawQuery) (s : Bytes) → span is_blank s ≡ 0 → closed_inner q (bytes "</q>" ++ s) ≡ Some (RawAlternatives.subquery q, s)
 unfolding closed_inner token after starts span
-closes_inner q s e = ap (λ (r : Bytes). some (RawAlternatives.subquery q, r)) (behind_none is_blank s e)
+closes_inner q s e = ap (λ (r : Bytes). Some (RawAlternatives.subquery q, r)) (behind_none is_blank s e)
 
-closes_body : (c : Chain) (a : RawAlternatives) (s : Bytes) → closed_body c a (bytes "]]" ++ s) ≡ some (RawQuery.property c a, s)
+closes_body : (c : Chain) (a : RawAlternatives) (s : Bytes) → closed_body c a (bytes "]]" ++ s) ≡ Some (RawQuery.property c a, s)
 unfolding closed_body after starts
 closes_body c a s = refl
 
-within : (q : RawQuery) → AsQuery q → (s : Bytes) → read_query (unread q (bytes "</q>" ++ s)) ≡ some (q, bytes "</q>" ++ s)
+within : (q : RawQuery) → AsQuery q → (s : Bytes) → read_query (unread q (bytes "</q>" ++ s)) ≡ Some (q, bytes "</q>" ++ s)
 within q h s = h (bytes "</q>" ++ s) (next_close s) ∙ no_or q (bytes "</q>" ++ s) (or_close s)
 
 group_reads : (q : RawQuery) → AsQuery q → AsTerm (RawQuery.group q)
@@ -218,7 +218,7 @@ group_reads q h s =
     ∙ closes_group q s
 
 -- A bracket without a head.
-rest_headless : (l : List Piece) (s : Bytes) → head_length (unread_pieces l s) ≡ none
+rest_headless : (l : List Piece) (s : Bytes) → head_length (unread_pieces l s) ≡ None
 unfolding unread_pieces head_length starts
 rest_headless [] s = refl
 rest_headless (p ∷ l) s = refl
@@ -229,7 +229,7 @@ plain_reads p l f h k s =
     let body = unread_piece p (unread_pieces l s) in
     term_bracket body ∙ body_eq body
     ∙ ap (λ (o : Option ℕ). found o (λ k. only_if (all is_free (take k body)) (read_alternatives (drop (2 + k) body) >>= λ a. closed_body (trim_names (split_dots (take k body))) a.0 a.1)) (plain_body body)) (f.headless (unread_pieces l s) (rest_headless l s))
-    ∙ ap (λ (o : Option (List Piece × Bytes)). o >>= λ x. bracket_of x.0 >>= λ q. some (q, x.1)) (pieces_read p l s h k)
+    ∙ ap (λ (o : Option (List Piece × Bytes)). o >>= λ x. bracket_of x.0 >>= λ q. Some (q, x.1)) (pieces_read p l s h k)
 
 -- A bracket with a head.
 head_eq : (c : Chain) (s : Bytes) → CleanHead c → read_body (unread_chain c ++ (bytes "::" ++ s)) ≡ (read_alternatives s >>= λ a. closed_body c a.0 a.1)
@@ -248,7 +248,7 @@ ends_bar : (s : Bytes) → Ends (bytes "||" ++ s)
 unfolding span starts is_free Rattle.text.specs.Bytes.any
 ends_bar s = (refl, refl, refl)
 
-no_more : (a : RawAlternatives) (s : Bytes) → read_more a (bytes "]]" ++ s) ≡ some (a, bytes "]]" ++ s)
+no_more : (a : RawAlternatives) (s : Bytes) → read_more a (bytes "]]" ++ s) ≡ Some (a, bytes "]]" ++ s)
 unfolding after starts
 no_more a s = more_eq (bytes "]]" ++ s) a
 
@@ -264,7 +264,7 @@ property_reads c a h r s =
     ∙ ap (λ (o : Option (RawAlternatives × Bytes)). o >>= λ a. closed_body c a.0 a.1) (r.more (bytes "]]" ++ s) (ends_close s) ∙ no_more a s)
     ∙ closes_body c a s
 
-from_one : (a : RawAlternatives) → ((s : Bytes) → Ends s → read_alternative (unread_in a s) ≡ some (a, s)) → ReadsIn a
+from_one : (a : RawAlternatives) → ((s : Bytes) → Ends s → read_alternative (unread_in a s) ≡ Some (a, s)) → ReadsIn a
 from_one a h = record { one = λ e. h; more = λ s e. alternatives_eq (unread_in a s) ∙ ap (λ (o : Option (RawAlternatives × Bytes)). o >>= λ a. read_more a.0 a.1) (h s e) }
 
 -- A piece is no subquery: `<` before `q` is a comparator.
@@ -285,18 +285,18 @@ unfolding starts all
 no_greater [] s h e = e
 no_greater (b ∷ t) s h e = rw ((free_not b (and_true (is_free b) (all is_free t) h).0).4, starts)
 
-no_subquery : (c : SurfaceComparator) (t s : Bytes) → CleanText c t → starts (bytes ">") s ≡ false → token (bytes "<q>") (word c ++ (t ++ s)) ≡ none
+no_subquery : (c : SurfaceComparator) (t s : Bytes) → CleanText c t → starts (bytes ">") s ≡ false → token (bytes "<q>") (word c ++ (t ++ s)) ≡ None
 unfolding token after starts all
 no_subquery c [] s h e = absurd h
 no_subquery c (b ∷ t) s h e =
     let k = and_true (is_free b) (all is_free t) h.1 in
     ap (after (bytes "<q>")) (word_bare c b (t ++ s) h.0)
-    ∙ ap (λ (x : Bool). cond x (some (drop 3 (word c ++ (b ∷ t ++ s)))) none)
+    ∙ ap (λ (x : Bool). cond x (Some (drop 3 (word c ++ (b ∷ t ++ s)))) None)
     (word_no_subquery c (b ∷ t ++ s) (no_word b (t ++ s) k.0) (later_false 113 (bytes ">") b (t ++ s) (no_greater t s k.1 e)))
 
 piece_alternative : (p : Piece) → Clean p → ReadsIn (RawAlternatives.piece p)
 unfolding unread unread_piece
-piece_alternative p h = from_one (RawAlternatives.piece p) (λ s e. alternative_eq (unread_piece p s) ∙ ap (λ (o : Option Bytes). found o (λ r. read_query r >>= λ q. closed_inner q.0 q.1) (some (RawAlternatives.piece (piece_at (unread_piece p s)).0, (piece_at (unread_piece p s)).1))) (no_subquery p.comparator p.text s h e.2) ∙ ap (λ (x : Piece × Bytes). some (RawAlternatives.piece x.0, x.1)) (piece_reads p s h e.0))
+piece_alternative p h = from_one (RawAlternatives.piece p) (λ s e. alternative_eq (unread_piece p s) ∙ ap (λ (o : Option Bytes). found o (λ r. read_query r >>= λ q. closed_inner q.0 q.1) (Some (RawAlternatives.piece (piece_at (unread_piece p s)).0, (piece_at (unread_piece p s)).1))) (no_subquery p.comparator p.text s h e.2) ∙ ap (λ (x : Piece × Bytes). Some (RawAlternatives.piece x.0, x.1)) (piece_reads p s h e.0))
 
 subquery_alternative : (q : RawQuery) → AsQuery q → ReadsIn (RawAlternatives.subquery q)
 unfolding unread token after starts span
@@ -337,11 +337,11 @@ mutual
       let whole : AsConjunction (RawQuery.conjunction a b) = λ s.
       (reads a h.0).conjunction h.2 (unread b s)
       ∙ and_eq (unread b s) a
-      ∙ ap (λ (o : Option Bytes). found o (λ r. read_term r >>= λ b. read_and (RawQuery.conjunction a b.0) b.1) (some (a, unread b s))) (next_is b s h.3)
+      ∙ ap (λ (o : Option Bytes). found o (λ r. read_term r >>= λ b. read_and (RawQuery.conjunction a b.0) b.1) (Some (a, unread b s))) (next_is b s h.3)
       ∙ ap (λ (o : Option (RawQuery × Bytes)). o >>= λ b. read_and (RawQuery.conjunction a b.0) b.1) ((reads b h.1).term h.3 s) in
       record { term = λ e. absurd (true≢false e); conjunction = λ e. whole; query = query_of_lem (RawQuery.conjunction a b) whole }
 
 -- The whole text.
-pub whole_reads : (q : RawQuery) → Proper q → read_whole (unread q []) ≡ some q
+pub whole_reads : (q : RawQuery) → Proper q → read_whole (unread q []) ≡ Some q
 unfolding read_whole next_term token after starts span
-whole_reads q h = ap (λ (o : Option (RawQuery × Bytes)). o >>= λ q. only_if (eqb (length (behind is_blank q.1)) 0) (some q.0)) ((reads q h).query [] refl ∙ no_or q [] refl)
+whole_reads q h = ap (λ (o : Option (RawQuery × Bytes)). o >>= λ q. only_if (eqb (length (behind is_blank q.1)) 0) (Some q.0)) ((reads q h).query [] refl ∙ no_or q [] refl)

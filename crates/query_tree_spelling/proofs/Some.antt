@@ -1,10 +1,10 @@
 -- Some text is accepted as a surface query where the query passes one test; its shortest text is then one.
+use Rattle.std.specs.Prelude.{Option, Some, None}
 use Prim.Native.Nat.{ℕ, ◌≤◌, max}
 use mathlib.Core.Path.{◌≡◌, refl, subst}
 use mathlib.Core.Bool.{Bool, true, false, cond, false≢true}
 use mathlib.Core.Logic.{◌↔◌}
 use mathlib.Core.List.{[], ◌∷◌}
-use mathlib.Core.Option.{Option, some, none}
 use native.Mathlib.Omega.{arith}
 use lib.Dec.{ltb}
 use lib.ListN.{length}
@@ -51,8 +51,8 @@ accepted_spelled s q = long (ltb 1024 (length s)) refl
     no n h = false≢true (let e : false ≡ true = cc in e)
 
     whole : (o : Option RawQuery) → OnSome (λ r. Laid r × (size r ≤ length s)) o → length s ≤ 1024 → found o (λ r. judge (checks r) (made r)) (refused 13) ≡ accepted q → Spelled s q
-    whole none l f h = absurd (no 13 h)
-    whole (some r) l f h = good r l f h
+    whole None l f h = absurd (no 13 h)
+    whole (Some r) l f h = good r l f h
 
     long : (t : Bool) → ltb 1024 (length s) ≡ t → cond t (refused 12) (found (read_whole s) (λ r. judge (checks r) (made r)) (refused 13)) ≡ accepted q → Spelled s q
     long true e h = absurd (no 12 h)

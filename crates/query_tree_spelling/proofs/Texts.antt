@@ -1,9 +1,9 @@
 -- Laws of texts that are written together: byte classes, scans, trimming, comparators, heads.
+use Rattle.std.specs.Prelude.{Option, Some, None}
 use Prim.Native.Nat.{ℕ, suc, ◌-◌}
 use mathlib.Core.Path.{◌≡◌, refl, sym, ap, ◌∙◌}
 use mathlib.Core.Bool.{Bool, true, false, not, ◌&&◌, false≢true}
 use mathlib.Core.List.{[], ◌∷◌, ◌++◌}
-use mathlib.Core.Option.{Option, some, none}
 use native.Mathlib.Omega.{arith}
 use lib.Dec.{eqb, leb}
 use lib.ListN.{length, take, drop, get_or}
@@ -113,27 +113,27 @@ no_pair b s e = rw (e, starts)
 
 -- One step of the search for `::`.
 abbrev stepped : Bool → Bool → Option ℕ → Option ℕ
-stepped true u o = some 0
-stepped false true o = none
+stepped true u o = Some 0
+stepped false true o = None
 stepped false false o = map_option suc o
 
 head_step : (b : ℕ) (s : Bytes) → head_length (b ∷ s) ≡ stepped (starts (bytes "::") (b ∷ s)) (ends_head (b ∷ s)) (head_length s)
 unfolding head_length
 head_step b s = go (starts (bytes "::") (b ∷ s)) (ends_head (b ∷ s))
   where
-    go : (t u : Bool) → ◌≡◌ {A = Option ℕ} (elim t [ true ↦ some 0 | false ↦ elim u [ true ↦ none | false ↦ map_option suc (head_length s) ] ]) (stepped t u (head_length s))
+    go : (t u : Bool) → ◌≡◌ {A = Option ℕ} (elim t [ true ↦ Some 0 | false ↦ elim u [ true ↦ None | false ↦ map_option suc (head_length s) ] ]) (stepped t u (head_length s))
     go true u = refl
     go false true = refl
     go false false = refl
 
-no_head_step : (b : ℕ) (s : Bytes) → starts (bytes "::") (b ∷ s) ≡ false → head_length s ≡ none → head_length (b ∷ s) ≡ none
+no_head_step : (b : ℕ) (s : Bytes) → starts (bytes "::") (b ∷ s) ≡ false → head_length s ≡ None → head_length (b ∷ s) ≡ None
 no_head_step b s e h = head_step b s ∙ rw (e, h) (go (ends_head (b ∷ s)))
   where
-    go : (t : Bool) → stepped false t none ≡ none
+    go : (t : Bool) → stepped false t None ≡ None
     go true = refl
     go false = refl
 
-pub no_head : (u s : Bytes) → all (is_other 58) u ≡ true → head_length s ≡ none → head_length (u ++ s) ≡ none
+pub no_head : (u s : Bytes) → all (is_other 58) u ≡ true → head_length s ≡ None → head_length (u ++ s) ≡ None
 unfolding all
 no_head [] s h e = e
 no_head (b ∷ u) s h e =
@@ -141,7 +141,7 @@ no_head (b ∷ u) s h e =
     no_head_step b (u ++ s) (no_pair b (u ++ s) (not_not (eqb b 58) k.0)) (no_head u s k.1 e)
 
 -- A single colon.
-pub no_head_colon : (b : ℕ) (s : Bytes) → eqb b 58 ≡ false → head_length (b ∷ s) ≡ none → head_length (58 ∷ b ∷ s) ≡ none
+pub no_head_colon : (b : ℕ) (s : Bytes) → eqb b 58 ≡ false → head_length (b ∷ s) ≡ None → head_length (58 ∷ b ∷ s) ≡ None
 unfolding starts
 no_head_colon b s e h = no_head_step 58 (b ∷ s) (rw (e, starts)) h
 
@@ -149,7 +149,7 @@ free_goes_on : (b : ℕ) (s : Bytes) → is_free b ≡ true → ends_head (b ∷
 unfolding starts
 free_goes_on b s h = let e = free_not b h in rw (e.2, e.3, e.1, starts)
 
-pub head_reads : (u s : Bytes) → all is_free u ≡ true → all (is_other 58) u ≡ true → head_length (u ++ (bytes "::" ++ s)) ≡ some (length u)
+pub head_reads : (u s : Bytes) → all is_free u ≡ true → all (is_other 58) u ≡ true → head_length (u ++ (bytes "::" ++ s)) ≡ Some (length u)
 unfolding all starts
 head_reads [] s h k = head_step 58 (58 ∷ s)
 head_reads (b ∷ u) s h k =

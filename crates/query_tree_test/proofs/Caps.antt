@@ -1,7 +1,7 @@
 -- Counts that stop at the first that is too large.
+use Rattle.std.specs.Prelude.{Some}
 use Prim.Native.Nat.{ℕ, suc, ◌+◌, ◌≤◌}
 use mathlib.Core.Path.{◌≡◌, ap}
-use mathlib.Core.Option.{some}
 use mathlib.Core.Bool.{Bool, true, false, ◌&&◌}
 use native.Mathlib.Numerals.{add-one}
 use native.Mathlib.Omega.{arith}
@@ -30,18 +30,18 @@ pub leaf_sized : (s : Shape) (at : ℕ) (l k : Bool) (a b : ℕ) → up_to_bytes
 unfolding leaf_item
 leaf_sized s at l k a b e = ap (sized s at 0 true l k 0) e
 
-pub property_is : (x : Bytes) (i : Item) (n : ℕ) → n ≡ up_to_bytes (length x) → only_if (is_alternatives i.shape) (some (item_of Shape.Property i.from 1 true false (is_composed_property_name x && i.kept) (6 + n + i.bytes) i.depth)) ≡ property_item x i
+pub property_is : (x : Bytes) (i : Item) (n : ℕ) → n ≡ up_to_bytes (length x) → only_if (is_alternatives i.shape) (Some (item_of Shape.Property i.from 1 true false (is_composed_property_name x && i.kept) (6 + n + i.bytes) i.depth)) ≡ property_item x i
 unfolding property_item
 property_is x i n e =
     let z : up_to_bytes (6 + n + i.bytes) ≡ up_to_bytes (6 + length x + i.bytes) = omega (arith, e) in
-    ap (λ (b : ℕ). only_if (is_alternatives i.shape) (some (sized Shape.Property i.from 1 true false (is_composed_property_name x && i.kept) (up_to_levels i.depth) b))) z
+    ap (λ (b : ℕ). only_if (is_alternatives i.shape) (Some (sized Shape.Property i.from 1 true false (is_composed_property_name x && i.kept) (up_to_levels i.depth) b))) z
 
-pub link_is : (x : Bytes) (i : Item) (n : ℕ) → n ≡ up_to_bytes (length x) → only_if (is_property i.shape) (some (item_of Shape.Property i.from (i.names + 1) true false (is_composed_property_name x && (leb (i.names + 1) 8 && i.kept)) (i.bytes + (n + 1)) i.depth)) ≡ link_item x i
+pub link_is : (x : Bytes) (i : Item) (n : ℕ) → n ≡ up_to_bytes (length x) → only_if (is_property i.shape) (Some (item_of Shape.Property i.from (i.names + 1) true false (is_composed_property_name x && (leb (i.names + 1) 8 && i.kept)) (i.bytes + (n + 1)) i.depth)) ≡ link_item x i
 unfolding link_item
 link_is x i n e =
     let z : up_to_bytes (i.bytes + (n + 1)) ≡ up_to_bytes (i.bytes + suc (length x)) = omega (arith, e) in
     rw (add-one i.names)
-    (ap (λ (b : ℕ). only_if (is_property i.shape) (some (sized Shape.Property i.from (up_to_levels (suc i.names)) true false (is_composed_property_name x && (leb (suc i.names) 8 && i.kept)) (up_to_levels i.depth) b))) z)
+    (ap (λ (b : ℕ). only_if (is_property i.shape) (Some (sized Shape.Property i.from (up_to_levels (suc i.names)) true false (is_composed_property_name x && (leb (suc i.names) 8 && i.kept)) (up_to_levels i.depth) b))) z)
 
 -- A sum with a length that is cut as one with the whole length.
 pub plus_cut : (k n : ℕ) → up_to_bytes (k + up_to_bytes n) ≡ up_to_bytes (k + n)

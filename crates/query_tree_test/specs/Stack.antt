@@ -1,6 +1,5 @@
 -- Working definitions: the stack of the pass in a table, and what a node makes of the parts at its top.
-use Rattle.std.specs.Prelude.{ℕ, zero, suc, ◌+◌, true, false, ◌&&◌, List, [], ◌∷◌, length, get_or}
-use Rattle.std.proofs.Math.Option.{Option, some, none}
+use Rattle.std.specs.Prelude.{ℕ, zero, suc, ◌+◌, true, false, ◌&&◌, List, [], ◌∷◌, length, get_or, Option, Some, None}
 use Rattle.text.specs.Bytes.{Bytes, bytes, same}
 use Rattle.text.specs.Table.{tabulate}
 use Rattle.names.specs.Names.{is_composed_name, is_composed_namespace}
@@ -17,8 +16,8 @@ use Rattle.query_tree.specs.Pass.{leaf_item, subquery_item, property_item, link_
 
 -- What was made.
 abbrev pub made_by : Made → Option Item
-made_by (Made.Is i) = some i
-made_by Made.Nothing = none
+made_by (Made.Is i) = Some i
+made_by Made.Nothing = None
 
 -- How many parts a node is made of.
 abbrev pub arity : Node → ℕ
@@ -39,11 +38,11 @@ abbrev pub made_of : ℕ → Node → Item → Item → Option Item
 made_of at (Node.and n) i j = and_item at n i j
 made_of at (Node.or n) i j = or_item at n i j
 made_of at (Node.bar n) i j = bar_item at n i j
-made_of at (Node.category x) i j = some (leaf_item Shape.Categories at false (is_composed_name x) (length x))
-made_of at (Node.namespace n) i j = some (leaf_item Shape.Identifiers at (same n (bytes "Category")) (is_composed_namespace n) (length n + 2))
-made_of at (Node.reference c r) i j = some (leaf_item Shape.Identifiers at (is_equal c && is_category_of r) (is_composed_reference r) (length (word c) + cost_reference r))
-made_of at Node.existence i j = some (leaf_item Shape.Alternatives at false true 1)
-made_of at (Node.value c v) i j = some (leaf_item Shape.Alternatives at false (spelled_value c v) (length (word c) + length v))
+made_of at (Node.category x) i j = Some (leaf_item Shape.Categories at false (is_composed_name x) (length x))
+made_of at (Node.namespace n) i j = Some (leaf_item Shape.Identifiers at (same n (bytes "Category")) (is_composed_namespace n) (length n + 2))
+made_of at (Node.reference c r) i j = Some (leaf_item Shape.Identifiers at (is_equal c && is_category_of r) (is_composed_reference r) (length (word c) + cost_reference r))
+made_of at Node.existence i j = Some (leaf_item Shape.Alternatives at false true 1)
+made_of at (Node.value c v) i j = Some (leaf_item Shape.Alternatives at false (spelled_value c v) (length (word c) + length v))
 made_of at Node.subquery i j = subquery_item j
 made_of at (Node.property x) i j = property_item x j
 made_of at (Node.link x) i j = link_item x j
@@ -59,4 +58,4 @@ stack_of t (suc n) = get_or t (suc (suc n)) blank ∷ stack_of t n
 
 -- The pass over the first n nodes of the bytes.
 unfoldable pub run_to : Bytes → ℕ → Option (List Item)
-run_to h n = item_run 0 (tabulate n (node_in h)) (some [])
+run_to h n = item_run 0 (tabulate n (node_in h)) (Some [])

@@ -1,6 +1,5 @@
 // Parts made of others.
 ghost use Rattle.std.specs.Prelude.{◌≡◌, ◌&&◌, ◌-◌, max, eqb};
-ghost use Rattle.std.proofs.Math.Option.{some};
 ghost use Rattle.language.specs.Answer.{only_if};
 ghost use Rattle.query_tree_spelling.specs.Spelled.{wrapped as wrapped_if, under as under_if};
 ghost use Rattle.query_tree.specs.Pass.{is_query, full_bytes, subquery_item, property_item, link_item, bar_item, or_item, and_item};
@@ -13,10 +12,9 @@ use crate::shapes::{
 };
 use names::is_composed_property_name;
 use query_tree::{Item, Shape};
-use tables::widen;
 
 fn only_if(ok: bool, item: Item) -> Made
-    ensures { made_by result ≡ only_if ok (some item) }
+    ensures { made_by result ≡ only_if ok (Some item) }
 {
     if ok { Made::Is(item) } else { Made::Nothing }
 }
@@ -42,7 +40,7 @@ fn wrapped(grouped: bool, i: Item) -> u32
 fn under(grouped: bool, n: u16) -> usize
     ensures { result ≡ under_if grouped n }
 {
-    let n = widen(n);
+    let n = usize::from(n);
     if grouped { n + 1 } else { n }
 }
 
@@ -57,7 +55,7 @@ pub fn subquery_item(i: Item) -> Made
 {
     let shape = i.shape;
     let bytes = 7 + (full_bytes(i) as usize);
-    let depth = widen(i.depth) + 1;
+    let depth = usize::from(i.depth) + 1;
     let good = is_good(i);
     let item = item_of(
         Shape::Alternatives,
@@ -76,9 +74,9 @@ pub fn property_item(x: &[u8], i: Item) -> Made
     ensures { made_by result ≡ property_item x.now i }
 {
     let shape = i.shape;
-    let bytes = 6 + length_of(x) + widen(i.bytes);
+    let bytes = 6 + length_of(x) + usize::from(i.bytes);
     let kept = is_composed_property_name(x) & i.kept;
-    let depth = widen(i.depth);
+    let depth = usize::from(i.depth);
     let item = item_of(Shape::Property, i.from, 1, true, false, kept, bytes, depth);
     only_if(is_alternatives(shape), item)
 }
@@ -87,10 +85,10 @@ pub fn link_item(x: &[u8], i: Item) -> Made
     ensures { made_by result ≡ link_item x.now i }
 {
     let shape = i.shape;
-    let names = widen(i.names) + 1;
-    let bytes = widen(i.bytes) + (length_of(x) + 1);
+    let names = usize::from(i.names) + 1;
+    let bytes = usize::from(i.bytes) + (length_of(x) + 1);
     let kept = is_composed_property_name(x) & ((names <= 8) & i.kept);
-    let depth = widen(i.depth);
+    let depth = usize::from(i.depth);
     let item = item_of(
         Shape::Property,
         i.from,
@@ -110,9 +108,9 @@ pub fn bar_item(at: usize, n: usize, i: Item, j: Item) -> Made
 {
     let first = i.shape;
     let second = j.shape;
-    let bytes = widen(i.bytes) + (2 + widen(j.bytes));
+    let bytes = usize::from(i.bytes) + (2 + usize::from(j.bytes));
     let kept = i.kept & (j.one & j.kept);
-    let depth = larger(widen(i.depth), widen(j.depth));
+    let depth = larger(usize::from(i.depth), usize::from(j.depth));
     let item = item_of(first, i.from, 0, false, i.leads, kept, bytes, depth);
     only_if(alike(first, second) & is_size(n, at, j.from), item)
 }
@@ -132,7 +130,7 @@ pub fn or_item(at: usize, n: usize, i: Item, j: Item) -> Made
     let second = j.shape;
     let grouped = is_or(second);
     let bytes = (full_bytes(i) as usize) + (2 + (wrapped(grouped, j) as usize));
-    let depth = larger(widen(i.depth), under(grouped, j.depth));
+    let depth = larger(usize::from(i.depth), under(grouped, j.depth));
     let kept = is_good(i) & is_good(j);
     let item = item_of(
         Shape::Disjunction,

@@ -12,8 +12,8 @@ use crate::shapes::{item_of, up_to_bytes};
 use language::{SurfaceComparator, is_equal, word_length};
 use names::{is_composed_name, is_composed_namespace};
 use query_tree::{Item, Shape};
-use tables::widen;
-use text::{byte_at, same_bytes};
+use tables::get_or;
+use text::same_bytes;
 use values::is_value;
 
 // Node `at` begins a part.
@@ -27,14 +27,14 @@ fn leaf_item(shape: Shape, at: usize, leads: bool, kept: bool, n: usize) -> Item
 pub fn length_of(x: &[u8]) -> usize
     ensures { result ≡ up_to_bytes (length x.now) }
 {
-    widen(up_to_bytes(x.len()))
+    usize::from(up_to_bytes(x.len()))
 }
 
 // Whether a value is read as itself behind its comparator.
 fn spelled_value(c: SurfaceComparator, v: &[u8]) -> bool
     ensures { result ≡ spelled_value c v.now }
 {
-    is_value(v) & !(is_equal(c) & ((byte_at(v, 0) == 33) | same_bytes(v, b"+")))
+    is_value(v) & !(is_equal(c) & ((get_or(v, 0, 0) == 33) | same_bytes(v, b"+")))
 }
 
 pub fn category_item(at: usize, x: &[u8]) -> Item

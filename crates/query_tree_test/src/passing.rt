@@ -15,7 +15,6 @@ use crate::shapes::{full_bytes, is_good, is_query};
 use buffer::two_at;
 use query_tree::reading::node_at;
 use query_tree::{Item, Shape, TreeNode, layout};
-use tables::widen;
 use text::part;
 
 // What stands where no part was put.
@@ -87,7 +86,7 @@ fn is_whole(i: Item) -> bool
 pub fn passes(h: &[u8]) -> bool
     ensures { result ≡ is_tree (nodes_in h.now) }
 {
-    let n = widen(two_at(h, 0));
+    let n = usize::from(two_at(h, 0));
     let s = part(h, layout::STRINGS, layout::STRING_BYTES);
     let mut items = [BLANK; 30];
     let mut count: usize = 0;

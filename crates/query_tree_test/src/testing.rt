@@ -8,7 +8,6 @@ use buffer::{two_at, zeros};
 use language::LAST_COMPARATOR;
 use query_tree::reading::row_at;
 use query_tree::{Row, layout};
-use text::widen;
 
 // The highest comparator of a tag.
 fn last_comparator(tag: u8) -> u8
@@ -57,8 +56,8 @@ pub fn row_fits(row: Row, at: usize) -> bool
         return false;
     }
     let tag = row.tag;
-    let first = widen(row.first);
-    let second = widen(row.second);
+    let first = usize::from(row.first);
+    let second = usize::from(row.second);
     let placed = (tag < layout::CATEGORY) | (tables::widen(row.number) == place_of(tag, at));
     let end = at + first + second;
     (tag <= layout::LINK)
@@ -87,7 +86,7 @@ fn rows_fit(h: &[u8], n: usize) -> Tested
         if !row_fits(row, at) {
             return Tested { ok: false, end: 0 };
         }
-        at = at + widen(row.first) + widen(row.second);
+        at = at + usize::from(row.first) + usize::from(row.second);
         i += 1;
     }
     Tested { ok: true, end: at }

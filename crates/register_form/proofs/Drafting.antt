@@ -1,10 +1,10 @@
 -- What a draft describes: when that is a register, and its counts.
+use Rattle.std.specs.Prelude.{Some}
 use Prim.Native.Nat.{ℕ, zero, suc, ◌+◌, ◌-◌, ◌<◌, ◌^◌}
 use mathlib.Core.Path.{◌≡◌, refl, sym, ap, ap₂, ◌∙◌}
 use mathlib.Core.Bool.{Bool, true, false, not, ◌&&◌}
 use mathlib.Core.List.Memᴰ
 use mathlib.Core.List.{List, [], ◌∷◌, map, flat_map, Memᴰ}
-use mathlib.Core.Option.{some}
 use native.Mathlib.Omega.{arith}
 use lib.Dec.{leb, ltb, eqb}
 use lib.ListN.{length, get_or}
@@ -37,7 +37,7 @@ use Rattle.register_form.proofs.Assembled.{assembled_describes}
 use Rattle.register_form.proofs.Counted.{identifier_bytes, forms_counted, bytes_counted, limits_counted}
 
 -- A property that is there once has its own kind.
-kind_once : (l : List Property) (i : ℕ) (e : Property) → distinct same_property l ≡ true → i < length l → kind_among l (get_or l i e).name ≡ some (get_or l i e).kind
+kind_once : (l : List Property) (i : ℕ) (e : Property) → distinct same_property l ≡ true → i < length l → kind_among l (get_or l i e).name ≡ Some (get_or l i e).kind
 unfolding distinct kind_among
 kind_once [] i e h b = absurd (omega arith)
 kind_once (p ∷ l) zero e h b = rw (same_refl p.name)
@@ -67,13 +67,13 @@ module _ (d : Dictionary) (k : Draft d) where
   unfolding decode decode_property held_of
   held_kind {t} m e =
       let i = group_of t - 1 in
-      let none : Property = record { name = []; kind = Kind.Page } in
+      let None : Property = record { name = []; kind = Kind.Page } in
       let b = value_place d k m e in
       let size = length-map d.properties (decode_property d) in
-      let at = get_d_mapped (decode_property d) d.properties i (no_property d) none b in
-      let kind = kind_once (map (decode_property d) d.properties) i none k.properties_once (omega arith) in
-      let found : kind_among (map (decode_property d) d.properties) (name_of (text_in d (property_in d i).name)) ≡ some (property_in d i).kind =
-      ap (λ (p : Property). kind_among (map (decode_property d) d.properties) p.name) (sym at) ∙ kind ∙ ap (λ (p : Property). some p.kind) at in
+      let at = get_d_mapped (decode_property d) d.properties i (no_property d) None b in
+      let kind = kind_once (map (decode_property d) d.properties) i None k.properties_once (omega arith) in
+      let found : kind_among (map (decode_property d) d.properties) (name_of (text_in d (property_in d i).name)) ≡ Some (property_in d i).kind =
+      ap (λ (p : Property). kind_among (map (decode_property d) d.properties) p.name) (sym at) ∙ kind ∙ ap (λ (p : Property). Some p.kind) at in
       rw (found, value_from_kind d.texts (property_in d i).kind (term_code t)) (kind_refl (property_in d i).kind)
 
   -- What is tested of each page.

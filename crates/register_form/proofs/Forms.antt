@@ -1,9 +1,9 @@
 -- The form of a register: it reads back as that register, only it does, and the test of bytes tells it.
+use Rattle.std.specs.Prelude.{Option, Some, None}
 use Prim.Native.Nat.{ℕ, ◌+◌, ◌*◌, ◌≤◌, ◌<◌}
 use mathlib.Core.Path.{◌≡◌, refl, sym, ap, ◌∙◌}
 use mathlib.Core.Bool.{Bool, true, false, ◌&&◌}
 use mathlib.Core.List.{[], ◌∷◌, ◌++◌, append-nil}
-use mathlib.Core.Option.{Option, some, none}
 use native.Mathlib.Omega.{arith}
 use lib.Dec.{ltb}
 use lib.ListN.{length, get_or, take, drop, replicate, length-take, length-replicate, get_or-replicate, get_or-eq_default}
@@ -64,19 +64,19 @@ module _ (R : Register) (r : is_register R ≡ true) where
   form_is = both_true (ap is_register register_there ∙ r) (ap (λ (S : Register). same (form_of R) (form_of S)) register_there ∙ same_refl (form_of R))
 
   -- What is written reads back, whatever stands behind it.
-  pub reads_back : (z : Bytes) → held_register (form_of R ++ z) ≡ some R
+  pub reads_back : (z : Bytes) → held_register (form_of R ++ z) ≡ Some R
   unfolding held_register
   reads_back z =
-      ap (λ (k : Bytes). only_if (is_form k) (some (register_in k))) (take_at (form_of R) z register_size form_length_lem)
-      ∙ ap (λ (b : Bool). only_if b (some (register_in (form_of R)))) form_is
-      ∙ ap some register_there
+      ap (λ (k : Bytes). only_if (is_form k) (Some (register_in k))) (take_at (form_of R) z register_size form_length_lem)
+      ∙ ap (λ (b : Bool). only_if b (Some (register_in (form_of R)))) form_is
+      ∙ ap Some register_there
 
 -- Two registers with one form are one.
 pub one_form : (R S : Register) → is_register R ≡ true → is_register S ≡ true → form_of R ≡ form_of S → R ≡ S
 one_form R S r s e = sym (register_there R r) ∙ ap register_in e ∙ register_there S s
 
 -- Bytes that hold a register begin with its form.
-pub held_is : (h : Bytes) (R : Register) → held_register h ≡ some R → (is_register R ≡ true) × (take register_size h ≡ form_of R)
+pub held_is : (h : Bytes) (R : Register) → held_register h ≡ Some R → (is_register R ≡ true) × (take register_size h ≡ form_of R)
 unfolding held_register is_form
 held_is h R e =
     let k = take register_size h in
@@ -84,7 +84,7 @@ held_is h R e =
     let u = and_true (is_register (register_in k)) (same k (form_of (register_in k))) t.0 in
     (ap is_register (sym t.1) ∙ u.0, same_eq k (form_of (register_in k)) u.1 ∙ ap form_of t.1)
   where
-    passed : (b : Bool) (S : Register) → only_if b (some S) ≡ some R → (b ≡ true) × (S ≡ R)
+    passed : (b : Bool) (S : Register) → only_if b (Some S) ≡ Some R → (b ≡ true) × (S ≡ R)
     passed true S e = (refl, cc)
     passed false S e = let z : ◌≡◌ {A = ℕ} 0 1 = cc in absurd (omega arith)
 
@@ -93,12 +93,12 @@ pub first_bytes : (h z : Bytes) → register_size ≤ length h → held_register
 unfolding held_register
 first_bytes h z b = rw (take-append-le register_size h z b)
 
-nothing : {A : Type 0} (o : Option A) → ((a : A) → o ≡ some a → ⊥) → o ≡ none
-nothing none h = refl
-nothing (some a) h = absurd (h a refl)
+nothing : {A : Type 0} (o : Option A) → ((a : A) → o ≡ Some a → ⊥) → o ≡ None
+nothing None h = refl
+nothing (Some a) h = absurd (h a refl)
 
 -- Fewer bytes hold nothing.
-pub short : (h : Bytes) → length h < register_size → held_register h ≡ none
+pub short : (h : Bytes) → length h < register_size → held_register h ≡ None
 short h b =
     nothing (held_register h)
     (λ R e.
@@ -114,7 +114,7 @@ count_few R r =
     omega (arith, length_tabulate (two_at (form_of R) 0) (property_at (form_of R)), (bounded R r).properties)
 
 -- 255 everywhere is nothing.
-pub all_255 : (n : ℕ) → held_register (replicate n 255) ≡ none
+pub all_255 : (n : ℕ) → held_register (replicate n 255) ≡ None
 unfolding two_at
 all_255 n =
     let l : Bytes = replicate n 255 in

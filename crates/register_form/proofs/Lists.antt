@@ -10,8 +10,8 @@ use lib.Dec.{eqb}
 use lib.ListN.{length, get_or}
 use borrow.Author.Tests.{eqb-true, eq-eqb}
 use Rattle.text.specs.Bytes.{Bytes, order_of, any}
-use Rattle.text.specs.declared.Order.{Order}
-use Rattle.text.specs.declared.Order.TheVariants.{Less, Equal, Greater}
+use Rattle.std.specs.declared.cmp.Ordering.{Ordering}
+use Rattle.std.specs.declared.cmp.Ordering.TheVariants.{Less, Equal, Greater}
 use Rattle.sorting.specs.Ascending.{is_equal, member, ascends, sorted, rank}
 use Rattle.sorting.proofs.Canonical.{sorted_ascends, member_sorted, canonical_each}
 use Rattle.sorting.proofs.Ranks.{get_d_rank, rank_at}
@@ -63,7 +63,7 @@ unfolding member
 member_mem z [] h = absurd (false≢true h)
 member_mem z (x ∷ l) h = go (order_of z x) refl h (member_mem z l)
   where
-    go : (r : Order) → order_of z x ≡ r → (is_equal r || member order_of z l) ≡ true → (member order_of z l ≡ true → Memᴰ z l) → Memᴰ z (x ∷ l)
+    go : (r : Ordering) → order_of z x ≡ r → (is_equal r || member order_of z l) ≡ true → (member order_of z l ≡ true → Memᴰ z l) → Memᴰ z (x ∷ l)
     go Equal e k ih = Memᴰ.head (bytes_total.one z x e)
     go Less e k ih = Memᴰ.tail (ih k)
     go Greater e k ih = Memᴰ.tail (ih k)

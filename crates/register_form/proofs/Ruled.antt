@@ -1,10 +1,10 @@
 -- The test of the rules is exact: a canonical dictionary passes it where what it describes is a register.
+use Rattle.std.specs.Prelude.{Some}
 use Prim.Native.Nat.{ℕ, suc, ◌-◌, ◌≤◌, ◌<◌}
 use mathlib.Core.Path.{◌≡◌, refl, sym, ap, ◌∙◌}
 use mathlib.Core.Bool.{Bool, true, false, cond}
 use mathlib.Core.List.Memᴰ
 use mathlib.Core.List.{List, [], ◌∷◌, map, Memᴰ}
-use mathlib.Core.Option.{some}
 use native.Mathlib.Omega.{arith}
 use lib.Dec.{leb, eqb}
 use lib.ListN.{length, get_or}
@@ -30,17 +30,17 @@ use Rattle.register_form.proofs.Distinct.{properties_once_lem, pages_once_lem, f
 use Rattle.register_form.proofs.Counted.{properties_counted, pages_counted, forms_counted, bytes_counted}
 
 -- A property that has a place has the kind that stands there.
-kind_placed_lem : (l : List Property) (x : Bytes) (e : Property) → place_among l x < length l → kind_among l x ≡ some (get_or l (place_among l x) e).kind
+kind_placed_lem : (l : List Property) (x : Bytes) (e : Property) → place_among l x < length l → kind_among l x ≡ Some (get_or l (place_among l x) e).kind
 unfolding kind_among place_among
 kind_placed_lem [] x e h = absurd (omega arith)
 kind_placed_lem (p ∷ l) x e h = go (same p.name x) h (kind_placed_lem l x e)
   where
-    go : (b : Bool) → cond b 0 (suc (place_among l x)) < length (p ∷ l) → (place_among l x < length l → kind_among l x ≡ some (get_or l (place_among l x) e).kind) → cond b (some p.kind) (kind_among l x) ≡ some (get_or (p ∷ l) (cond b 0 (suc (place_among l x))) e).kind
+    go : (b : Bool) → cond b 0 (suc (place_among l x)) < length (p ∷ l) → (place_among l x < length l → kind_among l x ≡ Some (get_or l (place_among l x) e).kind) → cond b (Some p.kind) (kind_among l x) ≡ Some (get_or (p ∷ l) (cond b 0 (suc (place_among l x))) e).kind
     go true h ih = refl
     go false h ih = ih (omega arith)
 
 -- What a code tells by a kind is of that kind.
-kind_told : (l : List Bytes) (k : Kind) (n : ℕ) → has_kind (some k) (kind_of (value_from l k n)) ≡ true
+kind_told : (l : List Bytes) (k : Kind) (n : ℕ) → has_kind (Some k) (kind_of (value_from l k n)) ≡ true
 kind_told l Kind.Page n = refl
 kind_told l (Kind.Scalar k) n = kind_refl (Kind.Scalar k)
 kind_told l Kind.String n = refl
@@ -101,10 +101,10 @@ module _ (d : Dictionary) (c : Canon d) where
         let r = declared d c.terms m e in
         let name = ap (λ (p : Property). p.name) r.2 in
         let at : place_among (decode d).properties (name_of (text_in d (property_in d i).name)) ≡ i = ap (place_among (decode d).properties) (sym name) ∙ place_once (decode d).properties i undeclared once r.1 in
-        let kind : kind_among (decode d).properties (name_of (text_in d (property_in d i).name)) ≡ some (property_in d i).kind =
+        let kind : kind_among (decode d).properties (name_of (text_in d (property_in d i).name)) ≡ Some (property_in d i).kind =
         kind_placed_lem (decode d).properties (name_of (text_in d (property_in d i).name)) undeclared (rw at r.1)
-        ∙ ap (λ (n : ℕ). some (get_or (decode d).properties n undeclared).kind) at
-        ∙ ap (λ (p : Property). some p.kind) r.2 in
+        ∙ ap (λ (n : ℕ). Some (get_or (decode d).properties n undeclared).kind) at
+        ∙ ap (λ (p : Property). Some p.kind) r.2 in
         rw kind (kind_told d.texts (property_in d i).kind (term_code t))
 
     kinds_kept : kinds_hold (decode d) ≡ true

@@ -1,9 +1,9 @@
 -- The parts of what makes a register, and the bounds that they give.
+use Rattle.std.specs.Prelude.{Some}
 use Prim.Native.Nat.{suc, ◌≤◌, ◌<◌}
 use mathlib.Core.Path.{◌≡◌, refl, ◌∙◌}
 use mathlib.Core.Bool.{Bool, true, false, cond, false≢true}
 use mathlib.Core.List.{List, [], ◌∷◌, map, flat_map, Memᴰ}
-use mathlib.Core.Option.{some}
 use native.Mathlib.Omega.{arith}
 use lib.Dec.{leb}
 use lib.ListN.{length, get_or, length-append, length-map}
@@ -57,7 +57,7 @@ unfolding kind_among place_among
 place_known [] x k d h = absurd (false≢true h)
 place_known (p ∷ l) x k d h = go (same p.name x) refl h (place_known l x k d)
   where
-    go : (b : Bool) → same p.name x ≡ b → has_kind (cond b (some p.kind) (kind_among l x)) k ≡ true → (has_kind (kind_among l x) k ≡ true → (place_among l x < length l) × ((get_or l (place_among l x) d).name ≡ x) × ((get_or l (place_among l x) d).kind ≡ k)) → (cond b 0 (suc (place_among l x)) < length (p ∷ l)) × ((get_or (p ∷ l) (cond b 0 (suc (place_among l x))) d).name ≡ x) × ((get_or (p ∷ l) (cond b 0 (suc (place_among l x))) d).kind ≡ k)
+    go : (b : Bool) → same p.name x ≡ b → has_kind (cond b (Some p.kind) (kind_among l x)) k ≡ true → (has_kind (kind_among l x) k ≡ true → (place_among l x < length l) × ((get_or l (place_among l x) d).name ≡ x) × ((get_or l (place_among l x) d).kind ≡ k)) → (cond b 0 (suc (place_among l x)) < length (p ∷ l)) × ((get_or (p ∷ l) (cond b 0 (suc (place_among l x))) d).name ≡ x) × ((get_or (p ∷ l) (cond b 0 (suc (place_among l x))) d).kind ≡ k)
     go true e i ih = (omega arith, same_eq p.name x e, kind_eq p.kind k i)
     go false e i ih = let r = ih i in let n = r.0 in (omega arith, r.1, r.2)
 

@@ -5,8 +5,8 @@ use mathlib.Core.List.{List, [], ◌∷◌, map, flat_map, Memᴰ}
 use native.Mathlib.Omega.{arith}
 use lib.ListN.{length, length-append}
 use Rattle.text.specs.Bytes.{Bytes, order_of}
-use Rattle.text.specs.declared.Order.{Order}
-use Rattle.text.specs.declared.Order.TheVariants.{Less, Equal, Greater}
+use Rattle.std.specs.declared.cmp.Ordering.{Ordering}
+use Rattle.std.specs.declared.cmp.Ordering.TheVariants.{Less, Equal, Greater}
 use Rattle.language.specs.Rules.{total}
 use Rattle.language.proofs.Adding.{total_append}
 use Rattle.sorting.specs.Ascending.{placed, insert_sorted, sorted}
@@ -68,7 +68,7 @@ total_sorted f (x ∷ m) = omega (arith, inserted (sorted order_of m), total_sor
     inserted [] = omega arith
     inserted (y ∷ l) = go (order_of x y) (inserted l)
       where
-        go : (r : Order) → total f (insert_sorted order_of x l) ≤ f x + total f l → total f (placed r x y l (insert_sorted order_of x l)) ≤ f x + (f y + total f l)
+        go : (r : Ordering) → total f (insert_sorted order_of x l) ≤ f x + total f l → total f (placed r x y l (insert_sorted order_of x l)) ≤ f x + (f y + total f l)
         go Less ih = omega arith
         go Equal ih = omega arith
         go Greater ih = omega arith

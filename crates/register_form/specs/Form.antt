@@ -1,7 +1,6 @@
 -- The held register: a dictionary in 63,628 bytes. docs/LAYOUT.md has the table.
-use Rattle.std.specs.Prelude.{ℕ, suc, ◌+◌, ◌*◌, ◌-◌, Bool, cond, ◌&&◌, ltb, length, get_or, take, drop}
+use Rattle.std.specs.Prelude.{ℕ, suc, ◌+◌, ◌*◌, ◌-◌, Bool, cond, ◌&&◌, ltb, length, get_or, take, drop, Option, Some}
 use mathlib.Core.List.{List, ◌∷◌, ◌++◌, map, flat_map}
-use Rattle.std.proofs.Math.Option.{Option, some}
 use Rattle.text.specs.Bytes.{Bytes, part, same}
 use Rattle.text.specs.Table.{tabulate}
 use Rattle.values.specs.Values.{kind_code, kind_from}
@@ -120,4 +119,4 @@ is_form h = is_register (register_in h) && same h (form_of (register_in h))
 
 -- "A held input is its first bytes of that size, and a shorter one is a form of nothing": the register whose form they are.
 unfoldable pub held_register : Bytes → Option Register
-held_register h = only_if (is_form (take register_size h)) (some (register_in (take register_size h)))
+held_register h = only_if (is_form (take register_size h)) (Some (register_in (take register_size h)))

@@ -10,8 +10,8 @@ pub mod layout; // layout.rt: where the regions begin, and how many rows they ha
 
 use buffer::{eight_at, two_at};
 pub use layout::REGISTER_BYTES;
-use tables::{wide, widen};
-use text::{byte_at, part};
+use tables::get_or;
+use text::part;
 use values::{Kind, kind_from};
 
 // How many properties, pages, terms and texts there are.
@@ -43,7 +43,7 @@ pub fn text_count(h: &[u8]) -> u16
 pub fn kind_byte(h: &[u8], p: u16) -> u8
     ensures { result ≡ kind_byte h.now p }
 {
-    byte_at(h, layout::PROPERTIES + 3 * widen(p))
+    get_or(h, layout::PROPERTIES + 3 * usize::from(p), 0)
 }
 
 pub fn kind_at(h: &[u8], p: u16) -> Kind
@@ -55,65 +55,65 @@ pub fn kind_at(h: &[u8], p: u16) -> Kind
 pub fn name_number(h: &[u8], p: u16) -> u16
     ensures { result ≡ (property_at h.now p).name }
 {
-    two_at(h, layout::PROPERTY_NAMES + 3 * widen(p))
+    two_at(h, layout::PROPERTY_NAMES + 3 * usize::from(p))
 }
 
 // The number of the text that is page i's identifier; where its forms begin, and where they end.
 pub fn identifier_number(h: &[u8], i: u16) -> u16
     ensures { result ≡ (page_at h.now i).identifier }
 {
-    two_at(h, layout::PAGES + 2 * widen(i))
+    two_at(h, layout::PAGES + 2 * usize::from(i))
 }
 
 pub fn form_start(h: &[u8], i: u16) -> u16
     ensures { result ≡ form_start h.now i }
 {
-    two_at(h, layout::FORM_STARTS + 2 * widen(i))
+    two_at(h, layout::FORM_STARTS + 2 * usize::from(i))
 }
 
 pub fn form_end(h: &[u8], i: u16) -> u16
     ensures { result ≡ form_start h.now (suc i) }
 {
-    two_at(h, layout::FORM_ENDS + 2 * widen(i))
+    two_at(h, layout::FORM_ENDS + 2 * usize::from(i))
 }
 
 // The number of the term that form j is.
 pub fn form_at(h: &[u8], j: u16) -> u16
     ensures { result ≡ form_at h.now j }
 {
-    two_at(h, layout::FORMS + 2 * widen(j))
+    two_at(h, layout::FORMS + 2 * usize::from(j))
 }
 
 // The bytes of term f, its group and its code.
 pub fn term_at(h: &[u8], f: u16) -> &[u8]
     ensures { result.now ≡ term_at h.now f }
 {
-    part(h, layout::TERMS + 9 * widen(f), 9)
+    part(h, layout::TERMS + 9 * usize::from(f), 9)
 }
 
 pub fn group_at(h: &[u8], f: u16) -> u8
     ensures { result ≡ group_of (term_at h.now f) }
 {
-    byte_at(h, layout::TERMS + 9 * widen(f))
+    get_or(h, layout::TERMS + 9 * usize::from(f), 0)
 }
 
 pub fn code_at(h: &[u8], f: u16) -> u64
     ensures { result ≡ term_code (term_at h.now f) }
 {
-    eight_at(h, layout::CODES + 9 * widen(f))
+    eight_at(h, layout::CODES + 9 * usize::from(f))
 }
 
 // Where text x begins among the bytes of all texts, and where it ends.
 pub fn text_start(h: &[u8], x: u16) -> u16
     ensures { result ≡ text_start h.now x }
 {
-    two_at(h, layout::TEXT_STARTS + 2 * widen(x))
+    two_at(h, layout::TEXT_STARTS + 2 * usize::from(x))
 }
 
 pub fn text_end(h: &[u8], x: u16) -> u16
     ensures { result ≡ text_start h.now (suc x) }
 {
-    two_at(h, layout::TEXT_ENDS + 2 * widen(x))
+    two_at(h, layout::TEXT_ENDS + 2 * usize::from(x))
 }
 
 // How far b lies behind a, 0 where it does not.
@@ -130,8 +130,8 @@ pub fn text_at(h: &[u8], x: u16) -> &[u8]
     let start = text_start(h, x);
     part(
         h,
-        layout::TEXTS + widen(start),
-        widen(minus(text_end(h, x), start)),
+        layout::TEXTS + usize::from(start),
+        usize::from(minus(text_end(h, x), start)),
     )
 }
 
@@ -139,13 +139,13 @@ pub fn text_at(h: &[u8], x: u16) -> &[u8]
 pub fn space_of(t: &[u8]) -> &[u8]
     ensures { result.now ≡ space_of t.now }
 {
-    part(t, 1, widen(wide(byte_at(t, 0))))
+    part(t, 1, usize::from(u16::from(get_or(t, 0, 0))))
 }
 
 pub fn name_of(t: &[u8]) -> &[u8]
     ensures { result.now ≡ name_of t.now }
 {
-    part(t, 1 + widen(wide(byte_at(t, 0))), t.len())
+    part(t, 1 + usize::from(u16::from(get_or(t, 0, 0))), t.len())
 }
 
 pub fn space_at(h: &[u8], x: u16) -> &[u8]

@@ -9,8 +9,7 @@ ghost use Rattle.register_form_assembly.specs.Terms.{Filling};
 use dictionary::text_at;
 use register_form::{layout, minus};
 use register_form_bytes::regions::text_length;
-use tables::{code_at, get, num_at, put, widen};
-use text::byte_at;
+use tables::{get_or, put};
 use values::{Kind, kind_from, scalar_length};
 
 // The most bytes that a register may have, and what stands for more.
@@ -32,7 +31,7 @@ fn add_capped(a: u16, x: usize) -> u16
     if layout::MOST_BYTES < x {
         return UNCOUNTED;
     }
-    let sum = widen(a) + x;
+    let sum = usize::from(a) + x;
     if layout::MOST_BYTES < sum {
         UNCOUNTED
     } else {
@@ -50,17 +49,17 @@ fn low(c: u64) -> u16
 fn text_bytes(s: &[u8], starts: &[u32], lens: &[u16], i: u16) -> usize
     ensures { result ≡ text_bytes s.now starts.now lens.now i }
 {
-    widen(minus(text_length(s, starts, lens, i), 1))
+    usize::from(minus(text_length(s, starts, lens, i), 1))
 }
 
 fn link_bytes(s: &[u8], starts: &[u32], lens: &[u16], i: u16) -> usize
     ensures { result ≡ link_bytes s.now starts.now lens.now i }
 {
     let bytes = minus(text_length(s, starts, lens, i), 1);
-    if byte_at(text_at(s, starts, lens, i), 0) == 0 {
-        widen(bytes)
+    if get_or(text_at(s, starts, lens, i), 0, 0) == 0 {
+        usize::from(bytes)
     } else {
-        widen(bytes) + 1
+        usize::from(bytes) + 1
     }
 }
 
@@ -85,7 +84,7 @@ fn form_bytes(s: &[u8], starts: &[u32], lens: &[u16], kinds: &[u8], group: u8, c
         s,
         starts,
         lens,
-        kind_from(byte_at(kinds, (group - 1) as usize)),
+        kind_from(get_or(kinds, (group - 1) as usize, 0)),
         c,
     )
 }
@@ -104,7 +103,7 @@ pub fn count_texts(
     let mut sum = add_capped(before, 0);
     let mut i: u16 = 0;
     while i < n {
-        sum = add_capped(sum, text_bytes(s, starts, lens, get(items, widen(i))));
+        sum = add_capped(sum, text_bytes(s, starts, lens, get_or(items, usize::from(i), 0)));
         i += 1;
     }
     sum
@@ -123,14 +122,14 @@ fn term_bytes(
 ) -> usize
     ensures { result ≡ term_bytes_by s.now starts.now lens.now kinds.now groups.now codes.now refs.now t }
 {
-    let f = num_at(refs, widen(t));
+    let f = usize::from(get_or(refs, usize::from(t), 0));
     form_bytes(
         s,
         starts,
         lens,
         kinds,
-        byte_at(groups, f),
-        code_at(codes, f),
+        get_or(groups, f, 0),
+        get_or(codes, f, 0),
     )
 }
 
@@ -171,7 +170,7 @@ pub fn put_sizes(
     while t < n {
         put(
             sizes,
-            widen(t),
+            usize::from(t),
             size_of(s, starts, lens, kinds, groups, codes, refs, t),
         );
         t += 1;
@@ -182,20 +181,20 @@ pub fn put_sizes(
 fn has_size(sizes: &[u16], most: u16, t: u16) -> bool
     ensures { result ≡ (ltb t most && ltb t (length sizes.now)) }
 {
-    (t < most) & (widen(t) < sizes.len())
+    (t < most) & (usize::from(t) < sizes.len())
 }
 
 // Adds the sizes of the first n terms of a table, behind others.
 fn add_sizes(sizes: &[u16], most: u16, table: &[u16], n: u16, before: u16) -> Sum
     ensures { SizesAdded sizes.now most table.now n before result.bytes result.all }
 {
-    let mut sum = widen(before);
+    let mut sum = usize::from(before);
     let mut all = true;
     let mut i: u16 = 0;
     while i < n {
-        let t = get(table, widen(i));
+        let t = get_or(table, usize::from(i), 0);
         all = all & has_size(sizes, most, t);
-        sum += widen(get(sizes, widen(t)));
+        sum += usize::from(get_or(sizes, usize::from(t), 0));
         i += 1;
     }
     Sum { bytes: sum, all }
@@ -229,7 +228,7 @@ fn count_each(
                 groups,
                 codes,
                 refs,
-                get(table, widen(i)),
+                get_or(table, usize::from(i), 0),
             ),
         );
         i += 1;

@@ -3,8 +3,7 @@ ghost use Rattle.std.specs.Prelude.{◌≡◌, ◌+◌, min};
 ghost use Rattle.register_form_assembly.specs.Keeping.{of_pass, Kept, PassKept, PagesKept, Fresh, Within};
 
 use register_form::layout;
-use tables::{get, num_at, put, widen};
-use text::byte_at;
+use tables::{get_or, put};
 
 // One more, up to 2,049.
 fn bump(n: u16) -> u16
@@ -27,12 +26,12 @@ fn keep(page: u16, x: u16, wanted: bool, used: &mut [u16], table: &mut [u16], n:
     if !wanted {
         return n;
     }
-    let k = widen(x);
-    if get(used, k) == page {
+    let k = usize::from(x);
+    if get_or(used, k, 0) == page {
         return n;
     }
     put(used, k, page);
-    put(table, widen(n), x);
+    put(table, usize::from(n), x);
     bump(n)
 }
 
@@ -54,9 +53,9 @@ fn keep_pass(
     let mut count = n;
     let mut f = from;
     while f < to {
-        let x = num_at(uses, widen(f));
-        let wanted = is_wanted(first, byte_at(groups, x));
-        count = keep(page, get(numbers, x), wanted, used, table, count);
+        let x = usize::from(get_or(uses, usize::from(f), 0));
+        let wanted = is_wanted(first, get_or(groups, x, 0));
+        count = keep(page, get_or(numbers, x, 0), wanted, used, table, count);
         f += 1;
     }
     count
@@ -78,16 +77,16 @@ pub fn keep_forms(
     let mut count: u16 = 0;
     let mut page: u16 = 0;
     while page < n {
-        let from = get(firsts, widen(page));
+        let from = get_or(firsts, usize::from(page), 0);
         page += 1;
-        let to = get(firsts, widen(page));
+        let to = get_or(firsts, usize::from(page), 0);
         let some = keep_pass(
             page, true, groups, numbers, uses, from, to, &mut used, table, count,
         );
         count = keep_pass(
             page, false, groups, numbers, uses, from, to, &mut used, table, some,
         );
-        put(starts, widen(page), count);
+        put(starts, usize::from(page), count);
     }
     count
 }

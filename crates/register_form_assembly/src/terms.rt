@@ -6,15 +6,14 @@ ghost use Rattle.buffer.specs.Writing.{written};
 ghost use Rattle.register_form_assembly.specs.Terms.{code_for, code_by, terms_by, Filling};
 
 use buffer::{put_byte, put_eight};
-use tables::{code_at, get, put, put_start, widen};
-use text::byte_at;
+use tables::{get_or, put};
 use values::{Kind, kind_from};
 
 // The new number of the text that a code names.
 fn number_at(numbers: &[u16], c: u64) -> u64
     ensures { result ≡ get_or numbers.now c 0 }
 {
-    get(numbers, c as usize) as u64
+    get_or(numbers, c as usize, 0) as u64
 }
 
 fn code_for(kind: Kind, numbers: &[u16], c: u64) -> u64
@@ -34,7 +33,7 @@ fn code_by(kinds: &[u8], numbers: &[u16], group: u8, c: u64) -> u64
     if group == 0 {
         return number_at(numbers, c);
     }
-    code_for(kind_from(byte_at(kinds, (group - 1) as usize)), numbers, c)
+    code_for(kind_from(get_or(kinds, (group - 1) as usize, 0)), numbers, c)
 }
 
 // Writes term f, nine bytes.
@@ -61,13 +60,13 @@ pub fn put_terms(
 {
     let mut f: u16 = 0;
     while f < n {
-        let k = widen(f);
-        let group = byte_at(groups, k);
+        let k = usize::from(f);
+        let group = get_or(groups, k, 0);
         put_term(
             table,
             9 * k,
             group,
-            code_by(kinds, numbers, group, code_at(codes, k)),
+            code_by(kinds, numbers, group, get_or(codes, k, 0)),
         );
         f += 1;
     }
@@ -79,7 +78,7 @@ pub fn put_term_starts(t: &mut [u32], n: u16)
 {
     let mut i: u16 = 0;
     while i < n {
-        put_start(t, widen(i), 9 * (i as u32));
+        put(t, usize::from(i), 9 * (i as u32));
         i += 1;
     }
 }
@@ -90,7 +89,7 @@ pub fn put_own(t: &mut [u16], n: u16)
 {
     let mut i: u16 = 0;
     while i < n {
-        put(t, widen(i), i);
+        put(t, usize::from(i), i);
         i += 1;
     }
 }

@@ -8,7 +8,6 @@ ghost use Rattle.register_form.specs.Form.{property_bytes};
 ghost use Rattle.register_form_bytes.specs.Writing.{row_of, four_bytes};
 
 use buffer::{put_byte, put_two};
-use tables::widen;
 
 pub mod regions; // regions.rt: the rows of the regions
 
@@ -27,15 +26,15 @@ pub fn put_property(h: &mut [u8], at: usize, kind: u8, name: u16)
         return;
     }
     put_byte(h, at, kind_code(kind));
-    put_two(h, at + 1, widen(name));
+    put_two(h, at + 1, usize::from(name));
 }
 
 // Writes the four counts at the front.
 pub fn put_counts(h: &mut [u8], properties: u16, pages: u16, terms: u16, texts: u16)
     ensures { h.new ≡ written h.old 0 (four_bytes properties pages terms texts) }
 {
-    put_two(h, 0, widen(properties));
-    put_two(h, 2, widen(pages));
-    put_two(h, 4, widen(terms));
-    put_two(h, 6, widen(texts));
+    put_two(h, 0, usize::from(properties));
+    put_two(h, 2, usize::from(pages));
+    put_two(h, 4, usize::from(terms));
+    put_two(h, 6, usize::from(texts));
 }

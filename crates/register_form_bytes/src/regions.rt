@@ -11,22 +11,21 @@ ghost use Rattle.register_form_bytes.specs.Writing.{picked, first_of, rows_of};
 use crate::put_property;
 use buffer::{put_bytes, put_two};
 use dictionary::text_at;
-use tables::{get, num_at, widen};
-use text::byte_at;
+use tables::get_or;
 
 // The first n properties.
 pub fn put_properties(h: &mut [u8], at: u16, kinds: &[u8], numbers: &[u16], names: &[u16], n: u16)
     ensures { h.new ≡ written h.old at (flat_map property_bytes (rows_of kinds.now numbers.now names.now n)) }
 {
-    let base = widen(at);
+    let base = usize::from(at);
     let mut p: u16 = 0;
     while p < n {
-        let k = widen(p);
+        let k = usize::from(p);
         put_property(
             h,
             base + 3 * k,
-            byte_at(kinds, k),
-            get(numbers, num_at(names, k)),
+            get_or(kinds, k, 0),
+            get_or(numbers, usize::from(get_or(names, k, 0)), 0),
         );
         p += 1;
     }
@@ -36,11 +35,11 @@ pub fn put_properties(h: &mut [u8], at: u16, kinds: &[u8], numbers: &[u16], name
 fn put_each(h: &mut [u8], at: u16, table: &[u16], n: u16)
     ensures { h.new ≡ written h.old at (number_bytes (first_of table.now n)) }
 {
-    let base = widen(at);
+    let base = usize::from(at);
     let mut i: u16 = 0;
     while i < n {
-        let k = widen(i);
-        put_two(h, base + 2 * k, num_at(table, k));
+        let k = usize::from(i);
+        put_two(h, base + 2 * k, usize::from(get_or(table, k, 0)));
         i += 1;
     }
 }
@@ -49,8 +48,8 @@ fn put_each(h: &mut [u8], at: u16, table: &[u16], n: u16)
 pub fn put_numbers(h: &mut [u8], at: u16, table: &[u16], n: u16)
     ensures { h.new ≡ written h.old at (number_bytes (first_of table.now n)) }
 {
-    let base = widen(at);
-    let most = widen(n);
+    let base = usize::from(at);
+    let most = usize::from(n);
     if table.len() < most {
         put_each(h, at, table, n);
         return;
@@ -72,11 +71,11 @@ pub fn put_numbers(h: &mut [u8], at: u16, table: &[u16], n: u16)
 pub fn put_picked(h: &mut [u8], at: u16, table: &[u16], picks: &[u16], n: u16)
     ensures { h.new ≡ written h.old at (number_bytes (picked table.now picks.now n)) }
 {
-    let base = widen(at);
+    let base = usize::from(at);
     let mut i: u16 = 0;
     while i < n {
-        let k = widen(i);
-        put_two(h, base + 2 * k, num_at(table, num_at(picks, k)));
+        let k = usize::from(i);
+        put_two(h, base + 2 * k, usize::from(get_or(table, usize::from(get_or(picks, k, 0)), 0)));
         i += 1;
     }
 }
@@ -93,13 +92,13 @@ pub fn put_texts(
 )
     ensures { h.new ≡ written h.old at (joined (listed (text_at s.now starts.now lens.now) refs.now n)) }
 {
-    let mut to = widen(at);
+    let mut to = usize::from(at);
     let mut i: u16 = 0;
     while i < n {
         if h.len() <= to {
             return;
         }
-        let t = text_at(s, starts, lens, get(refs, widen(i)));
+        let t = text_at(s, starts, lens, get_or(refs, usize::from(i), 0));
         put_bytes(h, to, t);
         to += t.len();
         i += 1;
@@ -126,14 +125,14 @@ pub fn put_starts(
 )
     ensures { h.new ≡ written h.old at (number_bytes (starts_from 0 (listed (text_at s.now starts.now lens.now) refs.now n))) }
 {
-    let base = widen(at);
+    let base = usize::from(at);
     let mut sum: usize = 0;
     let mut i: u16 = 0;
     while i < n {
-        let k = widen(i);
+        let k = usize::from(i);
         put_two(h, base + 2 * k, sum);
-        sum += widen(text_length(s, starts, lens, get(refs, k)));
+        sum += usize::from(text_length(s, starts, lens, get_or(refs, k, 0)));
         i += 1;
     }
-    put_two(h, base + 2 * widen(i), sum);
+    put_two(h, base + 2 * usize::from(i), sum);
 }

@@ -1,9 +1,9 @@
 -- What opening the first bytes of an input tells of the register that it holds.
+use Rattle.std.specs.Prelude.{Some, None}
 use Prim.Native.Nat.{ℕ}
 use mathlib.Core.Path.{◌≡◌, sym, ap, ◌∙◌}
 use mathlib.Core.Bool.{Bool, true, false, not}
 use mathlib.Core.List.{List}
-use mathlib.Core.Option.{some, none}
 use borrow.Author.Tests.{not-true, not-false}
 use lib.ListN.{take}
 use Rattle.text.specs.Bytes.{Bytes, part}
@@ -14,11 +14,11 @@ module _ (h g : Bytes) (e : g ≡ part h 0 register_size) (before after : List �
   form_is : is_form (take register_size h) ≡ r
   form_is = ap is_form (sym e) ∙ sym o.is
 
-  pub held_none : not r ≡ true → held_register h ≡ none
+  pub held_none : not r ≡ true → held_register h ≡ None
   unfolding held_register
   held_none n = rw (form_is ∙ not-true r n)
 
-  pub held_some : not r ≡ false → held_register h ≡ some (register_in g)
+  pub held_some : not r ≡ false → held_register h ≡ Some (register_in g)
   unfolding held_register
   held_some n = rw (form_is ∙ not-false r n, ← e)
 

@@ -9,7 +9,7 @@ use lib.ListN.{length, get_or}
 use borrow.Author.Tests.{eq-eqb, ne_eqb, ltb-true}
 use Rattle.text.specs.Bytes.{Bytes, order_of, all}
 use Rattle.text.specs.Class.{is_other}
-use Rattle.text.specs.declared.Order.{Order}
+use Rattle.std.specs.declared.cmp.Ordering.{Ordering}
 use Rattle.names.specs.Names.{is_composed_name, is_composed_namespace, is_composed_property_name}
 use Rattle.values.specs.ByteRules.{name_class}
 use Rattle.values.proofs.Ruling.{class_two}
@@ -38,7 +38,7 @@ module _ (f : ℕ → Bytes) where
   climbs_at zero n = absurd (n refl)
   climbs_at (suc i) n = let m : suc i - 1 ≡ i = omega arith in rw m
 
-  pub climbs_on : (i : ℕ) (s t : Bytes) (o : Order) (r : Bool) → (i ≡ 0 → ⊥) → s ≡ f (i - 1) → t ≡ f i → o ≡ order_of s t → r ≡ is_less o → r ≡ climbs f i
+  pub climbs_on : (i : ℕ) (s t : Bytes) (o : Ordering) (r : Bool) → (i ≡ 0 → ⊥) → s ≡ f (i - 1) → t ≡ f i → o ≡ order_of s t → r ≡ is_less o → r ≡ climbs f i
   climbs_on i s t o r n e k m q = q ∙ rw (m, e, k) (climbs_at i n)
 
 module _ (t n : Bytes) (z a : ℕ) (e : n ≡ name_of t) (f : z ≡ get_or t 0 0) (g : a ≡ name_class n) where

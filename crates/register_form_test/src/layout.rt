@@ -10,7 +10,6 @@ use register_form::{
     REGISTER_BYTES, form_start, kind_byte, layout, page_count, property_count, term_count,
     text_count, text_start,
 };
-use tables::widen;
 use values::KIND_COUNT;
 
 // The layout's numbers in 16 bits.
@@ -48,11 +47,11 @@ const TEXT_STARTS: u16 = layout::TEXT_STARTS as u16;
 fn zeros_behind(h: &[u8], base: u16, size: u16, n: usize) -> bool
     ensures { result ≡ zeros_at h.now (base + n) (size - n) }
 {
-    let room = widen(size);
+    let room = usize::from(size);
     if room <= n {
         return true;
     }
-    zeros(h, widen(base) + n, room - n)
+    zeros(h, usize::from(base) + n, room - n)
 }
 
 // Whether the bytes behind properties, pages and forms are 0; behind each region.
@@ -60,10 +59,10 @@ fn are_rows_padded(h: &[u8]) -> bool
     ensures { result ≡ are_rows_padded h.now }
 {
     let pages = page_count(h);
-    zeros_behind(h, PROPERTIES, PROPERTY_BYTES, 3 * widen(property_count(h)))
-        & zeros_behind(h, PAGES, PAGE_BYTES, 2 * widen(pages))
-        & zeros_behind(h, FORM_ENDS, PAGE_BYTES, 2 * widen(pages))
-        & zeros_behind(h, FORMS, FORM_BYTES, 2 * widen(form_start(h, pages)))
+    zeros_behind(h, PROPERTIES, PROPERTY_BYTES, 3 * usize::from(property_count(h)))
+        & zeros_behind(h, PAGES, PAGE_BYTES, 2 * usize::from(pages))
+        & zeros_behind(h, FORM_ENDS, PAGE_BYTES, 2 * usize::from(pages))
+        & zeros_behind(h, FORMS, FORM_BYTES, 2 * usize::from(form_start(h, pages)))
 }
 
 fn is_padded(h: &[u8]) -> bool
@@ -71,9 +70,9 @@ fn is_padded(h: &[u8]) -> bool
 {
     let texts = text_count(h);
     are_rows_padded(h)
-        & zeros_behind(h, TERMS, TERM_BYTES, 9 * widen(term_count(h)))
-        & zeros_behind(h, TEXT_ENDS, TEXT_END_BYTES, 2 * widen(texts))
-        & zeros_behind(h, TEXTS, TEXT_BYTES, widen(text_start(h, texts)))
+        & zeros_behind(h, TERMS, TERM_BYTES, 9 * usize::from(term_count(h)))
+        & zeros_behind(h, TEXT_ENDS, TEXT_END_BYTES, 2 * usize::from(texts))
+        & zeros_behind(h, TEXTS, TEXT_BYTES, usize::from(text_start(h, texts)))
 }
 
 // Whether there are no more rows than there is room for.
@@ -110,13 +109,13 @@ fn are_kinds(h: &[u8]) -> bool
 fn start_at(h: &[u8], table: u16, i: u16) -> u16
     ensures { result ≡ start_at h.now table i }
 {
-    two_at(h, widen(table) + 2 * widen(i))
+    two_at(h, usize::from(table) + 2 * usize::from(i))
 }
 
 fn keeps_up(h: &[u8], table: u16, i: u16) -> bool
     ensures { result ≡ rise_test h.now table i }
 {
-    let at = widen(table) + 2 * widen(i);
+    let at = usize::from(table) + 2 * usize::from(i);
     two_at(h, at) <= two_at(h, at + 2)
 }
 

@@ -13,7 +13,7 @@ use register_form::layout::FORMS;
 use register_form::{
     form_end, form_start, group_at, identifier_number, minus, page_count, term_count, text_count,
 };
-use tables::{get, put, widen};
+use tables::{get_or, put};
 use text::part;
 
 // The bytes of page i's forms.
@@ -23,8 +23,8 @@ fn forms_of(h: &[u8], i: u16) -> &[u8]
     let start = form_start(h, i);
     part(
         h,
-        FORMS + 2 * widen(start),
-        2 * widen(minus(form_end(h, i), start)),
+        FORMS + 2 * usize::from(start),
+        2 * usize::from(minus(form_end(h, i), start)),
     )
 }
 
@@ -47,8 +47,8 @@ fn forms_ok(h: &[u8], shown: &[u16], last: &mut [u16], i: u16, mark: u16) -> Tal
                 bytes: 0,
             };
         }
-        let at = widen(f);
-        if get(last, at) == mark {
+        let at = usize::from(f);
+        if get_or(last, at, 0) == mark {
             return Tally {
                 ok: false,
                 bytes: 0,
@@ -62,7 +62,7 @@ fn forms_ok(h: &[u8], shown: &[u16], last: &mut [u16], i: u16, mark: u16) -> Tal
             };
         }
         put(last, at, mark);
-        bytes += widen(get(shown, at));
+        bytes += usize::from(get_or(shown, at, 0));
         behind = !category;
         j += 1;
     }
@@ -73,7 +73,7 @@ fn forms_ok(h: &[u8], shown: &[u16], last: &mut [u16], i: u16, mark: u16) -> Tal
 fn page_ok(h: &[u8], classes: &[u16], places: &[u16], x: u16) -> bool
     ensures { result ≡ page_ok h.now classes.now places.now x }
 {
-    (x < text_count(h)) & (2 <= get(classes, widen(x))) & (get(places, widen(x)) == 0)
+    (x < text_count(h)) & (2 <= get_or(classes, usize::from(x), 0)) & (get_or(places, usize::from(x), 0) == 0)
 }
 
 // Whether the pages keep the rules; marks the terms that they have, and writes the place of each.
@@ -100,8 +100,8 @@ pub fn pages_ok(
                 bytes: 0,
             };
         }
-        bytes += widen(names_length(h, x)) + forms.bytes;
-        put(places, widen(x), next);
+        bytes += usize::from(names_length(h, x)) + forms.bytes;
+        put(places, usize::from(x), next);
         i = next;
     }
     Tally { ok: true, bytes }
@@ -111,14 +111,14 @@ pub fn pages_ok(
 fn is_set(t: &[u16], i: u16) -> bool
     ensures { result ≡ is_set t.now i }
 {
-    get(t, widen(i)) != 0
+    get_or(t, usize::from(i), 0) != 0
 }
 
 // Whether some page has each term. It reads the table without a test of each place, so that a compiler takes many at a time.
 pub fn terms_used(h: &[u8], last: &[u16]) -> bool
     ensures { result ≡ all_to (term_count h.now) (is_set last.now) }
 {
-    let n = widen(term_count(h));
+    let n = usize::from(term_count(h));
     if last.len() < n {
         return false;
     }

@@ -12,7 +12,7 @@ use register_form::{
     code_at, group_at, kind_at, minus, property_count, term_at, term_count, text_count,
 };
 use sorting::is_less;
-use tables::{get, long, put, wide, widen};
+use tables::{get_or, put};
 use text::{compare, key_at};
 use values::{Kind, Scalar, in_range, scalar_length};
 
@@ -51,11 +51,11 @@ fn no_text(ok: bool, bytes: u16) -> Judged
 fn judge_text(h: &[u8], classes: &[u16], low: u16, high: u16, code: u64) -> Judged
     ensures { result ≡ judged_text h.now classes.now low high code }
 {
-    if long(text_count(h)) <= code {
+    if u64::from(text_count(h)) <= code {
         return no_text(false, 0);
     }
     let x = code as u16;
-    judge_in(h, low, high, get(classes, widen(x)), x)
+    judge_in(h, low, high, get_or(classes, usize::from(x), 0), x)
 }
 
 // How long the value of a scalar kind is that a code tells.
@@ -92,7 +92,7 @@ fn judge_group(h: &[u8], classes: &[u16], group: u16, code: u64) -> Judged
 fn judge_term(h: &[u8], classes: &[u16], f: u16) -> Judged
     ensures { result ≡ judged_term h.now classes.now f }
 {
-    judge_group(h, classes, wide(group_at(h, f)), code_at(h, f))
+    judge_group(h, classes, u16::from(group_at(h, f)), code_at(h, f))
 }
 
 // Whether the term before term f, if there is one, is less. Their first eight bytes tell, but for two that differ in the ninth alone;
@@ -104,7 +104,7 @@ fn term_climbs(h: &[u8], f: u16) -> bool
         return true;
     }
     let before = f - 1;
-    let at = TERMS + 9 * widen(before);
+    let at = TERMS + 9 * usize::from(before);
     if at + 18 <= h.len() {
         let x = key_at(h, at);
         let y = key_at(h, at + 9);
@@ -125,8 +125,8 @@ pub fn terms_ok(h: &[u8], classes: &[u16], used: &mut [u16], shown: &mut [u16]) 
     while f < n {
         let judged = judge_term(h, classes, f);
         ok = ok & (judged.ok & term_climbs(h, f));
-        put(used, widen(judged.text), 1);
-        put(shown, widen(f), judged.bytes);
+        put(used, usize::from(judged.text), 1);
+        put(shown, usize::from(f), judged.bytes);
         f += 1;
     }
     ok

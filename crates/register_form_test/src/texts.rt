@@ -15,15 +15,15 @@ use register_form::{
     text_start,
 };
 use sorting::is_less;
-use tables::{get, put, widen};
-use text::{Class, all_in, byte_at, compare_long, key_at};
+use tables::{get_or, put};
+use text::{Class, all_in, compare_long, key_at};
 use values::rules::{byte_rules, name_class};
 
 // Whether a text's namespace ends within it.
 fn is_labelled(t: &[u8]) -> bool
     ensures { result ≡ is_labelled t.now }
 {
-    text::widen(byte_at(t, 0)) < t.len()
+    text::widen(get_or(t, 0, 0)) < t.len()
 }
 
 // The least of two lengths and 8.
@@ -57,8 +57,8 @@ fn text_climbs<'a>(h: &'a [u8], t: &'a [u8], x: u16) -> bool
     let before = x - 1;
     let s = text_at(h, before);
     let n = common(s.len(), t.len());
-    let at = TEXTS + widen(text_start(h, before));
-    let to = TEXTS + widen(text_start(h, x));
+    let at = TEXTS + usize::from(text_start(h, before));
+    let to = TEXTS + usize::from(text_start(h, x));
     if (0 < n) & (at + 8 <= h.len()) & (to + 8 <= h.len()) {
         let a = key_to(h, at, n);
         let b = key_to(h, to, n);
@@ -82,7 +82,7 @@ fn class_of<'a>(t: &'a [u8], rules: &'a [u8]) -> u16
     ensures { result ≡ class_of t.now }
 {
     let class = name_class(rules, name_of(t));
-    if byte_at(t, 0) == 0 {
+    if get_or(t, 0, 0) == 0 {
         return class;
     }
     let space = space_of(t);
@@ -101,7 +101,7 @@ pub fn texts_ok(h: &[u8], classes: &mut [u16]) -> bool
     while x < n {
         let t = text_at(h, x);
         ok = ok & text_ok(h, t, x);
-        put(classes, widen(x), class_of(t, &rules));
+        put(classes, usize::from(x), class_of(t, &rules));
         x += 1;
     }
     ok
@@ -127,9 +127,9 @@ fn property_ok(h: &[u8], classes: &[u16], used: &[u16], x: u16) -> bool
     ensures { result ≡ property_ok h.now used.now x }
 {
     (x < text_count(h))
-        & (get(classes, widen(x)) == 2)
+        & (get_or(classes, usize::from(x), 0) == 2)
         & all_in(name_at(h, x), Class::NoDot)
-        & (get(used, widen(x)) == 0)
+        & (get_or(used, usize::from(x), 0) == 0)
 }
 
 // Whether the properties keep the rules; marks their names as used.
@@ -144,8 +144,8 @@ pub fn properties_ok(h: &[u8], classes: &[u16], used: &mut [u16]) -> Tally
     while p < n {
         let x = name_number(h, p);
         ok = ok & property_ok(h, classes, used, x);
-        bytes += widen(names_length(h, x));
-        put(used, widen(x), 1);
+        bytes += usize::from(names_length(h, x));
+        put(used, usize::from(x), 1);
         p += 1;
     }
     Tally { ok, bytes }

@@ -10,7 +10,7 @@ use borrow.Author.Tests.{lt-ltb, le-ltb, le-leb, eq-eqb, ne_eqb, ltb-true, ltb-f
 use lib.Dec.{ltb, leb, eqb}
 use lib.ListN.{length, get_or}
 use Rattle.text.specs.Bytes.{Bytes, order_of, same, any}
-use Rattle.text.specs.declared.Order.TheVariants.{Less, Greater}
+use Rattle.std.specs.declared.cmp.Ordering.TheVariants.{Less, Greater}
 use Rattle.text.proofs.Laws.{same_eq, same_refl}
 use Rattle.values.specs.declared.Kind.{Kind}
 use Rattle.values.specs.Values.{kind_of, same_kind}

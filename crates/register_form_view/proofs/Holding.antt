@@ -9,7 +9,7 @@ use lib.Dec.{ltb}
 use lib.ListN.{length, get_or, get_or-eq_default}
 use Rattle.text.specs.Bytes.{Bytes, same, any, numbers, order_of}
 use Rattle.text.specs.Table.{tabulate}
-use Rattle.text.specs.declared.Order.{Order}
+use Rattle.std.specs.declared.cmp.Ordering.{Ordering}
 use Rattle.text.proofs.Laws.{any_append}
 use Rattle.text.proofs.Tables.{length_tabulate, get_d_tabulate, tabulate_ext}
 use Rattle.values.specs.Values.{Value, kind_of}
@@ -139,7 +139,7 @@ module _ (h x : Bytes) (rank : Rank) (test : NameTest) (i : ℕ) (r : Bool) wher
   pub passes_namespace : (y : Bytes) → test ≡ NameTest.Namespace → y ≡ (page_in (register_in h) i).identifier.namespace → r ≡ same y x → r ≡ name_passes_at h x rank test i
   passes_namespace y e f g = rw (e, ← f) g
 
-  module _ (c : Comparator) (n : ℕ) (d : Order) (e : test ≡ NameTest.Article c) (f : n ≡ (page_at h i).identifier) (u : r ≡ stands c d) where
+  module _ (c : Comparator) (n : ℕ) (d : Ordering) (e : test ≡ NameTest.Article c) (f : n ≡ (page_at h i).identifier) (u : r ≡ stands c d) where
     pub article_ranked : n < rank.plain → d ≡ numbers (1 + 2 * n) rank.key → r ≡ name_passes_at h x rank test i
     article_ranked l g = rw (e, ← f, ← order_ranked h x rank n d l g) u
 

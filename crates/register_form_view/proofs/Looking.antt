@@ -1,9 +1,9 @@
 -- The terms of a page: what is asked of one, and of one after the other.
+use Rattle.std.specs.Prelude.{Some, None}
 use Prim.Native.Nat.{ℕ, zero, suc, ◌+◌, ◌*◌, ◌-◌, ◌/◌, ◌≤◌, ◌<◌}
 use mathlib.Core.Path.{◌≡◌, refl, sym, ap, ap₂, ◌∙◌}
 use mathlib.Core.Bool.{Bool, true, false, cond, not, ◌&&◌, ◌||◌, or-false, and-true}
 use mathlib.Core.List.{List, [], ◌∷◌}
-use mathlib.Core.Option.{some, none}
 use native.Mathlib.Omega.{arith}
 use borrow.Author.Tests.{lt-ltb, le-ltb, le-leb, lt-leb, ne_eqb}
 use lib.Dec.{leb, ltb, eqb}
@@ -11,7 +11,7 @@ use lib.ListN.{length, get_or}
 use Rattle.text.specs.Bytes.{Bytes, part, same, numbers, order_of, any}
 use Rattle.text.specs.Parts.{part_of}
 use Rattle.text.specs.Table.{tabulate}
-use Rattle.text.specs.declared.Order.{Order}
+use Rattle.std.specs.declared.cmp.Ordering.{Ordering}
 use Rattle.text.specs.declared.Span.{Span}
 use Rattle.text.proofs.Laws.{any_append}
 use Rattle.values.specs.declared.Kind.{Kind}
@@ -55,11 +55,11 @@ module _ (h : Bytes) (f : ℕ) (k : Kind) (c : Comparator) (w : Constant) (q : B
       go (Constant.String p) = refl
 
   module _ (j : Scalar) (e : k ≡ Kind.Scalar j) where
-    pub stands_scalar : (l : Scalar) (a b : ℕ) (o : Order) (s r : Bool) → w ≡ Constant.Scalar l b → s ≡ same_scalar j l → a ≡ term_code (term_at h f) → o ≡ numbers a b → r ≡ stands c o → Stands (s && r)
+    pub stands_scalar : (l : Scalar) (a b : ℕ) (o : Ordering) (s r : Bool) → w ≡ Constant.Scalar l b → s ≡ same_scalar j l → a ≡ term_code (term_at h f) → o ≡ numbers a b → r ≡ stands c o → Stands (s && r)
     unfolding Cv
     stands_scalar l a b o s r v same is g u = rw (e, v, same, u, g, is) (go (same_scalar j l))
       where
-        go : (t : Bool) → (t && stands c (numbers (term_code (term_at h f)) b)) ≡ found (cond t (some (numbers (term_code (term_at h f)) b)) none) (stands c) false
+        go : (t : Bool) → (t && stands c (numbers (term_code (term_at h f)) b)) ≡ found (cond t (Some (numbers (term_code (term_at h f)) b)) None) (stands c) false
         go true = refl
         go false = refl
 
@@ -72,7 +72,7 @@ module _ (h : Bytes) (f : ℕ) (k : Kind) (c : Comparator) (w : Constant) (q : B
     unfolding Cv
     string_scalar l b v = rw (e, v)
 
-    module _ (p : Span) (n : ℕ) (o : Order) (r : Bool) (v : w ≡ Constant.String p) (is : n ≡ text_number h f) (u : r ≡ stands c o) where
+    module _ (p : Span) (n : ℕ) (o : Ordering) (r : Bool) (v : w ≡ Constant.String p) (is : n ≡ text_number h f) (u : r ≡ stands c o) where
       stands_string : o ≡ name_order h (part_of q p) rank n → Stands r
       stands_string g = rw (e, v) (u ∙ ap (stands c) (g ∙ rw is))
 
@@ -90,7 +90,7 @@ module _ (q : Bytes) (c : SurfaceComparator) (s : Split) (n t : Bytes) (at : t �
   unfolding namespace_meant
   written_fits b r x e f lies g = rw (e, f, g, at, lies, mark_word c) (go (in_any_namespace c))
     where
-      go : (m : Bool) → (m || same n (part_of q s.namespace)) ≡ found (only_if (not m) (some (part_of q s.namespace))) (λ y. same n y) true
+      go : (m : Bool) → (m || same n (part_of q s.namespace)) ≡ found (only_if (not m) (Some (part_of q s.namespace))) (λ y. same n y) true
       go true = refl
       go false = refl
 
@@ -98,13 +98,13 @@ module _ (q : Bytes) (c : SurfaceComparator) (s : Split) (n t : Bytes) (at : t �
   unfolding namespace_meant same
   bare_fits b e f = rw (e, f, at) (go (is_equal c) n)
     where
-      go : (m : Bool) (n : Bytes) → (not m || eqb (length n) 0) ≡ found (only_if m (some [])) (λ y. same n y) true
+      go : (m : Bool) (n : Bytes) → (not m || eqb (length n) 0) ≡ found (only_if m (Some [])) (λ y. same n y) true
       go true [] = refl
       go true (a ∷ n) = ne_eqb (length (a ∷ n)) 0 (λ e. omega (arith, e))
       go false n = refl
 
 -- article_stands
-module _ (h q : Bytes) (rank : Rank) (c : SurfaceComparator) (p : Span) (n : ℕ) (o : Order) (r : Bool) (v : r ≡ stands_as c o) where
+module _ (h q : Bytes) (rank : Rank) (c : SurfaceComparator) (p : Span) (n : ℕ) (o : Ordering) (r : Bool) (v : r ≡ stands_as c o) where
   pub article_by_rank : n < rank.plain → o ≡ numbers (1 + 2 * n) rank.key → r ≡ stands_as c (name_order h (part_of q p) rank n)
   article_by_rank l g = v ∙ ap (stands_as c) (order_ranked h (part_of q p) rank n o l g)
 
@@ -182,17 +182,17 @@ any_one p n = or-false (p n)
 
 -- The loops over the bytes of a page's forms: whether one of the numbers before a place passes.
 module _ (b : Bytes) (p : ℕ → Bool) where
-  pub record Looked (at : ℕ) (some : Bool) : Type 0 where
+  pub record Looked (at : ℕ) (Some : Bool) : Type 0 where
     pub even : at ≡ 2 * (at / 2)
     pub most : at ≤ length b
-    pub is : some ≡ any p (tabulate (at / 2) (λ k. two_at b (2 * k)))
+    pub is : Some ≡ any p (tabulate (at / 2) (λ k. two_at b (2 * k)))
 
   pub looked_start : Looked 0 false
   unfolding tabulate any
   looked_start = record { even = omega arith; most = omega arith; is = refl }
 
-  module _ (at : ℕ) (some : Bool) (a : Looked at some) where
-    pub looked_more : (f : ℕ) (r : Bool) → at + 2 ≤ length b → f ≡ two_at b at → r ≡ p f → Looked (at + 2) (some || r)
+  module _ (at : ℕ) (Some : Bool) (a : Looked at Some) where
+    pub looked_more : (f : ℕ) (r : Bool) → at + 2 ≤ length b → f ≡ two_at b at → r ≡ p f → Looked (at + 2) (Some || r)
     unfolding tabulate
     looked_more f r l there is =
         let half : (at + 2) / 2 ≡ suc (at / 2) = omega arith in
@@ -206,7 +206,7 @@ module _ (b : Bytes) (p : ℕ → Bool) where
               ∙ sym (any_append p (tabulate (at / 2) (λ k. two_at b (2 * k))) (two_at b (2 * (at / 2)) ∷ [])));
         }
 
-    pub looked_end : length b < at + 2 → some ≡ any p (numbers_in b)
+    pub looked_end : length b < at + 2 → Some ≡ any p (numbers_in b)
     unfolding numbers_in
     looked_end l =
         let half : length b / 2 ≡ at / 2 = omega (arith, a.even, a.most) in

@@ -1,9 +1,9 @@
 -- The names of a held register: texts by their numbers, properties by their names, pages by their places.
+use Rattle.std.specs.Prelude.{Some, None}
 use Prim.Native.Nat.{ℕ, suc, ◌+◌, ◌≤◌, ◌<◌}
 use mathlib.Core.Path.{◌≡◌, refl, sym, ap, ◌∙◌}
 use mathlib.Core.Bool.{Bool, true, false, cond}
 use mathlib.Core.List.{List, [], ◌∷◌}
-use mathlib.Core.Option.{some, none}
 use native.Mathlib.Nat.{add-zero, zero-add}
 use native.Mathlib.Numerals.{add-one}
 use native.Mathlib.Omega.{arith}
@@ -13,7 +13,6 @@ use Rattle.text.specs.Bytes.{Bytes, part, same}
 use Rattle.text.specs.Table.{tabulate}
 use Rattle.text.proofs.Tables.{length_tabulate, get_d_tabulate}
 use Rattle.values.specs.declared.Kind.{Kind}
-use Rattle.values.specs.declared.KindRead.{KindRead}
 use Rattle.language.specs.Register.{Property, Page, kind_among, kinds_of}
 use Rattle.language.specs.RegisterText.{empty_page}
 use Rattle.language.proofs.Members.{get_d_mapped}
@@ -112,36 +111,36 @@ pub place_none : (h x : Bytes) (p n : ℕ) → n ≡ property_count h → n ≤ 
 place_none h x p n c l a = c ∙ sym (property_total h) ∙ passed_all (register_in h).properties x p a (omega (arith, property_total h))
 
 -- The kind of a property is that of its place.
-kind_there : (l : List Property) (x : Bytes) (e : Property) → place_among l x < length l → kind_among l x ≡ some (get_or l (place_among l x) e).kind
+kind_there : (l : List Property) (x : Bytes) (e : Property) → place_among l x < length l → kind_among l x ≡ Some (get_or l (place_among l x) e).kind
 unfolding place_among kind_among
 kind_there [] x e b = absurd (omega arith)
 kind_there (p ∷ l) x e b = go (same p.name x) b (kind_there l x e)
   where
-    go : (s : Bool) → cond s 0 (suc (place_among l x)) < suc (length l) → (place_among l x < length l → kind_among l x ≡ some (get_or l (place_among l x) e).kind) → cond s (some p.kind) (kind_among l x) ≡ some (get_or (p ∷ l) (cond s 0 (suc (place_among l x))) e).kind
+    go : (s : Bool) → cond s 0 (suc (place_among l x)) < suc (length l) → (place_among l x < length l → kind_among l x ≡ Some (get_or l (place_among l x) e).kind) → cond s (Some p.kind) (kind_among l x) ≡ Some (get_or (p ∷ l) (cond s 0 (suc (place_among l x))) e).kind
     go true b ih = refl
     go false b ih = ih (omega arith)
 
-kind_absent : (l : List Property) (x : Bytes) → length l ≤ place_among l x → kind_among l x ≡ none
+kind_absent : (l : List Property) (x : Bytes) → length l ≤ place_among l x → kind_among l x ≡ None
 unfolding place_among kind_among
 kind_absent [] x b = refl
 kind_absent (p ∷ l) x b = go (same p.name x) b (kind_absent l x)
   where
-    go : (s : Bool) → suc (length l) ≤ cond s 0 (suc (place_among l x)) → (length l ≤ place_among l x → kind_among l x ≡ none) → cond s (some p.kind) (kind_among l x) ≡ none
+    go : (s : Bool) → suc (length l) ≤ cond s 0 (suc (place_among l x)) → (length l ≤ place_among l x → kind_among l x ≡ None) → cond s (Some p.kind) (kind_among l x) ≡ None
     go true b ih = absurd (omega arith)
     go false b ih = ih (omega arith)
 
 -- kind_of
 module _ (h x : Bytes) (p n : ℕ) (at : p ≡ place_among (register_in h).properties x) (c : n ≡ property_count h) where
-  pub kind_is : (k : Kind) → p < n → k ≡ (property_at h p).kind → kind_of (KindRead.Kind k) ≡ kinds_of (register_in h) x
+  pub kind_is : (k : Kind) → p < n → k ≡ (property_at h p).kind → (Some k) ≡ kinds_of (register_in h) x
   unfolding decode_property
   kind_is k l e =
       let d = decode_property (dictionary_in h) (property_at h p) in
       sym (kind_there (register_in h).properties x d (omega (arith, property_total h))
-      ∙ ap (λ (j : ℕ). some (get_or (register_in h).properties j d).kind) (sym at)
-      ∙ ap (λ (q : Property). some q.kind) (property_in_lem h p d (omega arith))
-      ∙ ap some (sym e))
+      ∙ ap (λ (j : ℕ). Some (get_or (register_in h).properties j d).kind) (sym at)
+      ∙ ap (λ (q : Property). Some q.kind) (property_in_lem h p d (omega arith))
+      ∙ ap Some (sym e))
 
-  pub kind_none : n ≤ p → kind_of KindRead.Nothing ≡ kinds_of (register_in h) x
+  pub kind_none : n ≤ p → None ≡ kinds_of (register_in h) x
   kind_none l = sym (kind_absent (register_in h).properties x (omega (arith, property_total h)))
 
 -- namespace_at, article_at

@@ -11,8 +11,8 @@ use lib.Dec.{eqb}
 use lib.ListN.{length, get_or, length-append, length-map}
 use borrow.Author.Tests.{eqb-true}
 use Rattle.text.specs.Bytes.{Bytes, part, order_of, same}
-use Rattle.text.specs.declared.Order.{Order}
-use Rattle.text.specs.declared.Order.TheVariants.{Less, Equal, Greater}
+use Rattle.std.specs.declared.cmp.Ordering.{Ordering}
+use Rattle.std.specs.declared.cmp.Ordering.TheVariants.{Less, Equal, Greater}
 use Rattle.text.proofs.Laws.{same_eq}
 use Rattle.text.proofs.Tables.{length_tabulate, get_d_tabulate, tabulate_ext}
 use Rattle.values.specs.Values.{scalar, string, Value, plain, link}
@@ -66,7 +66,7 @@ total_sorted f (x ∷ l) = omega (arith, total_insert (sorted order_of l), total
     total_insert [] = omega arith
     total_insert (y ∷ m) = go (order_of x y) (total_insert m)
       where
-        go : (r : Order) → total f (insert_sorted order_of x m) ≤ f x + total f m → total f (placed r x y m (insert_sorted order_of x m)) ≤ f x + (f y + total f m)
+        go : (r : Ordering) → total f (insert_sorted order_of x m) ≤ f x + total f m → total f (placed r x y m (insert_sorted order_of x m)) ≤ f x + (f y + total f m)
         go Less ih = omega arith
         go Equal ih = omega arith
         go Greater ih = omega arith

@@ -8,8 +8,8 @@ use borrow.Author.Tests.{lt-ltb, le-ltb, ltb-true, ltb-false}
 use lib.Dec.{ltb}
 use lib.ListN.{length, get_or}
 use Rattle.text.specs.Bytes.{Bytes, part, numbers, order_of}
-use Rattle.text.specs.declared.Order.{Order}
-use Rattle.text.specs.declared.Order.TheVariants.{Less, Equal, Greater}
+use Rattle.std.specs.declared.cmp.Ordering.{Ordering}
+use Rattle.std.specs.declared.cmp.Ordering.TheVariants.{Less, Equal, Greater}
 use Rattle.text.specs.declared.Span.{Span}
 use Rattle.text.proofs.Laws.{order_eq, numbers_less, numbers_greater, numbers_equal}
 use Rattle.language.specs.Register.{Register}
@@ -36,7 +36,7 @@ use Rattle.register_form_view.specs.declared.ValueTest.{ValueTest}
 use Rattle.register_form_view.proofs.Opening.{Known, text_row, texts_are}
 use Rattle.register_form_view.proofs.Searching.{entry_in_lem}
 
-greater_is : (r : Order) → is_less r ≡ false → is_equal r ≡ false → r ≡ Greater
+greater_is : (r : Ordering) → is_less r ≡ false → is_equal r ≡ false → r ≡ Greater
 greater_is Less l e = absurd (true≢false l)
 greater_is Equal l e = absurd (true≢false e)
 greater_is Greater l e = refl
@@ -91,7 +91,7 @@ module _ (h x : Bytes) (m w n : ℕ) (f : Ranked h Index.Names x m) (long : w �
   pub key_past : n ≤ m → Keyed h x (2 * w)
   key_past l = rw long (keyed (2 * m) (omega arith) (omega arith) (λ p b. absurd (omega arith)))
 
-  module _ (l : m < n) (r : Order) (e : r ≡ order_of (entry_at h Index.Names m) (plain_text x)) (b : Bool) (g : b ≡ is_equal r) where
+  module _ (l : m < n) (r : Ordering) (e : r ≡ order_of (entry_at h Index.Names m) (plain_text x)) (b : Bool) (g : b ≡ is_equal r) where
     there : is_equal (order_of (get_or texts m []) (plain_text x)) ≡ b
     there = rw (entry_in_lem h Index.Names m (omega arith)) (sym (g ∙ ap is_equal e))
 
@@ -153,7 +153,7 @@ module _ (h q : Bytes) (test : ValueTest) (r : Rank) where
   rank_reference c s x e lies f = rw (e, ← lies) f
 
 -- By the rank, where it tells, and by the bytes
-module _ (h x : Bytes) (r : Rank) (n : ℕ) (o : Order) where
+module _ (h x : Bytes) (r : Rank) (n : ℕ) (o : Ordering) where
   pub order_ranked : n < r.plain → o ≡ numbers (1 + 2 * n) r.key → o ≡ name_order h x r n
   unfolding name_order
   order_ranked l g = rw (lt-ltb n r.plain l) g

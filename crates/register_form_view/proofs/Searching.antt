@@ -8,8 +8,8 @@ use borrow.Author.Tests.{le-ltb, lt-ltb}
 use lib.ListN.{length, get_or, drop, set, replicate, length-drop}
 use lib.Seq.{take_all}
 use Rattle.text.specs.Bytes.{Bytes, part, order_of}
-use Rattle.text.specs.declared.Order.{Order}
-use Rattle.text.specs.declared.Order.TheVariants.{Less, Greater}
+use Rattle.std.specs.declared.cmp.Ordering.{Ordering}
+use Rattle.std.specs.declared.cmp.Ordering.TheVariants.{Less, Greater}
 use Rattle.text.proofs.Laws.{order_refl, order_eq}
 use Rattle.text.proofs.Tables.{length_tabulate, get_d_tabulate}
 use Rattle.sorting.specs.Ascending.{is_less, is_equal, ascends, rank}
@@ -44,7 +44,7 @@ module _ (t x : Bytes) where
         go [] e = absurd (omega arith)
         go (a ∷ s) e = rw (← e, le-ltb b 0 (omega arith), lt-ltb 0 b l)
 
-    pub plain_name : (u : Bytes) (r : Order) → b ≤ 0 → (length t ≡ 0 → ⊥) → u ≡ part t 1 (length t) → r ≡ order_of u x → r ≡ order_of t (plain_text x)
+    pub plain_name : (u : Bytes) (r : Ordering) → b ≤ 0 → (length t ≡ 0 → ⊥) → u ≡ part t 1 (length t) → r ≡ order_of u x → r ≡ order_of t (plain_text x)
     unfolding order_of labelled
     plain_name u r l some f g = go t e some (g ∙ ap (λ (v : Bytes). order_of v x) (f ∙ take_all (length t) (drop 1 t) (omega (arith, length-drop 1 t))))
       where
@@ -54,7 +54,7 @@ module _ (t x : Bytes) where
 
 -- compare_entry, entry_count
 module _ (h : Bytes) (index : Index) where
-  module _ (m : ℕ) (key t : Bytes) (r : Order) where
+  module _ (m : ℕ) (key t : Bytes) (r : Ordering) where
     pub entry_name : index ≡ Index.Names → t ≡ text_at h m → r ≡ order_of t (plain_text key) → r ≡ order_of (entry_at h index m) (key_of index key)
     entry_name e f g = rw (e, ← f) g
 
@@ -92,7 +92,7 @@ module _ (h : Bytes) (index : Index) (key : Bytes) where
   pub between_all : (n : ℕ) → n ≡ length (entries_in h index) → Between h index key 0 n
   between_all n e = record { ordered = omega arith; most = omega arith; are = λ p. (omega arith, omega (arith, rank_most order_of bytes_total (key_of index key) (entries_in h index))) }
 
-  module _ (lo hi m : ℕ) (r : Order) (b : Bool) (w : Between h index key lo hi) (low : lo ≤ m) (k : m < hi) (c : r ≡ order_of (entry_at h index m) (key_of index key)) (g : b ≡ is_less r) where
+  module _ (lo hi m : ℕ) (r : Ordering) (b : Bool) (w : Between h index key lo hi) (low : lo ≤ m) (k : m < hi) (c : r ≡ order_of (entry_at h index m) (key_of index key)) (g : b ≡ is_less r) where
     inside : m < length (entries_in h index)
     inside = omega (arith, w.most)
 
@@ -115,7 +115,7 @@ module _ (h : Bytes) (index : Index) (key : Bytes) where
     unfolding Located Ranked
     located_past l p k = omega (arith, f p, number_small (entries_in h index) p (key_of index key) k)
 
-    module _ (l : m < n) (r : Order) (e : r ≡ order_of (entry_at h index m) (key_of index key)) (b : Bool) (g : b ≡ is_equal r) where
+    module _ (l : m < n) (r : Ordering) (e : r ≡ order_of (entry_at h index m) (key_of index key)) (b : Bool) (g : b ≡ is_equal r) where
       order_there : r ≡ order_of (get_or (entries_in h index) m []) (key_of index key)
       order_there = rw (entry_in_lem h index m (omega arith)) e
 

@@ -3,7 +3,7 @@ use Rattle.std.specs.Prelude.{ℕ, ◌+◌, ◌*◌, ◌≤◌, ◌<◌, ◌≡�
 use mathlib.Core.List.{List, [], Memᴰ}
 use Rattle.text.specs.Bytes.{Bytes, numbers, order_of, same}
 use Rattle.text.specs.Parts.{part_of}
-use Rattle.text.specs.declared.Order.{Order}
+use Rattle.std.specs.declared.cmp.Ordering.{Ordering}
 use Rattle.values.specs.Values.{kind_of}
 use Rattle.language.specs.Register.{Held, Page, Register}
 use Rattle.query_core.specs.declared.Constant.{Constant}
@@ -64,7 +64,7 @@ TestRank h q (ValueTest.Constant c w) r = ConstantRank h q w r
 TestRank h q (ValueTest.Reference c s) r = RankOf h (part_of q s.article) r
 
 -- How the name of text n stands to x: by x's rank, where it tells.
-unfoldable pub name_order : Bytes → Bytes → Rank → ℕ → Order
+unfoldable pub name_order : Bytes → Bytes → Rank → ℕ → Ordering
 name_order h x r n = cond (ltb n r.plain) (numbers (1 + 2 * n) r.key) (order_of (name_of (text_at h n)) x)
 
 -- How many terms of R are less than t: of a term, its number.

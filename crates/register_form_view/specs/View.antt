@@ -1,11 +1,9 @@
 -- Working definitions: what the functions over the terms of a page answer.
-use Rattle.std.specs.Prelude.{ℕ, zero, suc, ◌+◌, ◌*◌, ◌-◌, ◌/◌, ◌<◌, ◌≡◌, Bool, true, false, ◌&&◌, List, ltb, length, get_or}
-use Rattle.std.proofs.Math.Option.{Option, some, none}
+use Rattle.std.specs.Prelude.{ℕ, zero, suc, ◌+◌, ◌*◌, ◌-◌, ◌/◌, ◌<◌, ◌≡◌, Bool, true, false, ◌&&◌, List, ltb, length, get_or, Option, Some, None}
 use Rattle.text.specs.Bytes.{Bytes, part, same, any}
 use Rattle.text.specs.Parts.{part_of}
 use Rattle.text.specs.Table.{tabulate}
 use Rattle.values.specs.declared.Kind.{Kind}
-use Rattle.values.specs.declared.KindRead.{KindRead}
 use Rattle.values.specs.declared.Split.{Split}
 use Rattle.values.specs.Answers.{split_of}
 use Rattle.values.specs.Names.{Reference}
@@ -26,10 +24,6 @@ use Rattle.register_form_view.specs.Ranges.{name_order}
 use Rattle.register_form_view.specs.declared.NameTest.{NameTest}
 use Rattle.register_form_view.specs.declared.Rank.{Rank}
 use Rattle.register_form_view.specs.declared.ValueTest.{ValueTest}
-
-abbrev pub kind_of : KindRead → Option Kind
-kind_of (KindRead.Kind k) = some k
-kind_of KindRead.Nothing = none
 
 module _ (h : Bytes) where
   -- The number of the text that term f names.

@@ -18,8 +18,8 @@ use language::{Comparator, SurfaceComparator, in_any_namespace, is_equal};
 use pageset::mark_at;
 use query_core::Constant;
 use register_form::{code_at, minus, space_at, term_at};
-use tables::{num_at, widen};
-use text::{Span, compare_numbers, part, same_bytes};
+use tables::get_or;
+use text::{Span, part, same_bytes};
 use values::{Kind, Split, same_scalar};
 
 // The number of the text that term f names.
@@ -37,7 +37,7 @@ fn value_stands(h: &[u8], f: u16, k: Kind, c: Comparator, w: Constant, q: &[u8],
         Kind::Page => false,
         Kind::Scalar(j) => match w {
             Constant::Scalar(l, b) => same_scalar(j, l)
-                & stands_as(c, compare_numbers(code_at(h, f), b)),
+                & stands_as(c, code_at(h, f).cmp(&b)),
             Constant::String(_) => false,
         },
         Kind::String => match w {
@@ -128,7 +128,7 @@ fn leads_into(h: &[u8], places: &[u16], f: u16, k: Kind, words: &[u64]) -> bool
     ensures { result ≡ leads_into h.now places.now (marks_from words.now) k f }
 {
     match k {
-        Kind::Page => marked_at(words, num_at(places, widen(text_number(h, f)))),
+        Kind::Page => marked_at(words, usize::from(get_or(places, usize::from(text_number(h, f)), 0))),
         Kind::Scalar(_) => false,
         Kind::String => false,
     }
@@ -138,7 +138,7 @@ fn leads_into(h: &[u8], places: &[u16], f: u16, k: Kind, words: &[u64]) -> bool
 pub fn forms_between(h: &[u8], start: u16, end: u16) -> &[u8]
     ensures { result.now ≡ form_bytes h.now start end }
 {
-    part(h, 1226 + 2 * widen(start), 2 * widen(minus(end, start)))
+    part(h, 1226 + 2 * usize::from(start), 2 * usize::from(minus(end, start)))
 }
 
 // Whether term f is of a range.
@@ -157,7 +157,7 @@ pub fn terms_passing(h: &[u8], range: TermRange, test: ValueTest, q: &[u8], rank
     let mut wanted = [false; 2048];
     let mut f = range.low;
     while (f < high) & (f < 2048) {
-        let at = widen(f);
+        let at = usize::from(f);
         wanted[at] = value_passes(h, f, k, test, q, rank);
         f += 1;
     }
@@ -173,7 +173,7 @@ pub fn terms_leading(h: &[u8], places: &[u16], range: TermRange, words: &[u64]) 
     let mut wanted = [false; 2048];
     let mut f = range.low;
     while (f < high) & (f < 2048) {
-        let at = widen(f);
+        let at = usize::from(f);
         wanted[at] = leads_into(h, places, f, k, words);
         f += 1;
     }
@@ -208,7 +208,7 @@ pub fn some_marked(forms: &[u8], wanted: &[bool]) -> bool
     let mut some = false;
     let mut at: usize = 0;
     while at + 2 <= forms.len() {
-        some = some | wanted_at(wanted, widen(two_at(forms, at)));
+        some = some | wanted_at(wanted, usize::from(two_at(forms, at)));
         at += 2;
     }
     some

@@ -9,7 +9,6 @@ ghost use Rattle.register_form.specs.Dictionary.{space_of, name_of, text_in};
 ghost use Rattle.register_form.specs.Encoding.{place_among};
 ghost use Rattle.register_form.specs.Form.{dictionary_in, register_in};
 ghost use Rattle.register_form.specs.Opened.{page_in};
-ghost use Rattle.register_form_view.specs.View.{kind_of};
 
 pub mod forms; // forms.rt: what is asked of terms
 pub mod pages; // pages.rt: the pages that a selector asks for
@@ -26,8 +25,9 @@ use register_form::{
     identifier_number, kind_at, name_at, name_number, page_count, property_count, space_at,
     text_count,
 };
-use text::{Order, part, same_bytes};
-use values::{Kind, KindRead, Split};
+use std::cmp::Ordering;
+use text::{part, same_bytes};
+use values::{Kind, Split};
 
 // The two lists of a dictionary that are in ascending order; texts by a name with no namespace, or by a text.
 #[derive(Clone, Copy)]
@@ -81,39 +81,39 @@ pub enum ValueTest {
 }
 
 // Whether an order is what a comparator asks for.
-pub fn stands_as(c: Comparator, o: Order) -> bool
+pub fn stands_as(c: Comparator, o: Ordering) -> bool
     ensures { result ≡ stands c o }
 {
     match c {
         Comparator::Equal => match o {
-            Order::Less => false,
-            Order::Equal => true,
-            Order::Greater => false,
+            Ordering::Less => false,
+            Ordering::Equal => true,
+            Ordering::Greater => false,
         },
         Comparator::Unequal => match o {
-            Order::Less => true,
-            Order::Equal => false,
-            Order::Greater => true,
+            Ordering::Less => true,
+            Ordering::Equal => false,
+            Ordering::Greater => true,
         },
         Comparator::Greater => match o {
-            Order::Less => false,
-            Order::Equal => false,
-            Order::Greater => true,
+            Ordering::Less => false,
+            Ordering::Equal => false,
+            Ordering::Greater => true,
         },
         Comparator::Less => match o {
-            Order::Less => true,
-            Order::Equal => false,
-            Order::Greater => false,
+            Ordering::Less => true,
+            Ordering::Equal => false,
+            Ordering::Greater => false,
         },
     }
 }
 
 // The same of a comparator as it is typed.
-pub fn stands_as_typed(c: SurfaceComparator, o: Order) -> bool
+pub fn stands_as_typed(c: SurfaceComparator, o: Ordering) -> bool
     ensures { result ≡ stands_as c o }
 {
     match o {
-        Order::Less => match c {
+        Ordering::Less => match c {
             SurfaceComparator::Equal => false,
             SurfaceComparator::Unequal => true,
             SurfaceComparator::Greater => false,
@@ -121,7 +121,7 @@ pub fn stands_as_typed(c: SurfaceComparator, o: Order) -> bool
             SurfaceComparator::AtLeast => false,
             SurfaceComparator::AtMost => true,
         },
-        Order::Equal => match c {
+        Ordering::Equal => match c {
             SurfaceComparator::Equal => true,
             SurfaceComparator::Unequal => false,
             SurfaceComparator::Greater => false,
@@ -129,7 +129,7 @@ pub fn stands_as_typed(c: SurfaceComparator, o: Order) -> bool
             SurfaceComparator::AtLeast => true,
             SurfaceComparator::AtMost => true,
         },
-        Order::Greater => match c {
+        Ordering::Greater => match c {
             SurfaceComparator::Equal => false,
             SurfaceComparator::Unequal => true,
             SurfaceComparator::Greater => true,
@@ -175,14 +175,14 @@ pub fn property_place(h: &[u8], x: &[u8]) -> u16
 }
 
 // The kind that the property x is declared with.
-pub fn kind_of(h: &[u8], x: &[u8]) -> KindRead
-    ensures { kind_of result ≡ kinds_of (register_in h.now) x.now }
+pub fn kind_of(h: &[u8], x: &[u8]) -> Option<Kind>
+    ensures { result ≡ kinds_of (register_in h.now) x.now }
 {
     let p = property_place(h, x);
     if p < property_count(h) {
-        return KindRead::Kind(kind_at(h, p));
+        return Some(kind_at(h, p));
     }
-    KindRead::Nothing
+    None
 }
 
 // The namespace and the article name of the page in place i; past the last page there are none.

@@ -14,7 +14,6 @@ use crate::ranks::{order_by, rank_for, rank_of};
 use crate::{NameTest, Rank, TermRange, ValueTest, namespace_at, stands_as};
 use pageset::PageSet;
 use register_form::{form_end, form_start, identifier_number, minus, name_at, page_count};
-use tables::widen;
 use text::{compare, same_bytes};
 
 // The pages that have a term of a range.
@@ -28,7 +27,7 @@ fn pages_within(h: &[u8], range: TermRange) -> PageSet
     while (i < n) & (i < 256) {
         let end = form_end(h, i);
         if some_within(forms_between(h, start, end), range) {
-            set = set.with(widen(i));
+            set = set.with(usize::from(i));
         }
         start = end;
         i += 1;
@@ -47,7 +46,7 @@ fn pages_marked(h: &[u8], wanted: &[bool]) -> PageSet
     while (i < n) & (i < 256) {
         let end = form_end(h, i);
         if some_marked(forms_between(h, start, end), wanted) {
-            set = set.with(widen(i));
+            set = set.with(usize::from(i));
         }
         start = end;
         i += 1;
@@ -118,7 +117,7 @@ pub fn pages_named(h: &[u8], test: NameTest, x: &[u8]) -> PageSet
     let mut i: u16 = 0;
     while (i < n) & (i < 256) {
         if name_passes(h, i, test, x, rank) {
-            set = set.with(widen(i));
+            set = set.with(usize::from(i));
         }
         i += 1;
     }

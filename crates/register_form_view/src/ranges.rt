@@ -12,24 +12,26 @@ ghost use Rattle.register_form_view.specs.Ranges.{entries_in, entry_at, key_of, 
 use crate::{Found, Index, TermRange, property_place};
 use register_form::{kind_at, property_count, term_at, term_count, text_at, text_count};
 use sorting::{is_equal, is_less};
-use text::{Order, byte_at, compare, part};
+use std::cmp::Ordering;
+use tables::get_or;
+use text::{compare, part};
 use values::{Kind, same_kind};
 
 // How a text stands to that of a name with no namespace.
-fn compare_plain(t: &[u8], x: &[u8]) -> Order
+fn compare_plain(t: &[u8], x: &[u8]) -> Ordering
     ensures { result ≡ order_of t.now (plain_text x.now) }
 {
     if t.len() == 0 {
-        return Order::Less;
+        return Ordering::Less;
     }
-    if 0 < byte_at(t, 0) {
-        return Order::Greater;
+    if 0 < get_or(t, 0, 0) {
+        return Ordering::Greater;
     }
     compare(part(t, 1, t.len()), x)
 }
 
 // How entry m of a list stands to a key: the text of a name, a text, or a term.
-pub fn compare_entry(h: &[u8], index: Index, m: u16, key: &[u8]) -> Order
+pub fn compare_entry(h: &[u8], index: Index, m: u16, key: &[u8]) -> Ordering
     ensures { result ≡ order_of (entry_at h.now index m) (key_of index key.now) }
 {
     match index {

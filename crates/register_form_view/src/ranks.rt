@@ -11,8 +11,8 @@ use crate::{Index, Rank, ValueTest};
 use query_core::Constant;
 use register_form::name_at;
 use sorting::is_equal;
-use tables::long;
-use text::{Order, compare, compare_numbers, part};
+use std::cmp::Ordering;
+use text::{compare, part};
 
 // How many texts have no namespace: they begin with 0.
 fn plain_count(h: &[u8]) -> u16
@@ -27,7 +27,7 @@ fn name_key(h: &[u8], x: &[u8]) -> u64
     ensures { Keyed h.now x.now result }
 {
     let m = find(h, Index::Names, x);
-    let below = 2 * long(m);
+    let below = 2 * u64::from(m);
     if entry_count(h, Index::Names) <= m {
         return below;
     }
@@ -82,14 +82,14 @@ pub fn rank_for(h: &[u8], test: ValueTest, q: &[u8], uses: u16) -> Rank
 }
 
 // How the name of text n stands to that of the rank, where the rank tells.
-pub fn order_by(rank: Rank, n: u16) -> Order
+pub fn order_by(rank: Rank, n: u16) -> Ordering
     ensures { result ≡ numbers (1 + 2 * n) rank.key }
 {
-    compare_numbers(1 + 2 * long(n), rank.key)
+    (1 + 2 * u64::from(n)).cmp(&rank.key)
 }
 
 // How the name of text n stands to x.
-pub fn compare_name(h: &[u8], n: u16, x: &[u8]) -> Order
+pub fn compare_name(h: &[u8], n: u16, x: &[u8]) -> Ordering
     ensures { result ≡ order_of (name_of (text_at h.now n)) x.now }
 {
     compare(name_at(h, n), x)

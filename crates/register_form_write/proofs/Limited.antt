@@ -10,8 +10,8 @@ use lib.Dec.{eqb}
 use lib.ListN.{length, get_or, length-append, length-map}
 use borrow.Author.Tests.{eqb-true}
 use Rattle.text.specs.Bytes.{Bytes, order_of}
-use Rattle.text.specs.declared.Order.{Order}
-use Rattle.text.specs.declared.Order.TheVariants.{Less, Equal, Greater}
+use Rattle.std.specs.declared.cmp.Ordering.{Ordering}
+use Rattle.std.specs.declared.cmp.Ordering.TheVariants.{Less, Equal, Greater}
 use Rattle.values.specs.Names.{Identifier}
 use Rattle.values.specs.Values.{scalar, string, Value, plain, link}
 use Rattle.values.specs.Spelling.{spelling, spell_identifier}
@@ -59,7 +59,7 @@ total_sorted f (x ∷ m) = omega (arith, insert (sorted order_of m), total_sorte
     insert [] = omega arith
     insert (y ∷ l) = go (order_of x y) (insert l)
       where
-        go : (r : Order) → total f (insert_sorted order_of x l) ≤ f x + total f l → total f (placed r x y l (insert_sorted order_of x l)) ≤ f x + (f y + total f l)
+        go : (r : Ordering) → total f (insert_sorted order_of x l) ≤ f x + total f l → total f (placed r x y l (insert_sorted order_of x l)) ≤ f x + (f y + total f l)
         go Less ih = omega arith
         go Equal ih = omega arith
         go Greater ih = omega arith

@@ -1,8 +1,8 @@
 -- Whether kinds clash, as it is tested.
+use Rattle.std.specs.Prelude.{Option, Some, None}
 use Prim.Native.Nat.{ℕ, zero, suc, ◌+◌, ◌-◌, ◌≤◌, ◌<◌}
 use mathlib.Core.Path.{◌≡◌, refl, sym, ap, ap₂, ◌∙◌, subst}
 use mathlib.Core.Bool.{Bool, true, false, cond, not}
-use mathlib.Core.Option.{Option, some, none}
 use mathlib.Core.List.{List, [], ◌∷◌, map, map-map, Memᴰ}
 use native.Mathlib.Numerals.{add-one}
 use native.Mathlib.Omega.{arith}
@@ -77,8 +77,8 @@ module _ (h g : Bytes) (items table : List ℕ) where
 
 -- The kind that properties give a name, by the place of its item.
 abbrev kind_placed : List PropertyRow → ℕ → Option Kind
-kind_placed l zero = none
-kind_placed l (suc i) = some (get_or l i no_row).kind
+kind_placed l zero = None
+kind_placed l (suc i) = Some (get_or l i no_row).kind
 
 kind_behind : (r : PropertyRow) (l : List PropertyRow) (n : ℕ) → kind_placed l n ≡ kind_placed (r ∷ l) (next n)
 kind_behind r l zero = refl
@@ -89,7 +89,7 @@ unfolding kind_among place_in decode_property
 kind_placed_lem e item x y [] h = refl
 kind_placed_lem e item x y (r ∷ l) h = rw (h r (Memᴰ.head refl)) (go (eqb (item r.name) x) (kind_placed_lem e item x y l (λ s n. h s (Memᴰ.tail n))))
   where
-    go : (c : Bool) → kind_among (map (decode_property e) l) y ≡ kind_placed l (place_in (map (λ r. item r.name) l) x) → cond c (some r.kind) (kind_among (map (decode_property e) l) y) ≡ kind_placed (r ∷ l) (cond c 1 (next (place_in (map (λ r. item r.name) l) x)))
+    go : (c : Bool) → kind_among (map (decode_property e) l) y ≡ kind_placed l (place_in (map (λ r. item r.name) l) x) → cond c (Some r.kind) (kind_among (map (decode_property e) l) y) ≡ kind_placed (r ∷ l) (cond c 1 (next (place_in (map (λ r. item r.name) l) x)))
     go true i = refl
     go false i = i ∙ kind_behind r l (place_in (map (λ r. item r.name) l) x)
 

@@ -1,9 +1,9 @@
 -- The pages of a draft of a join are those of the join.
+use Rattle.std.specs.Prelude.{Option, Some, None}
 use Rattle.language.proofs.Rules.{RuledPage, page_rules}
 use Prim.Native.Nat.{ℕ, zero, suc, ◌+◌, ◌<◌}
 use mathlib.Core.Path.{◌≡◌, refl, sym, ap, ap₂, ◌∙◌, subst}
 use mathlib.Core.Bool.{Bool, true, false, cond, not}
-use mathlib.Core.Option.{Option, some, none}
 use mathlib.Core.List.Memᴰ
 use mathlib.Core.List.{List, [], ◌∷◌, ◌++◌, map, map-map, map-append, append-nil, Memᴰ}
 use lib.Dec.{eqb}
@@ -57,14 +57,14 @@ forms_behind r m (suc n) = refl
 
 module _ (e : Dictionary) (item : ℕ → ℕ) where
   -- The page like p and the forms in the place of its key: both are of one row, or there is none.
-  like_forms : (p : Page) (x : ℕ) (P : Option Page → List ℕ → Type 0) (m : List PageRow) → ((r : PageRow) → Memᴰ r m → same_page p (decode_page e r) ≡ eqb (key_of e item r) x) → P none [] → ((r : PageRow) → Memᴰ r m → P (some (decode_page e r)) r.forms) → P (like_in same_page p (map (decode_page e) m)) (forms_in m (place_in (map (key_of e item) m) x))
+  like_forms : (p : Page) (x : ℕ) (P : Option Page → List ℕ → Type 0) (m : List PageRow) → ((r : PageRow) → Memᴰ r m → same_page p (decode_page e r) ≡ eqb (key_of e item r) x) → P None [] → ((r : PageRow) → Memᴰ r m → P (Some (decode_page e r)) r.forms) → P (like_in same_page p (map (decode_page e) m)) (forms_in m (place_in (map (key_of e item) m) x))
   unfolding like_in place_in
   like_forms p x P [] h a b = a
   like_forms p x P (r ∷ m) h a b =
       rw (h r (Memᴰ.head refl))
       (go (eqb (key_of e item r) x) (like_forms p x P m (λ s n. h s (Memᴰ.tail n)) a (λ s n. b s (Memᴰ.tail n))))
     where
-      go : (c : Bool) → P (like_in same_page p (map (decode_page e) m)) (forms_in m (place_in (map (key_of e item) m) x)) → P (cond c (some (decode_page e r)) (like_in same_page p (map (decode_page e) m))) (forms_in (r ∷ m) (cond c 1 (next (place_in (map (key_of e item) m) x))))
+      go : (c : Bool) → P (like_in same_page p (map (decode_page e) m)) (forms_in m (place_in (map (key_of e item) m) x)) → P (cond c (Some (decode_page e r)) (like_in same_page p (map (decode_page e) m))) (forms_in (r ∷ m) (cond c 1 (next (place_in (map (key_of e item) m) x))))
       go true i = b r (Memᴰ.head refl)
       go false i = subst (P (like_in same_page p (map (decode_page e) m))) (forms_behind r m (place_in (map (key_of e item) m) x)) i
 
@@ -147,7 +147,7 @@ module _ (d e : Dictionary) (item1 item2 : ℕ → ℕ) (texts : List Bytes) (j 
         page_once (page_from D (record { identifier = key_of d item1 r; terms = own ++ moved_terms e item2 (join_names d e item1 item2) forms }))
         ≡ found o (join_page (decode_page d r)) (decode_page d r)
 
-    told_none : Told none []
+    told_none : Told None []
     unfolding Told moved_terms
     told_none =
         let k = page_kept d j.first m in
@@ -158,7 +158,7 @@ module _ (d e : Dictionary) (item1 item2 : ℕ → ℕ) (texts : List Bytes) (j 
           values = (ap (λ (l : List Bytes). once same_held (values_in D l)) (append-nil own) ∙ ap (once same_held) (values1 m) ∙ once_distinct same_held_likeness (decode_page d r).values k.values_once) i;
         }
 
-    told_some : (q : PageRow) → Memᴰ q e.pages → Told (some (decode_page e q)) q.forms
+    told_some : (q : PageRow) → Memᴰ q e.pages → Told (Some (decode_page e q)) q.forms
     unfolding Told
     told_some q n =
         let k = page_kept d j.first m in

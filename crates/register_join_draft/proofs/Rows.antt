@@ -1,9 +1,9 @@
 -- The properties of a draft of a join are those of the join, and each property of either register stands among them.
+use Rattle.std.specs.Prelude.{Some}
 use Rattle.language.proofs.Rules.{Ruled}
 use Prim.Native.Nat.{ℕ, ◌<◌}
 use mathlib.Core.Path.{◌≡◌, refl, sym, ap, ap₂, ◌∙◌, subst}
 use mathlib.Core.Bool.{Bool, true, false, cond, not}
-use mathlib.Core.Option.{some}
 use mathlib.Core.Logic.{◌⊎◌, inl, inr}
 use mathlib.Core.List.Memᴰ
 use mathlib.Core.List.{List, [], ◌∷◌, ◌++◌, map, map-map, map-append, Memᴰ}
@@ -55,7 +55,7 @@ only_there {A} alike l (x ∷ m) {b} (Memᴰ.tail n) h = go (any (alike x) l) (o
     go false k = Memᴰ.tail k
 
 -- A declared property has the kind of its row.
-kind_there : (l : List Property) → distinct same_property l ≡ true → {p : Property} → Memᴰ p l → kind_among l p.name ≡ some p.kind
+kind_there : (l : List Property) → distinct same_property l ≡ true → {p : Property} → Memᴰ p l → kind_among l p.name ≡ Some p.kind
 unfolding kind_among distinct
 kind_there [] h {p = p} x' = elim x' [ ]
 kind_there (x ∷ l) h {p} (Memᴰ.head e) = rw (e, same_refl x.name)
@@ -68,7 +68,7 @@ kinds_agree_lem : (R S : Register) → distinct same_property S.properties ≡ t
 unfolding kinds_clash
 kinds_agree_lem R S once clear {p} {q} m n e =
     let no = any_at (λ p. is_other_kind p.kind (kind_among S.properties p.name)) clear m in
-    let at : kind_among S.properties p.name ≡ some q.kind = ap (kind_among S.properties) e ∙ kind_there S.properties once n in
+    let at : kind_among S.properties p.name ≡ Some q.kind = ap (kind_among S.properties) e ∙ kind_there S.properties once n in
     kind_eq p.kind q.kind (not-false _ (ap (is_other_kind p.kind) (sym at) ∙ no))
 
 -- One dictionary's rows in a draft.

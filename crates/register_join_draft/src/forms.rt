@@ -9,7 +9,7 @@ use register_form::{
     code_at, form_at, form_end, form_start, group_at, kind_at, layout, minus, name_number,
     page_count, term_count,
 };
-use tables::{get, narrow, next, num_at, put, put_byte, put_code, wide, widen};
+use tables::{get_or, narrow, next, put};
 use values::Kind;
 
 // The property that a group above 0 is of.
@@ -32,15 +32,15 @@ fn new_group(h: &[u8], items: &[u16], table: &[u16], g: u8) -> u8
     if g == 0 {
         return 0;
     }
-    let x = num_at(items, widen(name_number(h, property_of(g))));
-    low_byte(get(table, x))
+    let x = usize::from(get_or(items, usize::from(name_number(h, property_of(g))), 0));
+    low_byte(get_or(table, x, 0))
 }
 
 // The item of a text's number that is a code.
 fn item_at(items: &[u16], c: u64) -> u64
     ensures { result ≡ get_or items.now c 0 }
 {
-    get(items, c as usize) as u64
+    get_or(items, c as usize, 0) as u64
 }
 
 // The code of a term, with the item of its text.
@@ -71,8 +71,8 @@ fn put_term(
     ensures { TermsPut groups.old codes.old n (new_term h.now items.now table.now f ∷ []) groups.new codes.new result }
 {
     let g = group_at(h, f);
-    put_byte(groups, widen(n), new_group(h, items, table, g));
-    put_code(codes, widen(n), new_code(h, items, g, code_at(h, f)));
+    put(groups, usize::from(n), new_group(h, items, table, g));
+    put(codes, usize::from(n), new_code(h, items, g, code_at(h, f)));
     next(n)
 }
 
@@ -101,7 +101,7 @@ pub fn put_terms(
 fn place_behind(base: u16, f: u16) -> u16
     ensures { result ≡ (base + f) % 65536 }
 {
-    narrow(widen(base) + widen(f))
+    narrow(usize::from(base) + usize::from(f))
 }
 
 // Puts the forms from first up to end, by the places of their terms, each where there is room; answers how many there are.
@@ -111,7 +111,7 @@ fn put_each(h: &[u8], base: u16, first: u16, end: u16, uses: &mut [u16], from: u
     let mut n = from;
     let mut j = first;
     while j < end {
-        put(uses, widen(n), place_behind(base, form_at(h, j)));
+        put(uses, usize::from(n), place_behind(base, form_at(h, j)));
         n = next(n);
         j += 1;
     }
@@ -122,7 +122,7 @@ fn put_each(h: &[u8], base: u16, first: u16, end: u16, uses: &mut [u16], from: u
 fn pair(low: u8, high: u8) -> u16
     ensures { result ≡ low + 256 * high }
 {
-    wide(low) + 256 * wide(high)
+    u16::from(low) + 256 * u16::from(high)
 }
 
 // Whether what ends at one place lies within so many, and what ends at the other within so many and below 65,536.
@@ -142,9 +142,9 @@ fn lies_within(end: usize, most: usize, last: usize, room: usize) -> bool
 fn put_forms(h: &[u8], base: u16, first: u16, end: u16, uses: &mut [u16], from: u16) -> u16
     ensures { NumbersPut uses.old from (behind base (tabulate (end - first) (λ j. form_at h.now (first + j)))) uses.new result }
 {
-    let k = widen(minus(end, first));
-    let at = layout::FORMS + 2 * widen(first);
-    let to = widen(from);
+    let k = usize::from(minus(end, first));
+    let at = layout::FORMS + 2 * usize::from(first);
+    let to = usize::from(from);
     if !lies_within(at + 2 * k, h.len(), to + k, uses.len()) {
         return put_each(h, base, first, end, uses, from);
     }

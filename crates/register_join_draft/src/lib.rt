@@ -9,7 +9,7 @@ use forms::{put_page, put_terms};
 use register_form::{
     identifier_number, kind_byte, layout, name_number, page_count, property_count,
 };
-use tables::{get, next, num_at, put, put_byte, widen};
+use tables::{get_or, next, put};
 
 mod forms; // forms.rt: the terms of a register, the forms of a page
 
@@ -25,13 +25,13 @@ pub struct Counts {
 fn enter(table: &mut [u16], list: &mut [u16], n: u16, x: u16) -> u16
     ensures { Entering table.old list.old n x table.new list.new result }
 {
-    let k = widen(x);
-    if get(table, k) != 0 {
+    let k = usize::from(x);
+    if get_or(table, k, 0) != 0 {
         return n;
     }
     let m = next(n);
     put(table, k, m);
-    put(list, widen(n), x);
+    put(list, usize::from(n), x);
     m
 }
 
@@ -50,8 +50,8 @@ fn put_properties(
     let mut n = from;
     let mut p: u16 = 0;
     while p < most {
-        put_byte(kinds, widen(n), kind_byte(h, p));
-        n = enter(table, names, n, get(items, widen(name_number(h, p))));
+        put(kinds, usize::from(n), kind_byte(h, p));
+        n = enter(table, names, n, get_or(items, usize::from(name_number(h, p)), 0));
         p += 1;
     }
     n
@@ -65,7 +65,7 @@ fn put_identifiers(h: &[u8], items: &[u16], list: &mut [u16], table: &mut [u16],
     let mut n = from;
     let mut i: u16 = 0;
     while i < most {
-        n = enter(table, list, n, get(items, widen(identifier_number(h, i))));
+        n = enter(table, list, n, get_or(items, usize::from(identifier_number(h, i)), 0));
         i += 1;
     }
     n
@@ -75,7 +75,7 @@ fn put_identifiers(h: &[u8], items: &[u16], list: &mut [u16], table: &mut [u16],
 fn clashes(h: &[u8], g: &[u8], items: &[u16], table: &[u16], p: u16) -> bool
     ensures { result ≡ clashes_at h.now g.now items.now table.now p }
 {
-    let place = get(table, num_at(items, widen(name_number(h, p))));
+    let place = get_or(table, usize::from(get_or(items, usize::from(name_number(h, p)), 0)), 0);
     if place == 0 {
         return false;
     }
@@ -123,13 +123,13 @@ fn put_pages(
     let mut n: u16 = 0;
     let mut i: u16 = 0;
     while i < m {
-        put(firsts, widen(i), n);
+        put(firsts, usize::from(i), n);
         n = put_page(h, 0, i + 1, uses, n);
-        let place = get(pages, num_at(identifiers, widen(i)));
+        let place = get_or(pages, usize::from(get_or(identifiers, usize::from(i), 0)), 0);
         n = put_page(g, base, place, uses, n);
         i += 1;
     }
-    put(firsts, widen(m), n);
+    put(firsts, usize::from(m), n);
 }
 
 // Makes the draft of the join in tables: properties by kinds and names, pages by identifiers and the places where their forms begin,

@@ -10,7 +10,7 @@ use lib.ListN.{length, get_or, set}
 use lib.Seq.{get_or-set_same}
 use Rattle.text.specs.Bytes.{Bytes, order_of}
 use Rattle.text.specs.Table.{bit}
-use Rattle.text.specs.declared.Order.TheVariants.{Less}
+use Rattle.std.specs.declared.cmp.Ordering.TheVariants.{Less}
 use Rattle.sorting.proofs.Orders.{bytes_total}
 use Rattle.register_join_merge.proofs.Stored.{put_other}
 

@@ -8,15 +8,15 @@ use lib.Dec.{leb, ltb}
 use borrow.Author.Tests.{leb-true, leb-false, ltb-true, ltb-false}
 use Rattle.text.specs.Bytes.{Bytes, order_of}
 use Rattle.text.proofs.Laws.{order_eq}
-use Rattle.text.specs.declared.Order.{Order}
-use Rattle.text.specs.declared.Order.TheVariants.{Less, Equal, Greater}
+use Rattle.std.specs.declared.cmp.Ordering.{Ordering}
+use Rattle.std.specs.declared.cmp.Ordering.TheVariants.{Less, Equal, Greater}
 use Rattle.sorting.proofs.Orders.{bytes_total}
 use Rattle.language.proofs.Members.{or_false}
 use Rattle.register_form.specs.Form.{text_count, text_at}
 use Rattle.register_join_merge.specs.Merging.{next_order, takes_first, takes_second, next_text}
 
 -- What the next text is, by which register it is taken from.
-pub record Next (h g : Bytes) (i j : ℕ) (o : Order) : Type 0 where
+pub record Next (h g : Bytes) (i j : ℕ) (o : Ordering) : Type 0 where
   pub below1 : takes_first o ≡ true → i < text_count h
   pub below2 : takes_second o ≡ true → j < text_count g
   pub is1 : takes_first o ≡ true → next_text o (text_at h i) (text_at g j) ≡ text_at h i
@@ -26,7 +26,7 @@ pub record Next (h g : Bytes) (i j : ℕ) (o : Order) : Type 0 where
   pub some : takes_first o ≡ false → takes_second o ≡ true
 
 module _ (h g : Bytes) (i j : ℕ) where
-  both : i < text_count h → j < text_count g → (o : Order) → o ≡ order_of (text_at h i) (text_at g j) → Next h g i j o
+  both : i < text_count h → j < text_count g → (o : Ordering) → o ≡ order_of (text_at h i) (text_at g j) → Next h g i j o
   both a b Less e =
       record { below1 = λ t. a; below2 = λ t. b; is1 = λ t. refl; is2 = λ t. absurd (false≢true t); less1 = λ t l. absurd (true≢false t); less2 = λ t l. sym e; some = λ t. absurd (true≢false t) }
   both a b Equal e =
@@ -42,7 +42,7 @@ module _ (h g : Bytes) (i j : ℕ) where
   only2 a b =
       record { below1 = λ t. absurd (false≢true t); below2 = λ t. b; is1 = λ t. absurd (false≢true t); is2 = λ t. refl; less1 = λ t l. absurd (omega arith); less2 = λ t l. absurd (true≢false t); some = λ t. refl }
 
-  pub next_is : (o : Order) → o ≡ next_order h g i j → (i < text_count h) ⊎ (j < text_count g) → Next h g i j o
+  pub next_is : (o : Ordering) → o ≡ next_order h g i j → (i < text_count h) ⊎ (j < text_count g) → Next h g i j o
   unfolding next_order
   next_is o e some = second (leb (text_count g) j) refl e
     where

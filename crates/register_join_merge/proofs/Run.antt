@@ -11,8 +11,8 @@ use lib.ListN.{length, get_or, set, length-set}
 use Rattle.text.specs.Bytes.{Bytes, order_of}
 use Rattle.text.specs.Table.{tabulate, bit}
 use Rattle.text.proofs.Tables.{length_tabulate, get_d_tabulate}
-use Rattle.text.specs.declared.Order.{Order}
-use Rattle.text.specs.declared.Order.TheVariants.{Less}
+use Rattle.std.specs.declared.cmp.Ordering.{Ordering}
+use Rattle.std.specs.declared.cmp.Ordering.TheVariants.{Less}
 use Rattle.language.proofs.Members.{by_test}
 use Rattle.sorting.proofs.Orders.{bytes_total}
 use Rattle.dictionary.specs.Items.{text_at as item_at}
@@ -47,7 +47,7 @@ module _ (n : ℕ) (items is : List ℕ) (i k p : ℕ) (f : Bool) (small : n < 6
   next_most = by_test f (λ e. omega (arith, below e, bit_most f, next_number)) (λ e. omega (arith, ap bit e, next_number))
 
 -- One text more.
-module _ (h g heap : Bytes) (starts lens items1 items2 : List ℕ) (i j k end : ℕ) (o : Order)
+module _ (h g heap : Bytes) (starts lens items1 items2 : List ℕ) (i j k end : ℕ) (o : Ordering)
     (u : Bytes) (ss ls is js : List ℕ) (p q l r : ℕ) (hb : text_count h < 65536) (gb : text_count g < 65536)
     (fh : Formed h) (fg : Formed g) (room : Room heap starts lens items1 items2) (st : State h g heap starts lens items1 items2 i j k end)
     (i_most : i ≤ text_count h) (j_most : j ≤ text_count g) (nx : Next h g i j o)
@@ -220,7 +220,7 @@ module _ (h g heap₀ : Bytes) (starts₀ lens₀ items1₀ items2₀ : List ℕ
     set_size false l u x v e = ap length e
 
     -- One turn.
-    module _ (o : Order) (t u : Bytes) (ss ls is js : List ℕ) (f s : Bool) (p q l r : ℕ) (hb : text_count h < 65536) (gb : text_count g < 65536)
+    module _ (o : Ordering) (t u : Bytes) (ss ls is js : List ℕ) (f s : Bool) (p q l r : ℕ) (hb : text_count h < 65536) (gb : text_count g < 65536)
         (more : (i < text_count h) ⊎ (j < text_count g)) (oe : o ≡ next_order h g i j) (te : t ≡ next_text o (text_at h i) (text_at g j))
         (added : Added heap starts lens k end t u ss ls r) (fe : f ≡ takes_first o) (noted1 : Noted items1 i k f is p) (se : s ≡ takes_second o) (noted2 : Noted items2 j k s js q) (le : l ≡ (k + 1) % 65536) where
       nx : Next h g i j o

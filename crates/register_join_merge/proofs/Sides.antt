@@ -9,8 +9,8 @@ use lib.ListN.{length, get_or}
 use Rattle.text.specs.Bytes.{Bytes, order_of}
 use Rattle.text.specs.Table.{tabulate, bit}
 use Rattle.text.proofs.Tables.{length_tabulate, get_d_tabulate}
-use Rattle.text.specs.declared.Order.{Order}
-use Rattle.text.specs.declared.Order.TheVariants.{Less, Equal, Greater}
+use Rattle.std.specs.declared.cmp.Ordering.{Ordering}
+use Rattle.std.specs.declared.cmp.Ordering.TheVariants.{Less, Equal, Greater}
 use Rattle.language.proofs.Members.{and_true, both_true}
 use Rattle.sorting.specs.Ascending.{is_less, Total, below, ascends}
 use Rattle.sorting.proofs.Canonical.{ascends_snoc}
@@ -19,12 +19,12 @@ use Rattle.register_form.proofs.Laying.{Laid, laid_facts, rises_to, text_length_
 use Rattle.register_form.proofs.Described.{canon}
 use Rattle.register_form.specs.Formed.{Formed}
 
-is_less_lem : (r : Order) → is_less r ≡ true → r ≡ Less
+is_less_lem : (r : Ordering) → is_less r ≡ true → r ≡ Less
 is_less_lem Less h = refl
 is_less_lem Equal h = absurd (false≢true h)
 is_less_lem Greater h = absurd (false≢true h)
 
-module _ {A : Type 0} (o : A → A → Order) where
+module _ {A : Type 0} (o : A → A → Ordering) where
   -- In an ascending list each is less than the next.
   ascends_step : (l : List A) (d : A) (x : ℕ) → ascends o l ≡ true → suc x < length l → o (get_or l x d) (get_or l (suc x) d) ≡ Less
   unfolding ascends below

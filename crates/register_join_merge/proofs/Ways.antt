@@ -10,8 +10,8 @@ use lib.ListN.{length, get_or, set, length-set}
 use lib.Seq.{paste, paste-zero, paste-suc}
 use borrow.Author.Tests.{le-leb, lt-leb}
 use Rattle.text.specs.Bytes.{Bytes, order_of}
-use Rattle.text.specs.declared.Order.{Order}
-use Rattle.text.specs.declared.Order.TheVariants.{Less, Equal, Greater}
+use Rattle.std.specs.declared.cmp.Ordering.{Ordering}
+use Rattle.std.specs.declared.cmp.Ordering.TheVariants.{Less, Equal, Greater}
 use Rattle.register_form.specs.Form.{text_count, text_at}
 use Rattle.register_join_merge.specs.Merging.{next_order, next_text, Pasted, Added, Noted}
 
@@ -24,17 +24,17 @@ module _ (h g : Bytes) (i j : ℕ) where
   unfolding next_order
   order_second m n e b f c = rw (lt-leb (text_count g) j (omega arith), le-leb (text_count h) i (omega arith))
 
-  pub order_both : (m n : ℕ) (a b : Bytes) (r : Order) → m ≡ text_count g → j < m → n ≡ text_count h → i < n → a ≡ text_at h i → b ≡ text_at g j → r ≡ order_of a b → r ≡ next_order h g i j
+  pub order_both : (m n : ℕ) (a b : Bytes) (r : Ordering) → m ≡ text_count g → j < m → n ≡ text_count h → i < n → a ≡ text_at h i → b ≡ text_at g j → r ≡ order_of a b → r ≡ next_order h g i j
   unfolding next_order
   order_both m n a b r e k f l s t q = q ∙ ap₂ order_of s t ∙ sym (rw (lt-leb (text_count g) j (omega arith), lt-leb (text_count h) i (omega arith)))
 
-pub text_less : (o : Order) (a b c : Bytes) → o ≡ Less → c ≡ a → c ≡ next_text o a b
+pub text_less : (o : Ordering) (a b c : Bytes) → o ≡ Less → c ≡ a → c ≡ next_text o a b
 text_less o a b c e f = rw e f
 
-pub text_equal : (o : Order) (a b c : Bytes) → o ≡ Equal → c ≡ a → c ≡ next_text o a b
+pub text_equal : (o : Ordering) (a b c : Bytes) → o ≡ Equal → c ≡ a → c ≡ next_text o a b
 text_equal o a b c e f = rw e f
 
-pub text_greater : (o : Order) (a b c : Bytes) → o ≡ Greater → c ≡ b → c ≡ next_text o a b
+pub text_greater : (o : Ordering) (a b c : Bytes) → o ≡ Greater → c ≡ b → c ≡ next_text o a b
 text_greater o a b c e f = rw e f
 
 -- Copying: where there is no room, before the first byte, after one more, and after the last.

@@ -3,29 +3,29 @@ use Rattle.std.specs.Prelude.{ℕ, ◌+◌, ◌<◌, ◌≤◌, ◌%◌, ◌≡�
 use Rattle.std.proofs.Math.Seq.{paste}
 use Rattle.text.specs.Bytes.{Bytes, order_of}
 use Rattle.text.specs.Table.{tabulate, bit}
-use Rattle.text.specs.declared.Order.{Order}
-use Rattle.text.specs.declared.Order.TheVariants.{Less, Equal, Greater}
+use Rattle.std.specs.declared.cmp.Ordering.{Ordering}
+use Rattle.std.specs.declared.cmp.Ordering.TheVariants.{Less, Equal, Greater}
 use Rattle.dictionary.specs.Items.{text_at as item_at}
 use Rattle.register_form.specs.Form.{text_count, text_at, dictionary_in}
 use Rattle.register_form.specs.Formed.{Formed}
 use Rattle.register_join_merge.specs.Merged.{Merged}
 
 -- How the next texts stand to one another; a register with no text left stands behind.
-unfoldable pub next_order : Bytes → Bytes → ℕ → ℕ → Order
+unfoldable pub next_order : Bytes → Bytes → ℕ → ℕ → Ordering
 next_order h g i j = cond (leb (text_count g) j) Less (cond (leb (text_count h) i) Greater (order_of (text_at h i) (text_at g j)))
 
 -- Whether the next text is one of the first register, of the second, and which it is.
-abbrev pub takes_first : Order → Bool
+abbrev pub takes_first : Ordering → Bool
 takes_first Less = true
 takes_first Equal = true
 takes_first Greater = false
 
-abbrev pub takes_second : Order → Bool
+abbrev pub takes_second : Ordering → Bool
 takes_second Less = false
 takes_second Equal = true
 takes_second Greater = true
 
-abbrev pub next_text : Order → Bytes → Bytes → Bytes
+abbrev pub next_text : Ordering → Bytes → Bytes → Bytes
 next_text Less a b = a
 next_text Equal a b = a
 next_text Greater a b = b

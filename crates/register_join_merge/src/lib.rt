@@ -6,50 +6,51 @@ ghost use Rattle.register_form.specs.Form.{text_at};
 ghost use Rattle.register_join_merge.specs.Merging.{next_order, takes_first, takes_second, next_text, Pasted, Added, Noted, Merger};
 
 use register_form::{text_at, text_count};
-use tables::{narrow, narrow_start, next, put, put_start, widen};
-use text::{Order, compare};
+use tables::{narrow, narrow_start, next, put};
+use std::cmp::Ordering;
+use text::compare;
 
 // How the next texts stand to one another; a register with no text left stands behind.
-fn compare_next(h: &[u8], g: &[u8], i: u16, j: u16) -> Order
+fn compare_next(h: &[u8], g: &[u8], i: u16, j: u16) -> Ordering
     ensures { result ≡ next_order h.now g.now i j }
 {
     if text_count(g) <= j {
-        return Order::Less;
+        return Ordering::Less;
     }
     if text_count(h) <= i {
-        return Order::Greater;
+        return Ordering::Greater;
     }
     compare(text_at(h, i), text_at(g, j))
 }
 
-fn takes_first(o: Order) -> bool
+fn takes_first(o: Ordering) -> bool
     ensures { result ≡ takes_first o }
 {
     match o {
-        Order::Less => true,
-        Order::Equal => true,
-        Order::Greater => false,
+        Ordering::Less => true,
+        Ordering::Equal => true,
+        Ordering::Greater => false,
     }
 }
 
-fn takes_second(o: Order) -> bool
+fn takes_second(o: Ordering) -> bool
     ensures { result ≡ takes_second o }
 {
     match o {
-        Order::Less => false,
-        Order::Equal => true, // one text for both
-        Order::Greater => true,
+        Ordering::Less => false,
+        Ordering::Equal => true, // one text for both
+        Ordering::Greater => true,
     }
 }
 
 // The text that is less.
-fn next_text<'a>(h: &'a [u8], g: &'a [u8], i: u16, j: u16, o: Order) -> &'a [u8]
+fn next_text<'a>(h: &'a [u8], g: &'a [u8], i: u16, j: u16, o: Ordering) -> &'a [u8]
     ensures { result.now ≡ next_text o (text_at h.now i) (text_at g.now j) }
 {
     match o {
-        Order::Less => text_at(h, i),
-        Order::Equal => text_at(h, i),
-        Order::Greater => text_at(g, j),
+        Ordering::Less => text_at(h, i),
+        Ordering::Equal => text_at(h, i),
+        Ordering::Greater => text_at(g, j),
     }
 }
 
@@ -82,8 +83,8 @@ fn add_text(
 ) -> usize
     ensures { Added heap.old starts.old lens.old k end t.now heap.new starts.new lens.new result }
 {
-    put_start(starts, widen(k), narrow_start(end));
-    put(lens, widen(k), narrow(t.len()));
+    put(starts, usize::from(k), narrow_start(end));
+    put(lens, usize::from(k), narrow(t.len()));
     put_text(heap, end, t)
 }
 
@@ -92,7 +93,7 @@ fn note(items: &mut [u16], i: u16, k: u16, taken: bool) -> u16
     ensures { Noted items.old i k taken items.new result }
 {
     if taken {
-        put(items, widen(i), k);
+        put(items, usize::from(i), k);
         return next(i);
     }
     i

@@ -1,9 +1,9 @@
 -- How large a draft is.
+use Rattle.std.specs.Prelude.{Some}
 use Prim.Native.Nat.{ℕ, suc, ◌+◌, ◌≤◌}
 use mathlib.Core.Path.{◌≡◌, refl, ap, ◌∙◌, subst}
 use mathlib.Core.Bool.{Bool, true, false, cond, ◌||◌}
 use mathlib.Core.List.{List, [], ◌∷◌, ◌++◌, flat_map, append-nil}
-use mathlib.Core.Option.{some}
 use native.Mathlib.Omega.{arith}
 use lib.Dec.{ltb, eqb}
 use lib.ListN.{length, length-append}
@@ -82,7 +82,7 @@ short_none : (w : ℕ) → Short w []
 unfolding flat_map
 short_none w = record { count = omega arith; bytes = omega arith }
 
-value_short : (k : Kind) (s : Bytes) (v : Value) → read_value k s ≡ some v → Short (length s + 4) (value_texts v)
+value_short : (k : Kind) (s : Bytes) (v : Value) → read_value k s ≡ Some v → Short (length s + 4) (value_texts v)
 unfolding value_texts
 value_short k s v h =
     of_read (λ v. Short (length s + 4) (value_texts v)) s
@@ -168,8 +168,8 @@ passed_fits s k a b t ps =
     let j = or_false (ltb 64 (length (properties l))) (ltb 256 (count_of is_page l)) i.0 in
     let v : total weight k ≤ length s = subst (OnSome (λ l. total weight l ≤ length s)) t.read (entries_weigh line s) in
     let w : total weight l ≤ total weight k = rw t.composed at (weigh_composed k) in
-    let none : Sized no_draft 0 0 0 0 = record { properties = omega arith; pages = omega arith; terms = omega arith; texts = omega arith; bytes = omega arith } in
-    sized_more (sized_from ps a no_draft none)
+    let None : Sized no_draft 0 0 0 0 = record { properties = omega arith; pages = omega arith; terms = omega arith; texts = omega arith; bytes = omega arith } in
+    sized_more (sized_from ps a no_draft None)
     (omega (arith, ltb-false 64 (length (properties l)) j.0, properties_total l, total_append (counts is_prop) a b))
     (omega (arith, ltb-false 256 (count_of is_page l) j.1, count_total is_page l, total_append (counts is_page) a b))
     (omega (arith, ltb-false 2048 (count_of is_inner l) i.1, count_total is_inner l, total_append (counts is_inner) a b))

@@ -1,9 +1,9 @@
 -- The entries of an accepted text: inner forms stand inside pages, and each val's value is one of its property's kind.
+use Rattle.std.specs.Prelude.{Option, Some, None}
 use Prim.Native.Nat.{ℕ, zero, suc, ◌≤◌}
 use mathlib.Core.Path.{◌≡◌, refl, sym, ap, ◌∙◌, subst}
 use mathlib.Core.Bool.{Bool, true, false, ◌&&◌, ◌||◌, true≢false}
 use mathlib.Core.List.{List, [], ◌∷◌, Memᴰ}
-use mathlib.Core.Option.{Option, some, none}
 use native.Mathlib.Omega.{arith}
 use lib.Dec.{eqb}
 use lib.ListN.{length}
@@ -40,8 +40,8 @@ Leads p r = (l : List Entry) → Placed r.place l → Placed p (r.entry ∷ l)
 -- Whatever is read first.
 module _ (p : Place) where
   after_any : {A : Type 0} (o : Option A) (f : A → Option Read) → ((a : A) → OnSome (Leads p) (f a)) → OnSome (Leads p) (o >>= f)
-  after_any none f h = tt
-  after_any (some a) f h = h a
+  after_any None f h = tt
+  after_any (Some a) f h = h a
 
   after_word_lem : (w s : Bytes) (f : Bytes → Option Read) → ((r : Bytes) → OnSome (Leads p) (f r)) → OnSome (Leads p) (after w s >>= f)
   after_word_lem w s f h = after_any (after w s) f h
@@ -88,10 +88,10 @@ leads_close s = after_word_lem inner (bytes ")\n") s _ λ r₁. λ l m. a_close 
 
 leads : (p : Place) (s : Bytes) → OnSome (Leads p) (next_entry p s)
 unfolding next_entry
-leads line s = on_found (Leads line) (Leads line) (prop_form s) some (page_form s) (leads_prop s) (λ r h. h) (leads_page s)
+leads line s = on_found (Leads line) (Leads line) (prop_form s) Some (page_form s) (leads_prop s) (λ r h. h) (leads_page s)
 leads inner s =
-    on_found (Leads inner) (Leads inner) (cat_form s) some _ (leads_cat s) (λ r h. h)
-    (on_found (Leads inner) (Leads inner) (val_form s) some (closing s) (leads_val s) (λ r h. h) (leads_close s))
+    on_found (Leads inner) (Leads inner) (cat_form s) Some _ (leads_cat s) (λ r h. h)
+    (on_found (Leads inner) (Leads inner) (val_form s) Some (closing s) (leads_val s) (λ r h. h) (leads_close s))
 
 placed_within : (n : ℕ) (p : Place) (s : Bytes) → OnSome (Placed p) (entries_within n p s)
 unfolding entries_within
@@ -106,7 +106,7 @@ placed_within (suc n) inner s =
     on_bind (Leads inner) (Placed inner) (next_entry inner s) _ (leads inner s)
     (λ e h. on_bind (Placed e.place) (Placed inner) (entries_within n e.place e.rest) _ (placed_within n e.place e.rest) (λ l m. h l m))
 
-placed : (s : Bytes) (l : List Entry) → entries s ≡ some l → Placed line l
+placed : (s : Bytes) (l : List Entry) → entries s ≡ Some l → Placed line l
 unfolding entries_from
 placed s l e = subst (OnSome (Placed line)) e (placed_within (length s) line s)
 
@@ -126,13 +126,13 @@ valued : (ps : List Property) (x v : Bytes) → is_value v ≡ true → found (v
 unfolding value_of
 valued ps x v h f = go (kind_among ps x) refl f
   where
-    read : (k : Kind) → kind_among ps x ≡ some k → (o : Option Value) → read_value k v ≡ o → found o (λ w. false) true ≡ false → Valued ps x v
-    read k e none q f = absurd (true≢false f)
-    read k e (some w) q f = record { value = w; read = rw e q; kind = e ∙ ap some (sym (read_kind k v w q)); storable = read_storable k v w h q }
+    read : (k : Kind) → kind_among ps x ≡ Some k → (o : Option Value) → read_value k v ≡ o → found o (λ w. false) true ≡ false → Valued ps x v
+    read k e None q f = absurd (true≢false f)
+    read k e (Some w) q f = record { value = w; read = rw e q; kind = e ∙ ap Some (sym (read_kind k v w q)); storable = read_storable k v w h q }
 
     go : (o : Option Kind) → kind_among ps x ≡ o → found (o >>= λ k. read_value k v) (λ w. false) true ≡ false → Valued ps x v
-    go none e f = absurd (true≢false f)
-    go (some k) e f = read k e (read_value k v) refl f
+    go None e f = absurd (true≢false f)
+    go (Some k) e f = read k e (read_value k v) refl f
 
 pub namespace_short : (n : Bytes) → is_composed_namespace n ≡ true → length n ≤ 64
 unfolding is_composed_namespace

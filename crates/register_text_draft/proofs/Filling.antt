@@ -1,9 +1,9 @@
 -- One text, property, page or form more in the tables.
+use Rattle.std.specs.Prelude.{Option, Some, None}
 use Prim.Native.Nat.{ℕ, suc, ◌+◌, ◌%◌, ◌≤◌, ◌<◌}
 use mathlib.Core.Path.{◌≡◌, refl, sym, ap, ap₂, ◌∙◌, subst}
 use mathlib.Core.Bool.{true, false}
 use mathlib.Core.List.{List, [], ◌∷◌, ◌++◌, append_assoc, append-nil}
-use mathlib.Core.Option.{Option, some, none}
 use native.Mathlib.Nat.{mod-eq_of_lt}
 use native.Mathlib.Numerals.{add-one}
 use native.Mathlib.Omega.{arith}
@@ -175,14 +175,14 @@ module _ (heap starts lens : List ℕ) (m at : ℕ) (h s n : List ℕ) (r : Ends
     pub link_bare : i.qualified ≡ false → (space : Bytes) → space ≡ [] → Named space name → Spaced (link (link_of v)) → Pushes (identifier_text (link_of v) ∷ [])
     link_bare e space es = by_split space (ap (λ (r : Reference). identifier (composed_reference r)) (sym p.is) ∙ rw (e, es, en, composed_empty))
 
-  module _ (k : Kind) (v : Bytes) (w : Value) (e : read_value k v ≡ some w) (short : Spaced w) where
+  module _ (k : Kind) (v : Bytes) (w : Value) (e : read_value k v ≡ Some w) (short : Spaced w) where
     pub value_page : k ≡ Kind.Page → (Spaced (link (link_of v)) → Pushes (identifier_text (link_of v) ∷ [])) → Pushes (value_texts w)
     unfolding value_texts
     value_page q f = go (read_link v) refl (rw q at e)
       where
-        go : (o : Option Identifier) → read_link v ≡ o → map_option link o ≡ some w → Pushes (value_texts w)
-        go none g h = absurd (let z : ◌≡◌ {A = ℕ} 0 1 = cc in omega arith)
-        go (some j) g h =
+        go : (o : Option Identifier) → read_link v ≡ o → map_option link o ≡ Some w → Pushes (value_texts w)
+        go None g h = absurd (let z : ◌≡◌ {A = ℕ} 0 1 = cc in omega arith)
+        go (Some j) g h =
             let is : link j ≡ w = cc in
             let same : link_of v ≡ j = (link_read v j g).1 in
             subst (λ (u : Value). Pushes (value_texts u)) is (subst (λ (i : Identifier). Pushes (identifier_text i ∷ [])) same (f (subst (λ (i : Identifier). Spaced (link i)) (sym same) (subst Spaced (sym is) short))))
@@ -190,16 +190,16 @@ module _ (heap starts lens : List ℕ) (m at : ℕ) (h s n : List ℕ) (r : Ends
     pub value_string : k ≡ Kind.String → (space : Bytes) → space ≡ [] → (length space ≤ 64 → Pushes (labelled space v ∷ [])) → Pushes (value_texts w)
     unfolding value_texts
     value_string q space es f =
-        let g : read_value Kind.String v ≡ some w = rw q at e in
+        let g : read_value Kind.String v ≡ Some w = rw q at e in
         let is : plain (string v) ≡ w = cc in
         subst (λ (u : Value). Pushes (value_texts u)) is (subst (λ (z : Bytes). Pushes (labelled z v ∷ [])) es (f (omega (arith, ap length es))))
 
 -- A value without a text.
-no_texts : {A : Type 0} (f : A → Constant) (o : Option A) (w : Value) → ((a : A) → value_texts (plain (f a)) ≡ []) → map_option plain (map_option f o) ≡ some w → value_texts w ≡ []
-no_texts f none w n h = absurd (let z : ◌≡◌ {A = ℕ} 0 1 = cc in omega arith)
-no_texts f (some a) w n h = let is : plain (f a) ≡ w = cc in ap value_texts (sym is) ∙ n a
+no_texts : {A : Type 0} (f : A → Constant) (o : Option A) (w : Value) → ((a : A) → value_texts (plain (f a)) ≡ []) → map_option plain (map_option f o) ≡ Some w → value_texts w ≡ []
+no_texts f None w n h = absurd (let z : ◌≡◌ {A = ℕ} 0 1 = cc in omega arith)
+no_texts f (Some a) w n h = let is : plain (f a) ≡ w = cc in ap value_texts (sym is) ∙ n a
 
-module _ (heap starts lens : List ℕ) (m at : ℕ) (k : Kind) (v : Bytes) (w : Value) (e : read_value k v ≡ some w) where
+module _ (heap starts lens : List ℕ) (m at : ℕ) (k : Kind) (v : Bytes) (w : Value) (e : read_value k v ≡ Some w) where
   none_pushed : value_texts w ≡ [] → Pushed heap starts lens m at (value_texts w) heap starts lens (record { texts = m; bytes = at })
   none_pushed n = record { texts = λ l t few fit. rw (n, append-nil l) t }
 

@@ -1,8 +1,8 @@
 -- What an entry adds leaves in place what was there.
+use Rattle.std.specs.Prelude.{Option, Some, None}
 use Prim.Native.Nat.{ℕ, suc, ◌≤◌, ◌<◌}
 use mathlib.Core.Path.{◌≡◌, refl, ◌∙◌}
 use mathlib.Core.List.{List, [], ◌∷◌, ◌++◌, Memᴰ}
-use mathlib.Core.Option.{Option, some, none}
 use native.Mathlib.Nat.{le_refl}
 use native.Mathlib.Omega.{arith}
 use lib.ListN.{length, get_or, length-append, get_or-append}
@@ -58,8 +58,8 @@ module _ (ps : List Property) where
   grows_added d (val x v) = go (value_of ps x v)
     where
       go : (o : Option Value) → Grows d (found o (λ w. with_value (suc (place_among ps x)) w d) d)
-      go none = grows_self d
-      go (some w) = record { texts = front_append d.texts _; terms = front_append d.terms _ }
+      go None = grows_self d
+      go (Some w) = record { texts = front_append d.texts _; terms = front_append d.terms _ }
   grows_added d close = grows_self d
 
   pub grows_from : (d : Dictionary) (l : List Entry) → Grows d (draft_from ps d l)

@@ -1,9 +1,9 @@
 -- What the tables hold after an entry.
+use Rattle.std.specs.Prelude.{Option, Some}
 use Prim.Native.Nat.{ℕ, suc, ◌+◌, ◌%◌, ◌≤◌, ◌<◌}
 use mathlib.Core.Path.{◌≡◌, sym, ap, ◌∙◌, subst}
 use mathlib.Core.Bool.{true, ◌&&◌}
 use mathlib.Core.List.{List, [], ◌∷◌, ◌++◌}
-use mathlib.Core.Option.{Option, some}
 use native.Mathlib.Nat.{mod-eq_of_lt}
 use native.Mathlib.Omega.{arith}
 use lib.ListN.{length, length-append}
@@ -126,7 +126,7 @@ spaced (link i) h =
 module _ (s : Bytes) (t props : List ℕ) (np : ℕ) (x v : Bytes) (ps : List Property) (i : Lists s t props np ps) (q : Valued ps x v) (r : PropertyFound) (er : r ≡ property_found (found_in s t props np x)) where
   -- the property is found
   found_at : r ≡ PropertyFound.At (kind_of q.value) (place_among ps x % 65536)
-  found_at = er ∙ ap property_found (i.found x ∙ ap (λ (o : Option Kind). o >>= λ k. some (k, place_among ps x)) q.kind)
+  found_at = er ∙ ap property_found (i.found x ∙ ap (λ (o : Option Kind). o >>= λ k. Some (k, place_among ps x)) q.kind)
 
   pub val_lost : {A : Type 0} → r ≡ PropertyFound.Nothing → A
   val_lost e = absurd (let z : ◌≡◌ {A = ℕ} 0 1 = (let f = found_at in cc) in omega arith)
@@ -140,18 +140,18 @@ module _ (s : Bytes) (t props : List ℕ) (np : ℕ) (x v : Bytes) (ps : List Pr
 
     group_is : g ≡ suc (place_among ps x)
     group_is =
-        let none : Property = record { name = []; kind = Kind.Page } in
-        let b = (stands ps x (kind_of q.value) none q.kind).below in
+        let None : Property = record { name = []; kind = Kind.Page } in
+        let b = (stands ps x (kind_of q.value) None q.kind).below in
         let few = i.few in
         let a : p' ≡ place_among ps x = ep ∙ sym place_is ∙ mod-eq_of_lt (omega arith) in
         let z : p' + 1 ≡ suc (place_among ps x) = omega arith in
         eg ∙ ap (λ (n : ℕ). n % 256) z ∙ mod-eq_of_lt (omega arith)
 
-    reads : read_value k v ≡ some q.value
+    reads : read_value k v ≡ Some q.value
     unfolding value_of
-    reads = let f : (kind_among ps x >>= λ k. read_value k v) ≡ some q.value = q.read in let g : read_value (kind_of q.value) v ≡ some q.value = rw q.kind at f in rw kind_is at g
+    reads = let f : (kind_among ps x >>= λ k. read_value k v) ≡ Some q.value = q.read in let g : read_value (kind_of q.value) v ≡ Some q.value = rw q.kind at f in rw kind_is at g
 
-    pub val_added : (H K : Counts → Dictionary → Type 0) (c d : Counts) → ((w : Value) → read_value k v ≡ some w → Spaced w → Extends H K c d (with_value g w)) → Extends H K c d (λ b. added ps b (val x v))
+    pub val_added : (H K : Counts → Dictionary → Type 0) (c d : Counts) → ((w : Value) → read_value k v ≡ Some w → Spaced w → Extends H K c d (with_value g w)) → Extends H K c d (λ b. added ps b (val x v))
     unfolding added
     val_added H K c d f =
         let a = f q.value reads (spaced q.value q.storable) in

@@ -1,8 +1,8 @@
 -- The draft of the entries of an accepted text: it keeps what a draft must, and describes the register that the text gives.
+use Rattle.std.specs.Prelude.{Option, Some, None}
 use Prim.Native.Nat.{ℕ, zero, suc, ◌≤◌, ◌<◌}
 use mathlib.Core.Path.{◌≡◌, refl, sym, ap, ◌∙◌, subst}
 use mathlib.Core.Bool.{Bool, true}
-use mathlib.Core.Option.{Option, some, none}
 use mathlib.Core.Logic.{◌⊎◌, inl, inr, ⊎_elim}
 use mathlib.Core.List.Memᴰ
 use mathlib.Core.List.{List, [], ◌∷◌, ◌++◌, map, flat_map, append-nil, append_assoc, map-append, map-map, Memᴰ}
@@ -53,8 +53,8 @@ module _ (ps : List Property) (D : Dictionary) where
   declared_from (val x v ∷ l) d g = declared_from l (added ps d (val x v)) g ∙ ap (λ (z : List PropertyRow). map (decode_property D) z ++ properties l) (same_rows (value_of ps x v))
     where
       same_rows : (o : Option Value) → (found o (λ w. with_value (suc (place_among ps x)) w d) d).properties ≡ d.properties
-      same_rows none = refl
-      same_rows (some w) = refl
+      same_rows None = refl
+      same_rows (Some w) = refl
   declared_from (close ∷ l) d g = declared_from l d g
 
 -- What an entry adds keeps what a draft must, in the draft D that it is in at last.

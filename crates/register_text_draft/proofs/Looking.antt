@@ -1,9 +1,9 @@
 -- A property looked up among rows.
+use Rattle.std.specs.Prelude.{Option, Some, None}
 use Prim.Native.Nat.{ℕ, zero, suc, ◌+◌, ◌%◌, ◌≤◌, ◌<◌}
 use mathlib.Core.Path.{◌≡◌, refl, sym, ap, ap₂, ◌∙◌}
 use mathlib.Core.Bool.{Bool, true, false, cond, ◌&&◌, false≢true}
 use mathlib.Core.List.{List, [], ◌∷◌, ◌++◌, map, map-append}
-use mathlib.Core.Option.{Option, some, none}
 use native.Mathlib.Nat.{zero-add}
 use native.Mathlib.Numerals.{add-one}
 use native.Mathlib.Omega.{arith}
@@ -48,17 +48,17 @@ module _ (s : Bytes) (t rows : List ℕ) (m : ℕ) (x : Bytes) (k : ℕ) (inv : 
 
   module _ (below : k < m) (within : k < length rows) (n : ℕ) (e : n ≡ get_or rows k 0) (i : Item) (f : (u : Bytes) → entry_in u i ≡ entry_at u t n)
       (b : Bool) (hb : b ≡ declares_tag Declared.Property i.tag) (y : Bytes) (hy : y ≡ part s i.first.start i.first.len) (r : Bool) (hr : r ≡ same y x) where
-    row : declared_kind x (entry_at s t (get_or rows k 0)) ≡ cond (b && r) (some i.kind) none
+    row : declared_kind x (entry_at s t (get_or rows k 0)) ≡ cond (b && r) (Some i.kind) None
     row = ap (declared_kind x) (ap (entry_at s t) (sym e) ∙ sym (f s)) ∙ kind_by x i.tag i.kind _ _ ∙ rw (hb, hr, hy)
 
-    step : found_in s t rows m x ≡ found (cond (b && r) (some i.kind) none) (λ j. some (j, k)) (found_from (λ j. declared_kind x (entry_at s t j)) (k + 1) (drop (k + 1) (take m rows)))
+    step : found_in s t rows m x ≡ found (cond (b && r) (Some i.kind) None) (λ j. Some (j, k)) (found_from (λ j. declared_kind x (entry_at s t j)) (k + 1) (drop (k + 1) (take m rows)))
     unfolding found_from
     step =
         let l : k < length (take m rows) = simp length-take (omega arith) in
         inv ∙ rw (add-one k, drop-cons (take m rows) k 0 l, get_or-take m rows k 0 below, row)
 
     pub found_here : b && r ≡ true → (p : ℕ) → p ≡ k % 65536 → PropertyFound.At i.kind p ≡ property_found (found_in s t rows m x)
-    found_here h p q = let z : found_in s t rows m x ≡ some (i.kind, k) = step ∙ rw h in rw q (ap property_found (sym z))
+    found_here h p q = let z : found_in s t rows m x ≡ Some (i.kind, k) = step ∙ rw h in rw q (ap property_found (sym z))
 
     pub found_later : b && r ≡ false → found_in s t rows m x ≡ found_from (λ j. declared_kind x (entry_at s t j)) (k + 1) (drop (k + 1) (take m rows))
     found_later h = step ∙ rw h
@@ -108,7 +108,7 @@ module _ (f : ℕ → Entry) where
       one true e = both_true e refl
       one false e = refl
 
-  declared_by : (x : Bytes) (e : Entry) → is_prop e ≡ true → declared_kind x e ≡ cond (same (property_of e).name x) (some (property_of e).kind) none
+  declared_by : (x : Bytes) (e : Entry) → is_prop e ≡ true → declared_kind x e ≡ cond (same (property_of e).name x) (Some (property_of e).kind) None
   declared_by x (prop y k) h = refl
   declared_by x (page n y) h = absurd (false≢true h)
   declared_by x (cat y) h = absurd (false≢true h)
@@ -117,7 +117,7 @@ module _ (f : ℕ → Entry) where
 
   -- among rows that declare properties
   found_rows : (x : Bytes) (l : List ℕ) (k : ℕ) → all (λ i. is_prop (f i)) l ≡ true
-      → found_from (λ i. declared_kind x (f i)) k l ≡ (kind_among (map (λ i. property_of (f i)) l) x >>= λ j. some (j, k + place_among (map (λ i. property_of (f i)) l) x))
+      → found_from (λ i. declared_kind x (f i)) k l ≡ (kind_among (map (λ i. property_of (f i)) l) x >>= λ j. Some (j, k + place_among (map (λ i. property_of (f i)) l) x))
   unfolding found_from kind_among place_among all
   found_rows x [] k h = refl
   found_rows x (i ∷ l) k h =
@@ -128,14 +128,14 @@ module _ (f : ℕ → Entry) where
       ps = map (λ i. property_of (f i)) l
 
       at : ℕ → Kind → Option (Kind × ℕ)
-      at p j = some (j, p)
+      at p j = Some (j, p)
 
       shift : (o : Option Kind) (p : ℕ) → (o >>= at (suc k + p)) ≡ (o >>= at (k + suc p))
       shift o p = let e : suc k + p ≡ k + suc p = omega arith in ap (λ (z : ℕ). o >>= at z) e
 
-      go : (b : Bool) → found_from (λ i. declared_kind x (f i)) (suc k) l ≡ (kind_among ps x >>= λ j. some (j, suc k + place_among ps x))
-          → found (cond b (some (property_of (f i)).kind) none) (λ j. some (j, k)) (found_from (λ i. declared_kind x (f i)) (suc k) l)
-          ≡ (cond b (some (property_of (f i)).kind) (kind_among ps x) >>= λ j. some (j, k + cond b 0 (suc (place_among ps x))))
+      go : (b : Bool) → found_from (λ i. declared_kind x (f i)) (suc k) l ≡ (kind_among ps x >>= λ j. Some (j, suc k + place_among ps x))
+          → found (cond b (Some (property_of (f i)).kind) None) (λ j. Some (j, k)) (found_from (λ i. declared_kind x (f i)) (suc k) l)
+          ≡ (cond b (Some (property_of (f i)).kind) (kind_among ps x) >>= λ j. Some (j, k + cond b 0 (suc (place_among ps x))))
       go true r = let e : k ≡ k + 0 = omega arith in ap (λ (z : ℕ). at z (property_of (f i)).kind) e
       go false r = r ∙ shift (kind_among ps x) (place_among ps x)
 

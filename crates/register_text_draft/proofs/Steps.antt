@@ -1,8 +1,8 @@
 -- The entry of a row, by what the row is; and the loop over the rows.
+use Rattle.std.specs.Prelude.{Some}
 use Prim.Native.Nat.{◌≤◌}
 use mathlib.Core.Path.{◌≡◌, refl, sym, subst}
 use mathlib.Core.List.{List}
-use mathlib.Core.Option.{some}
 use lib.ListN.{length}
 use Rattle.text.specs.Bytes.{Bytes, part}
 use Rattle.values.specs.declared.Kind.{Kind}
@@ -29,7 +29,7 @@ module _ (s : Bytes) (i : Item) (ps : List Property) (H K : Counts → Dictionar
   pub entry_prop : i.tag ≡ Tag.Prop → Does (prop x i.kind) → Good ps (entry_in s i) → Does (entry_in s i)
   entry_prop h f = by_entry (prop x i.kind) (rw (h, ex)) (λ g. f)
 
-  pub entry_cat : i.tag ≡ Tag.Cat → ((w : Value) → read_value Kind.String x ≡ some w → Spaced w → Extends H K c r (with_value 0 w)) → Good ps (entry_in s i) → Does (entry_in s i)
+  pub entry_cat : i.tag ≡ Tag.Cat → ((w : Value) → read_value Kind.String x ≡ Some w → Spaced w → Extends H K c r (with_value 0 w)) → Good ps (entry_in s i) → Does (entry_in s i)
   unfolding added
   entry_cat h f = by_entry (cat x) (rw (h, ex)) (λ g. f (plain (string x)) refl tt)
 

@@ -1,9 +1,9 @@
 -- What the term of a category or a value tells in the draft that it is in at last.
+use Rattle.std.specs.Prelude.{Some}
 use Prim.Native.Nat.{ℕ, suc, ◌-◌, ◌≤◌, ◌<◌, ◌^◌}
 use mathlib.Core.Path.{◌≡◌, refl, sym, ap, ◌∙◌}
 use mathlib.Core.Bool.{Bool, true, false, cond}
 use mathlib.Core.List.{List, [], ◌∷◌, ◌++◌, map, Memᴰ}
-use mathlib.Core.Option.{some}
 use native.Mathlib.Omega.{arith}
 use lib.ListN.{length, get_or, length-append, length-map}
 use borrow.Author.Tests.{lt-ltb, le-leb, ne_eqb}
@@ -71,12 +71,12 @@ pub record Stands (ps : List Property) (x : Bytes) (k : Kind) (e : Property) : T
   pub name : (get_or ps (place_among ps x) e).name ≡ x
   pub kind : (get_or ps (place_among ps x) e).kind ≡ k
 
-pub stands : (ps : List Property) (x : Bytes) (k : Kind) (e : Property) → kind_among ps x ≡ some k → Stands ps x k e
+pub stands : (ps : List Property) (x : Bytes) (k : Kind) (e : Property) → kind_among ps x ≡ Some k → Stands ps x k e
 unfolding kind_among place_among
 stands [] x k e h = absurd (let z : ◌≡◌ {A = ℕ} 0 1 = cc in omega arith)
 stands (p ∷ l) x k e h = go (same p.name x) refl h (λ h. stands l x k e h)
   where
-    go : (b : Bool) → same p.name x ≡ b → cond b (some p.kind) (kind_among l x) ≡ some k → (kind_among l x ≡ some k → Stands l x k e) → Stands (p ∷ l) x k e
+    go : (b : Bool) → same p.name x ≡ b → cond b (Some p.kind) (kind_among l x) ≡ Some k → (kind_among l x ≡ Some k → Stands l x k e) → Stands (p ∷ l) x k e
     go true q h r = record { below = rw q (omega arith); name = rw q (same_eq p.name x q); kind = rw q (let z : p.kind ≡ k = cc in z) }
     go false q h r = let t = r h in record { below = rw q (omega (arith, t.below)); name = rw q t.name; kind = rw q t.kind }
 

@@ -1,19 +1,17 @@
 -- One law for each way through a function.
+use Rattle.std.specs.Prelude.{Option, Some, None}
 use Prim.Native.Nat.{ℕ, ◌+◌, ◌-◌, ◌≤◌, ◌<◌}
 use mathlib.Core.Path.{◌≡◌, refl, sym, ap, ◌∙◌}
 use mathlib.Core.List.{List, ◌++◌}
-use mathlib.Core.Option.{Option, some, none}
 use native.Mathlib.Numerals.{add-one}
 use native.Mathlib.Omega.{arith}
 use lib.ListN.{length, get_or, take, set}
 use lib.Seq.{paste, paste-suc, length-paste, take-paste, take_all}
 use Rattle.text.specs.Bytes.{Bytes}
 use Rattle.values.specs.declared.Kind.{Kind}
-use Rattle.values.specs.declared.CodeRead.{CodeRead}
 use Rattle.values.specs.declared.Scalar.{Scalar}
 use Rattle.values.specs.Values.{map_option, scalar, string, Value, plain, link, read_scalar, read_link, read_value}
 use Rattle.values.specs.Names.{Identifier}
-use Rattle.values.specs.Answers.{code_read}
 use Rattle.register_text_draft.specs.Drafting.{code_in}
 use Rattle.register_text_draft.specs.Tables.{Copied}
 
@@ -42,28 +40,28 @@ module _ (b : List ℕ) (at : ℕ) (s : List ℕ) where
         }
 
 -- The code of a value.
-code_link : (o : Option Identifier) (n : ℕ) (w : Value) → map_option link o ≡ some w → n ≡ code_in n w
-code_link none n w h = absurd (let z : ◌≡◌ {A = ℕ} 0 1 = cc in omega arith)
-code_link (some i) n w h = let e : link i ≡ w = cc in ap (code_in n) e
+code_link : (o : Option Identifier) (n : ℕ) (w : Value) → map_option link o ≡ Some w → n ≡ code_in n w
+code_link None n w h = absurd (let z : ◌≡◌ {A = ℕ} 0 1 = cc in omega arith)
+code_link (Some i) n w h = let e : link i ≡ w = cc in ap (code_in n) e
 
-code_of_scalar : (k : Scalar) (o : Option ℕ) (c n : ℕ) (w : Value) → code_read o ≡ CodeRead.Code c → map_option plain (map_option (scalar k) o) ≡ some w → c ≡ code_in n w
-code_of_scalar k none c n w e h = absurd (let z : ◌≡◌ {A = ℕ} 0 1 = cc in omega arith)
-code_of_scalar k (some y) c n w e h = let f : plain (scalar k y) ≡ w = cc in let g : c ≡ y = cc in g ∙ ap (code_in n) f
+code_of_scalar : (k : Scalar) (o : Option ℕ) (c n : ℕ) (w : Value) → o ≡ Some c → map_option plain (map_option (scalar k) o) ≡ Some w → c ≡ code_in n w
+code_of_scalar k None c n w e h = absurd (let z : ◌≡◌ {A = ℕ} 0 1 = cc in omega arith)
+code_of_scalar k (Some y) c n w e h = let f : plain (scalar k y) ≡ w = cc in let g : c ≡ y = cc in g ∙ ap (code_in n) f
 
-no_scalar : (k : Scalar) (o : Option ℕ) (c n : ℕ) (w : Value) → code_read o ≡ CodeRead.Unfit → map_option plain (map_option (scalar k) o) ≡ some w → c ≡ code_in n w
-no_scalar k none c n w e h = absurd (let z : ◌≡◌ {A = ℕ} 0 1 = cc in omega arith)
-no_scalar k (some y) c n w e h = absurd (let z : ◌≡◌ {A = ℕ} 0 1 = cc in omega arith)
+no_scalar : (k : Scalar) (o : Option ℕ) (c n : ℕ) (w : Value) → o ≡ None → map_option plain (map_option (scalar k) o) ≡ Some w → c ≡ code_in n w
+no_scalar k None c n w e h = absurd (let z : ◌≡◌ {A = ℕ} 0 1 = cc in omega arith)
+no_scalar k (Some y) c n w e h = absurd (let z : ◌≡◌ {A = ℕ} 0 1 = cc in omega arith)
 
-module _ (k : Kind) (v : Bytes) (n : ℕ) (w : Value) (h : read_value k v ≡ some w) where
+module _ (k : Kind) (v : Bytes) (n : ℕ) (w : Value) (h : read_value k v ≡ Some w) where
   pub code_page : k ≡ Kind.Page → (c : ℕ) → c ≡ n → c ≡ code_in n w
   code_page e c f = f ∙ code_link (read_link v) n w (rw e at h)
 
   pub code_string : k ≡ Kind.String → (c : ℕ) → c ≡ n → c ≡ code_in n w
-  code_string e c f = let q : plain (string v) ≡ w = (let g : read_value Kind.String v ≡ some w = rw e at h in cc) in f ∙ ap (code_in n) q
+  code_string e c f = let q : plain (string v) ≡ w = (let g : read_value Kind.String v ≡ Some w = rw e at h in cc) in f ∙ ap (code_in n) q
 
-  module _ (j : Scalar) (e : k ≡ Kind.Scalar j) (r : CodeRead) (f : r ≡ code_read (read_scalar j v)) where
-    pub code_scalar : (c : ℕ) → r ≡ CodeRead.Code c → c ≡ code_in n w
+  module _ (j : Scalar) (e : k ≡ Kind.Scalar j) (r : Option ℕ) (f : r ≡ (read_scalar j v)) where
+    pub code_scalar : (c : ℕ) → r ≡ Some c → c ≡ code_in n w
     code_scalar c g = code_of_scalar j (read_scalar j v) c n w (sym f ∙ g) (rw e at h)
 
-    pub code_unfit : (c : ℕ) → r ≡ CodeRead.Unfit → c ≡ code_in n w
+    pub code_unfit : (c : ℕ) → r ≡ None → c ≡ code_in n w
     code_unfit c g = no_scalar j (read_scalar j v) c n w (sym f ∙ g) (rw e at h)

@@ -1,6 +1,5 @@
 -- Working definitions: drafts that fit the tables, and entries that add to one.
-use Rattle.std.specs.Prelude.{ℕ, ◌+◌, ◌≤◌, ◌≡◌, true, List, length}
-use Rattle.std.proofs.Math.Option.{some}
+use Rattle.std.specs.Prelude.{ℕ, ◌+◌, ◌≤◌, ◌≡◌, true, List, length, Some}
 use Rattle.text.specs.Bytes.{Bytes}
 use Rattle.values.specs.Values.{Value, plain, link, kind_of}
 use Rattle.language.specs.Register.{Property, kind_among}
@@ -24,8 +23,8 @@ Fits d = Sized d 64 256 2048 32768
 -- A val has a value that keeps its rule, of its property's kind.
 pub record Valued (ps : List Property) (x v : Bytes) : Type 0 where
   pub value : Value
-  pub read : value_of ps x v ≡ some value
-  pub kind : kind_among ps x ≡ some (kind_of value)
+  pub read : value_of ps x v ≡ Some value
+  pub kind : kind_among ps x ≡ Some (kind_of value)
   pub storable : is_storable value ≡ true
 
 -- What is known of an entry of an accepted text.

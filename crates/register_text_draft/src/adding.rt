@@ -1,6 +1,5 @@
 // What each entry adds to a draft.
 ghost use Rattle.std.specs.Prelude.{◌≡◌, List, [], ◌∷◌, ◌++◌, ℕ, ◌+◌, ◌≤◌, ◌<◌, length};
-ghost use Rattle.std.proofs.Math.Option.{some};
 ghost use Rattle.values.specs.Values.{Value, read_value, kind_code};
 ghost use Rattle.language.specs.Register.{Property};
 ghost use Rattle.language.specs.RegisterText.{prop, page, val};
@@ -13,7 +12,7 @@ ghost use Rattle.register_text_draft.specs.Tables.{Properties, Pages, Terms, For
 use super::lookup::property_place;
 use super::texts::{byte, push_text, push_value, value_code};
 use super::{Counts, PropertyFound};
-use tables::{narrow, next, put, put_byte, put_code, widen};
+use tables::{narrow, next, put};
 use text::part;
 use values::{Kind, kind_code};
 
@@ -21,16 +20,16 @@ use values::{Kind, kind_code};
 fn push_property(kinds: &mut [u8], names: &mut [u16], n: u16, kind: Kind, name: u16)
     ensures { (l : List PropertyRow) → Properties kinds.old names.old n l → n < 64 → Properties kinds.new names.new (n + 1) (l ++ (record { kind = kind; name = name } ∷ [])) }
 {
-    put_byte(kinds, widen(n), kind_code(kind));
-    put(names, widen(n), name);
+    put(kinds, usize::from(n), kind_code(kind));
+    put(names, usize::from(n), name);
 }
 
 // Adds a page without forms behind n pages that have f forms.
 fn push_page(identifiers: &mut [u16], firsts: &mut [u16], n: u16, f: u16, identifier: u16)
     ensures { (l : List PageRow) → Pages identifiers.old firsts.old n f l → n < 256 → Pages identifiers.new firsts.new (n + 1) f (l ++ (record { identifier = identifier; forms = [] } ∷ [])) }
 {
-    put(identifiers, widen(n), identifier);
-    put(firsts, widen(n) + 1, f);
+    put(identifiers, usize::from(n), identifier);
+    put(firsts, usize::from(n) + 1, f);
 }
 
 // Adds a form behind f forms, on the last of n pages.
@@ -45,9 +44,9 @@ fn push_form(
 )
     ensures { FormsPushed firsts.old groups.old codes.old n f group code firsts.new groups.new codes.new }
 {
-    put_byte(groups, widen(f), group);
-    put_code(codes, widen(f), code);
-    put(firsts, widen(n), next(f));
+    put(groups, usize::from(f), group);
+    put(codes, usize::from(f), code);
+    put(firsts, usize::from(n), next(f));
 }
 
 // Adds a value of a kind in a group.
@@ -63,7 +62,7 @@ pub fn draft_value(
     codes: &mut [u64],
     c: Counts,
 ) -> Counts
-    ensures { (w : Value) (kinds names identifiers : List ℕ) → read_value kind v.now ≡ some w → Spaced w → Extends (Holding heap.old starts.old lens.old kinds names identifiers firsts.old groups.old codes.old) (Holding heap.new starts.new lens.new kinds names identifiers firsts.new groups.new codes.new) c result (with_value group w) }
+    ensures { (w : Value) (kinds names identifiers : List ℕ) → read_value kind v.now ≡ Some w → Spaced w → Extends (Holding heap.old starts.old lens.old kinds names identifiers firsts.old groups.old codes.old) (Holding heap.new starts.new lens.new kinds names identifiers firsts.new groups.new codes.new) c result (with_value group w) }
 {
     let m = c.texts;
     let f = c.forms;
@@ -152,6 +151,6 @@ pub fn draft_val(
     let PropertyFound::At(kind, place) = property_place(s, t, props, np, x) else {
         return c;
     };
-    let group = byte(widen(place) + 1);
+    let group = byte(usize::from(place) + 1);
     draft_value(v, kind, group, heap, starts, lens, firsts, groups, codes, c)
 }

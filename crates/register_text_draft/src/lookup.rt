@@ -6,7 +6,7 @@ use super::PropertyFound;
 use register_text_entries::table::item_at;
 use register_text_verdict::Declared;
 use register_text_verdict::checks::is_declared;
-use tables::{narrow, num_at};
+use tables::{get_or, narrow};
 use text::{part, same_bytes};
 
 // The kind that the first m of a list of rows declare x with, and the place of the row that does.
@@ -18,7 +18,7 @@ pub fn property_place(s: &[u8], t: &[u16], rows: &[u16], m: usize, x: &[u8]) -> 
         if rows.len() <= k {
             return PropertyFound::Nothing;
         }
-        let item = item_at(t, num_at(rows, k));
+        let item = item_at(t, usize::from(get_or(rows, k, 0)));
         let tag = item.tag;
         let kind = item.kind;
         let name = item.first;

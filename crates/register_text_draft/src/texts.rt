@@ -1,6 +1,5 @@
 // Writing texts behind those that the tables hold, and the codes of values. What has no room is not written.
 ghost use Rattle.std.specs.Prelude.{◌≡◌, List, [], ◌∷◌, ◌+◌, ◌%◌, ◌≤◌, ◌<◌, length, set};
-ghost use Rattle.std.proofs.Math.Option.{some};
 ghost use Rattle.names.specs.Names.{composed_name};
 ghost use Rattle.values.specs.Names.{reference, composed_reference, identifier};
 ghost use Rattle.values.specs.Values.{Value, link, read_value, kind_code};
@@ -12,9 +11,9 @@ ghost use Rattle.register_text_draft.specs.Tables.{Copied, Ended, Pushed};
 
 use super::Ends;
 use names::put_composed;
-use tables::{long, narrow, next, put, put_byte, put_code, put_start, widen};
+use tables::{narrow, next, put};
 use text::part;
-use values::{CodeRead, Kind, read_scalar, split_reference};
+use values::{Kind, read_scalar, split_reference};
 
 // The lowest 8 bits of a number, and a number of 16 bits as one of 32.
 pub fn byte(n: usize) -> u8
@@ -51,11 +50,11 @@ fn end_text(starts: &mut [u32], lens: &mut [u16], m: u16, at: u16, a: usize, b: 
     requires { (a < 65536) × (b < 65536) }
     ensures { Ended starts.old lens.old m at a b starts.new lens.new result }
 {
-    put_start(starts, widen(m), middle(at));
-    put(lens, widen(m), narrow(1 + a + b));
+    put(starts, usize::from(m), middle(at));
+    put(lens, usize::from(m), narrow(1 + a + b));
     Ends {
         texts: next(m),
-        bytes: narrow(widen(at) + 1 + a + b),
+        bytes: narrow(usize::from(at) + 1 + a + b),
     }
 }
 
@@ -71,10 +70,10 @@ pub fn push_text(
 ) -> Ends
     ensures { length space.now ≤ 64 → Pushed heap.old starts.old lens.old m at (labelled space.now name.now ∷ []) heap.new starts.new lens.new result }
 {
-    let first = widen(at);
-    let a = widen(narrow(space.len()));
-    let b = widen(narrow(name.len()));
-    put_byte(heap, first, byte(a));
+    let first = usize::from(at);
+    let a = usize::from(narrow(space.len()));
+    let b = usize::from(narrow(name.len()));
+    put(heap, first, byte(a));
     copy(heap, first + 1, space);
     copy(heap, first + 1 + a, name);
     end_text(starts, lens, m, at, a, b)
@@ -92,10 +91,10 @@ fn push_names(
 ) -> Ends
     ensures { length (composed_name space.now) ≤ 64 → Pushed heap.old starts.old lens.old m at (labelled (composed_name space.now) (composed_name name.now) ∷ []) heap.new starts.new lens.new result }
 {
-    let first = widen(at);
-    let a = widen(narrow(put_composed(heap, first + 1, space)));
-    put_byte(heap, first, byte(a));
-    let b = widen(narrow(put_composed(heap, first + 1 + a, name)));
+    let first = usize::from(at);
+    let a = usize::from(narrow(put_composed(heap, first + 1, space)));
+    put(heap, first, byte(a));
+    let b = usize::from(narrow(put_composed(heap, first + 1 + a, name)));
     end_text(starts, lens, m, at, a, b)
 }
 
@@ -131,7 +130,7 @@ pub fn push_value(
     kind: Kind,
     v: &[u8],
 ) -> Ends
-    ensures { (w : Value) → read_value kind v.now ≡ some w → Spaced w → Pushed heap.old starts.old lens.old m at (value_texts w) heap.new starts.new lens.new result }
+    ensures { (w : Value) → read_value kind v.now ≡ Some w → Spaced w → Pushed heap.old starts.old lens.old m at (value_texts w) heap.new starts.new lens.new result }
 {
     match kind {
         Kind::Page => push_link(heap, starts, lens, m, at, v),
@@ -145,14 +144,14 @@ pub fn push_value(
 
 // The code of the value of a kind that v writes, whose text, if it has one, is text n.
 pub fn value_code(kind: Kind, v: &[u8], n: u16) -> u64
-    ensures { (w : Value) → read_value kind v.now ≡ some w → result ≡ code_in n w }
+    ensures { (w : Value) → read_value kind v.now ≡ Some w → result ≡ code_in n w }
 {
     match kind {
-        Kind::Page => long(n),
+        Kind::Page => u64::from(n),
         Kind::Scalar(k) => match read_scalar(k, v) {
-            CodeRead::Code(c) => c,
-            CodeRead::Unfit => 0,
+            Some(c) => c,
+            None => 0,
         },
-        Kind::String => long(n),
+        Kind::String => u64::from(n),
     }
 }

@@ -1,9 +1,9 @@
 -- The loop over the entries of a text: what holds at its start, after an entry, where one is broken, and at its end.
+use Rattle.std.specs.Prelude.{Option, Some, None}
 use Prim.Native.Nat.{ℕ, ◌+◌, ◌-◌, ◌*◌, ◌≤◌, ◌<◌}
 use mathlib.Core.Path.{◌≡◌, refl, sym, ap, ◌∙◌}
 use mathlib.Core.Bool.{Bool, true, false, ◌||◌, true≢false}
 use mathlib.Core.List.{List, [], ◌∷◌, ◌++◌, append-nil}
-use mathlib.Core.Option.{Option, some, none}
 use native.Mathlib.Omega.{arith}
 use lib.Dec.{ltb}
 use lib.ListN.{length, drop, length-drop, length-append, drop_of_length-le}
@@ -34,12 +34,12 @@ pub record Going (s : Bytes) (t u : List ℕ) (at n : ℕ) (inside : Bool) : Typ
   pub left : 6 * n + (length s - at) + owed (place_of inside) ≤ length s
 
 map_all : {A : Type 0} (o : Option (List A)) → map_option (λ l. [] ++ l) o ≡ o
-map_all none = refl
-map_all (some l) = refl
+map_all None = refl
+map_all (Some l) = refl
 
-map_more : {A : Type 0} (past : List A) (a : A) (o : Option (List A)) → map_option (λ l. (past ++ (a ∷ [])) ++ l) o ≡ map_option (λ l. past ++ l) (o >>= λ l. some (a ∷ l))
-map_more past a none = refl
-map_more past a (some l) = ap some (append_snoc past a l)
+map_more : {A : Type 0} (past : List A) (a : A) (o : Option (List A)) → map_option (λ l. (past ++ (a ∷ [])) ++ l) o ≡ map_option (λ l. past ++ l) (o >>= λ l. Some (a ∷ l))
+map_more past a None = refl
+map_more past a (Some l) = ap Some (append_snoc past a l)
 
 pub going_start : (s : Bytes) (t : List ℕ) → Going s t t 0 0 false
 unfolding entries_in tabulate
@@ -57,12 +57,12 @@ module _ (s : Bytes) (t u : List ℕ) (at n : ℕ) (inside : Bool) (g : Going s 
 
     pub going_broken : r ≡ true → Filled s t u (record { ok = false; count = 0 })
     going_broken h =
-        let e : next_entry (place_of inside) (drop at s) ≡ none = sym k.is ∙ is_none x.tag _ (sym p ∙ h) in
-        let o : none ≡ entries s = rw (step, e) at g.ahead in
+        let e : next_entry (place_of inside) (drop at s) ≡ None = sym k.is ∙ is_none x.tag _ (sym p ∙ h) in
+        let o : None ≡ entries s = rw (step, e) at g.ahead in
         record { is = ap rows_of o; rows = rw (← o) tt; size = g.size }
 
     module _ (h : r ≡ false) where
-      next_is : next_entry (place_of inside) (drop at s) ≡ some (record { entry = entry_in s x; place = place_of x.inner; rest = drop x.next s })
+      next_is : next_entry (place_of inside) (drop at s) ≡ Some (record { entry = entry_in s x; place = place_of x.inner; rest = drop x.next s })
       next_is = sym k.is ∙ is_read x.tag _ (sym p ∙ h)
 
       six : Six (place_of inside) (drop at s) (record { entry = entry_in s x; place = place_of x.inner; rest = drop x.next s })
@@ -90,8 +90,8 @@ module _ (s : Bytes) (t u : List ℕ) (at n : ℕ) (inside : Bool) (g : Going s 
       go true e h = absurd (true≢false h)
       go false e h =
           let d : drop at s ≡ [] = drop_of_length-le s (ltb-false at (length s) h) in
-          let o : some (g.past ++ []) ≡ entries s = rw (e, d, entries_end) at g.ahead in
-          let o' : some g.past ≡ entries s = rw append-nil at o in
+          let o : Some (g.past ++ []) ≡ entries s = rw (e, d, entries_end) at g.ahead in
+          let o' : Some g.past ≡ entries s = rw append-nil at o in
           record {
             is = rw (← g.count) (ap rows_of o');
             rows = rw (← o') (λ short room. rw g.count (g.held short (omega (arith, g.count))));
@@ -102,22 +102,22 @@ pub ruleset goings = (going_broken, going_less, going_on, going_end)
 
 -- What the answer tells, of a text within its limit and a table of 5,500 rows.
 module _ (s : Bytes) (t u : List ℕ) (r : Rows) (f : Filled s t u r) where
-  pub filled_none : r.ok ≡ false → entries s ≡ none
+  pub filled_none : r.ok ≡ false → entries s ≡ None
   filled_none e = go (entries s) f.is
     where
-      go : (o : Option (List Entry)) → r ≡ rows_of o → o ≡ none
-      go none h = refl
-      go (some l) h = absurd (true≢false (ap (λ x. x.ok) (sym h) ∙ e))
+      go : (o : Option (List Entry)) → r ≡ rows_of o → o ≡ None
+      go None h = refl
+      go (Some l) h = absurd (true≢false (ap (λ x. x.ok) (sym h) ∙ e))
 
   module _ (e : r.ok ≡ true) (short : length s ≤ 32768) where
-    whole : (o : Option (List Entry)) → r ≡ rows_of o → HoldsEntries s u o → OnSome (Few line s) o → (r.count ≤ 5500) × (27500 ≤ length t → o ≡ some (entries_in s u r.count))
-    whole none h k m = absurd (true≢false (sym e ∙ ap (λ x. x.ok) h))
-    whole (some l) h k m =
+    whole : (o : Option (List Entry)) → r ≡ rows_of o → HoldsEntries s u o → OnSome (Few line s) o → (r.count ≤ 5500) × (27500 ≤ length t → o ≡ Some (entries_in s u r.count))
+    whole None h k m = absurd (true≢false (sym e ∙ ap (λ x. x.ok) h))
+    whole (Some l) h k m =
         let c : r.count ≡ length l = ap (λ x. x.count) h in
-        (omega arith, λ room. rw c (ap some (sym (k (omega arith) (omega (arith, f.size))))))
+        (omega arith, λ room. rw c (ap Some (sym (k (omega arith) (omega (arith, f.size))))))
 
     pub filled_few : r.count ≤ 5500
     filled_few = (whole (entries s) f.is f.rows (few line s)).0
 
-    pub filled_some : 27500 ≤ length t → entries s ≡ some (entries_in s u r.count)
+    pub filled_some : 27500 ≤ length t → entries s ≡ Some (entries_in s u r.count)
     filled_some = (whole (entries s) f.is f.rows (few line s)).1

@@ -1,8 +1,8 @@
 -- The ways through the readers of the forms: what each answers, from what its calls gave.
+use Rattle.std.specs.Prelude.{Option, Some, None}
 use Prim.Native.Nat.{ℕ, ◌+◌, ◌-◌, ◌≤◌, ◌<◌}
 use mathlib.Core.Path.{◌≡◌, refl, sym, ◌∙◌}
 use mathlib.Core.Bool.{Bool, true, false, not, false≢true, true≢false}
-use mathlib.Core.Option.{Option, some, none}
 use native.Mathlib.Omega.{arith}
 use lib.ListN.{length, drop, length-drop, drop_of_length-le}
 use lib.Seq.{drop-drop, drop-length, drop-nil}
@@ -13,9 +13,8 @@ use Rattle.text.specs.Parts.{Within}
 use Rattle.text.specs.declared.Span.{Span}
 use Rattle.text.proofs.Laws.{starts_fits, span_le}
 use Rattle.values.specs.Values.{kind_word}
-use Rattle.values.specs.Answers.{kind_at, kind_read}
+use Rattle.values.specs.Answers.{kind_at}
 use Rattle.values.specs.declared.Kind.{Kind}
-use Rattle.values.specs.declared.KindRead.{KindRead}
 use Rattle.values.proofs.AllKinds.{kind_stands}
 use Rattle.language.specs.Answer.{◌>>=◌, found}
 use Rattle.language.specs.RegisterText.{Read, prop, page, cat, val, line, inner, quoted, kind_word_at, prop_form, page_form, cat_form, val_form, closing, next_entry}
@@ -97,20 +96,20 @@ module _ (s w v : Bytes) (at : ℕ) (f : Found) (p : Finds s at w f) where
 pub ruleset frames = (frame_absent, frame_empty, frame_open, frame_stands)
 
 -- A kind word.
-read_one : (o q : Option Kind) → kind_read o ≡ kind_read q → o ≡ q
-read_one none none e = refl
-read_one none (some k) e = cc
-read_one (some j) none e = cc
-read_one (some j) (some k) e = cc
+read_one : (o q : Option Kind) → o ≡ q → o ≡ q
+read_one None None e = refl
+read_one None (Some k) e = cc
+read_one (Some j) None e = cc
+read_one (Some j) (Some k) e = cc
 
-module _ (s : Bytes) (at : ℕ) (r : KindRead) (p : r ≡ kind_read (kind_at (drop at s))) where
-  pub kind_absent : r ≡ KindRead.Nothing → kind_in s KindFound.Nothing ≡ kind_word_at (drop at s)
+module _ (s : Bytes) (at : ℕ) (r : Option Kind) (p : r ≡ (kind_at (drop at s))) where
+  pub kind_absent : r ≡ None → kind_in s KindFound.Nothing ≡ kind_word_at (drop at s)
   unfolding kind_word_at
-  kind_absent e = rw (read_one (kind_at (drop at s)) none (sym p ∙ e))
+  kind_absent e = rw (read_one (kind_at (drop at s)) None (sym p ∙ e))
 
-  module _ (k : Kind) (e : r ≡ KindRead.Kind k) where
-    kind_is : kind_at (drop at s) ≡ some k
-    kind_is = read_one (kind_at (drop at s)) (some k) (sym p ∙ e)
+  module _ (k : Kind) (e : r ≡ Some k) where
+    kind_is : kind_at (drop at s) ≡ Some k
+    kind_is = read_one (kind_at (drop at s)) (Some k) (sym p ∙ e)
 
     pub kind_fits : length (kind_word k) ≤ length s - at
     kind_fits = omega (arith, starts_fits (kind_word k) (drop at s) (kind_stands k (drop at s) kind_is), length-drop at s)
@@ -125,26 +124,26 @@ pub ruleset kinds = (kind_absent, kind_found)
 abbrev pub Stops : Bytes → Option Read → Type 0
 Stops s o = (x : Item) → x ≡ broken_item → ReadsEntry s o x
 
-stops : (s : Bytes) (o : Option Read) → o ≡ none → Stops s o
+stops : (s : Bytes) (o : Option Read) → o ≡ None → Stops s o
 unfolding broken_item
 stops s o e x b = rw (b, e) (record { is = refl; first = omega arith; second = omega arith })
 
 -- Each form but one begins with a framed text.
 abbrev behind_it : Bytes → Bytes → Option (Bytes × Bytes)
-behind_it x r = some (x, r)
+behind_it x r = Some (x, r)
 
 module _ (v : Bytes) (f : Bytes → Bytes → Option Read) where
   frame_end : (x : Bytes) (o : Option Bytes) → ((o >>= behind_it x) >>= λ y. f y.0 y.1) ≡ (o >>= f x)
-  frame_end x none = refl
-  frame_end x (some r) = refl
+  frame_end x None = refl
+  frame_end x (Some r) = refl
 
   frame_text : (o : Option (Bytes × Bytes)) → ((o >>= λ x. after v x.1 >>= behind_it x.0) >>= λ y. f y.0 y.1) ≡ (o >>= λ x. after v x.1 >>= f x.0)
-  frame_text none = refl
-  frame_text (some x) = frame_end x.0 (after v x.1)
+  frame_text None = refl
+  frame_text (Some x) = frame_end x.0 (after v x.1)
 
   frame_word : (o : Option Bytes) → ((o >>= λ r. quoted r >>= λ x. after v x.1 >>= behind_it x.0) >>= λ y. f y.0 y.1) ≡ (o >>= λ r. quoted r >>= λ x. after v x.1 >>= f x.0)
-  frame_word none = refl
-  frame_word (some r) = frame_text (quoted r)
+  frame_word None = refl
+  frame_word (Some r) = frame_text (quoted r)
 
   frame_first : (w s : Bytes) → (framed w v s >>= λ x. f x.0 x.1) ≡ (after w s >>= λ r. quoted r >>= λ x. after v x.1 >>= f x.0)
   unfolding framed
@@ -152,7 +151,7 @@ module _ (v : Bytes) (f : Bytes → Bytes → Option Read) where
 
 module _ (s : Bytes) (at : ℕ) (q : Quoted) where
   module _ (p : Quotes s (framed (bytes "(prop ") (bytes " ") (drop at s)) q) where
-    prop_is : prop_form (drop at s) ≡ (quoted_in s q >>= λ x. kind_word_at x.1 >>= λ k. after (bytes ")\n") k.1 >>= λ r. some (record { entry = prop x.0 k.0; place = line; rest = r }))
+    prop_is : prop_form (drop at s) ≡ (quoted_in s q >>= λ x. kind_word_at x.1 >>= λ k. after (bytes ")\n") k.1 >>= λ r. Some (record { entry = prop x.0 k.0; place = line; rest = r }))
     unfolding prop_form
     prop_is = rw p.is (sym (frame_first (bytes " ") _ (bytes "(prop ") (drop at s)))
 
@@ -173,7 +172,7 @@ module _ (s : Bytes) (at : ℕ) (q : Quoted) where
             record { is = rw (prop_is, e, ← p₂, e₂, ← p₃.is, h); first = l; second = l }
 
   module _ (p : Quotes s (framed (bytes "(page ") (bytes " ") (drop at s)) q) where
-    page_is : page_form (drop at s) ≡ (quoted_in s q >>= λ x. quoted x.1 >>= λ y. some (record { entry = page x.0 y.0; place = inner; rest = y.1 }))
+    page_is : page_form (drop at s) ≡ (quoted_in s q >>= λ x. quoted x.1 >>= λ y. Some (record { entry = page x.0 y.0; place = inner; rest = y.1 }))
     unfolding page_form
     page_is = rw p.is (sym (frame_first (bytes " ") _ (bytes "(page ") (drop at s)))
 
@@ -188,7 +187,7 @@ module _ (s : Bytes) (at : ℕ) (q : Quoted) where
       page_3 y n h = record { is = rw (page_is, e, ← p₂.is, h); first = rw e at p.within; second = rw h at p₂.within }
 
   module _ (p : Quotes s (framed (bytes " (cat ") (bytes ")") (drop at s)) q) where
-    cat_is : cat_form (drop at s) ≡ (quoted_in s q >>= λ x. some (record { entry = cat x.0; place = inner; rest = x.1 }))
+    cat_is : cat_form (drop at s) ≡ (quoted_in s q >>= λ x. Some (record { entry = cat x.0; place = inner; rest = x.1 }))
     unfolding cat_form
     cat_is = rw p.is (sym (frame_first (bytes ")") _ (bytes " (cat ") (drop at s)))
 
@@ -201,7 +200,7 @@ module _ (s : Bytes) (at : ℕ) (q : Quoted) where
         record { is = rw (cat_is, h); first = l; second = l }
 
   module _ (p : Quotes s (framed (bytes " (val ") (bytes " ") (drop at s)) q) where
-    val_is : val_form (drop at s) ≡ (quoted_in s q >>= λ x. quoted x.1 >>= λ y. after (bytes ")") y.1 >>= λ r. some (record { entry = val x.0 y.0; place = inner; rest = r }))
+    val_is : val_form (drop at s) ≡ (quoted_in s q >>= λ x. quoted x.1 >>= λ y. after (bytes ")") y.1 >>= λ r. Some (record { entry = val x.0 y.0; place = inner; rest = r }))
     unfolding val_form
     val_is = rw p.is (sym (frame_first (bytes " ") _ (bytes " (val ") (drop at s)))
 
@@ -232,7 +231,7 @@ module _ (s : Bytes) (at : ℕ) (f : Found) (p : Finds s at (bytes ")\n") f) whe
 pub ruleset forms = (prop_1, prop_2, prop_3, prop_4, page_1, page_2, page_3, cat_1, cat_2, val_1, val_2, val_3, val_4, close_1, close_2)
 
 -- The next entry: the first form that stands.
-pub is_read : (t : Tag) (r : Read) → is_broken t ≡ false → read_by t r ≡ some r
+pub is_read : (t : Tag) (r : Read) → is_broken t ≡ false → read_by t r ≡ Some r
 is_read Tag.Prop r e = refl
 is_read Tag.Page r e = refl
 is_read Tag.Cat r e = refl
@@ -240,7 +239,7 @@ is_read Tag.Val r e = refl
 is_read Tag.Close r e = refl
 is_read Tag.Broken r e = absurd (true≢false e)
 
-pub is_none : (t : Tag) (r : Read) → is_broken t ≡ true → read_by t r ≡ none
+pub is_none : (t : Tag) (r : Read) → is_broken t ≡ true → read_by t r ≡ None
 is_none Tag.Prop r e = absurd (false≢true e)
 is_none Tag.Page r e = absurd (false≢true e)
 is_none Tag.Cat r e = absurd (false≢true e)
@@ -249,10 +248,10 @@ is_none Tag.Close r e = absurd (false≢true e)
 is_none Tag.Broken r e = refl
 
 module _ (s : Bytes) (a b : Option Read) (x : Item) (k : ReadsEntry s a x) (r : Bool) (p : r ≡ is_broken x.tag) where
-  first_stands : not r ≡ true → ReadsEntry s (found a some b) x
+  first_stands : not r ≡ true → ReadsEntry s (found a Some b) x
   first_stands h = record { is = rw (← k.is, is_read x.tag _ (sym p ∙ not-true r h)); first = k.first; second = k.second }
 
-  first_broken : not r ≡ false → (y : Item) → ReadsEntry s b y → ReadsEntry s (found a some b) y
+  first_broken : not r ≡ false → (y : Item) → ReadsEntry s b y → ReadsEntry s (found a Some b) y
   first_broken h y l = rw (← k.is, is_none x.tag _ (sym p ∙ not-false r h)) l
 
 module _ (s : Bytes) (at : ℕ) (t : Bool) where

@@ -1,6 +1,5 @@
 -- Working definitions: what the readers of the register text answer, as places in the text.
-use Rattle.std.specs.Prelude.{ℕ, ◌≤◌, ◌≡◌, Bool, true, false, length, drop}
-use Rattle.std.proofs.Math.Option.{Option, some, none}
+use Rattle.std.specs.Prelude.{ℕ, ◌≤◌, ◌≡◌, Bool, true, false, length, drop, Option, Some, None}
 use Rattle.text.specs.Bytes.{Bytes, after}
 use Rattle.text.specs.Parts.{part_of, Within}
 use Rattle.text.specs.declared.Span.{Span}
@@ -15,8 +14,8 @@ use Rattle.register_text_entries.specs.declared.Item.{Item}
 
 -- A place that was found, as the text from there on; and that it lies within the text.
 abbrev pub found_in : Bytes → Found → Option Bytes
-found_in s (Found.At i) = some (drop i s)
-found_in s Found.Nothing = none
+found_in s (Found.At i) = Some (drop i s)
+found_in s Found.Nothing = None
 
 abbrev pub Ends : Bytes → Found → Type 0
 Ends s (Found.At i) = i ≤ length s
@@ -29,8 +28,8 @@ pub record Finds (s : Bytes) (at : ℕ) (w : Bytes) (r : Found) : Type 0 where
 
 -- A quoted text and what is behind it; and that it lies within the text.
 abbrev pub quoted_in : Bytes → Quoted → Option (Bytes × Bytes)
-quoted_in s (Quoted.Text p i) = some (part_of s p, drop i s)
-quoted_in s Quoted.Nothing = none
+quoted_in s (Quoted.Text p i) = Some (part_of s p, drop i s)
+quoted_in s Quoted.Nothing = None
 
 abbrev pub Lies : Bytes → Quoted → Type 0
 Lies s (Quoted.Text p i) = Within s p
@@ -47,11 +46,11 @@ framed w v s = do
   r ← after w s
   (x, r) ← quoted r
   r ← after v r
-  some (x, r)
+  Some (x, r)
 
 abbrev pub kind_in : Bytes → KindFound → Option (Kind × Bytes)
-kind_in s (KindFound.At k i) = some (k, drop i s)
-kind_in s KindFound.Nothing = none
+kind_in s (KindFound.At k i) = Some (k, drop i s)
+kind_in s KindFound.Nothing = None
 
 abbrev pub place_of : Bool → Place
 place_of true = inner
@@ -78,12 +77,12 @@ abbrev pub entry_in : Bytes → Item → Entry
 entry_in s i = entry_by i.tag i.kind (part_of s i.first) (part_of s i.second)
 
 abbrev pub read_by : Tag → Read → Option Read
-read_by Tag.Prop r = some r
-read_by Tag.Page r = some r
-read_by Tag.Cat r = some r
-read_by Tag.Val r = some r
-read_by Tag.Close r = some r
-read_by Tag.Broken r = none
+read_by Tag.Prop r = Some r
+read_by Tag.Page r = Some r
+read_by Tag.Cat r = Some r
+read_by Tag.Val r = Some r
+read_by Tag.Close r = Some r
+read_by Tag.Broken r = None
 
 -- What an item says was read.
 abbrev pub read_in : Bytes → Item → Option Read

@@ -1,7 +1,6 @@
 -- Working definitions: the entries of a text as rows of a table, five numbers a row: a code, and the start and length of two
 -- parts of the text.
-use Rattle.std.specs.Prelude.{ℕ, ◌+◌, ◌-◌, ◌*◌, ◌%◌, ◌≤◌, ◌≡◌, true, false, cond, List, [], ◌∷◌, map, eqb, length, get_or}
-use Rattle.std.proofs.Math.Option.{Option, some, none}
+use Rattle.std.specs.Prelude.{ℕ, ◌+◌, ◌-◌, ◌*◌, ◌%◌, ◌≤◌, ◌≡◌, true, false, cond, List, [], ◌∷◌, map, eqb, length, get_or, Option, Some, None}
 use Rattle.std.proofs.lemmas.List.Edits.{sets}
 use Rattle.text.specs.Bytes.{Bytes, part}
 use Rattle.text.specs.Table.{tabulate}
@@ -53,13 +52,13 @@ with_row t n i = sets t (5 * n) (row i)
 
 -- What reading a whole text answers.
 abbrev pub rows_of : Option (List Entry) → Rows
-rows_of none = record { ok = false; count = 0 }
-rows_of (some l) = record { ok = true; count = length l }
+rows_of None = record { ok = false; count = 0 }
+rows_of (Some l) = record { ok = true; count = length l }
 
 -- The table holds the entries, where the text is short and there is room for them.
 abbrev pub HoldsEntries : Bytes → List ℕ → Option (List Entry) → Type 0
-HoldsEntries s t none = Unit {0}
-HoldsEntries s t (some l) = length s ≤ 65535 → 5 * length l ≤ length t → entries_in s t (length l) ≡ l
+HoldsEntries s t None = Unit {0}
+HoldsEntries s t (Some l) = length s ≤ 65535 → 5 * length l ≤ length t → entries_in s t (length l) ≡ l
 
 -- What reading a whole text does: t is the table as it was, u as it is then.
 pub record Filled (s : Bytes) (t u : List ℕ) (r : Rows) : Type 0 where

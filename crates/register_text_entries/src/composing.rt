@@ -11,7 +11,7 @@ use super::{Item, Tag};
 use buffer::put_bytes;
 use names::putting::put_name;
 use names::table::{codes, letters, marks, places};
-use tables::{narrow, widen};
+use tables::narrow;
 use text::{Class, Span, all_in, part};
 use values::is_value;
 
@@ -129,7 +129,7 @@ fn put_second(
     if is_named(tag) {
         put_name(places, letters, marks, codes, copy, at, b)
     } else {
-        put_bytes(copy, widen(at), b);
+        put_bytes(copy, usize::from(at), b);
         b.len()
     }
 }
@@ -153,15 +153,15 @@ fn copy_entry(
     let second = kept(has_second(tag), item.second);
     let a = part(s, first.start, first.len);
     let b = part(s, second.start, second.len);
-    let start = widen(at);
+    let start = usize::from(at);
     let first_size = put_name(places, letters, marks, codes, copy, at, a);
-    let n = widen(narrow(first_size));
+    let n = usize::from(narrow(first_size));
     let end = start + n;
     put_gap(copy, end, tag);
-    let behind = narrow(end + widen(gap_size(tag)));
-    let begin = widen(behind);
+    let behind = narrow(end + usize::from(gap_size(tag)));
+    let begin = usize::from(behind);
     let second_size = put_second(places, letters, marks, codes, copy, behind, tag, b);
-    let m = widen(narrow(second_size));
+    let m = usize::from(narrow(second_size));
     let broken = is_broken(tag, first_size, second_size, a, b);
     Copied {
         item: Item {

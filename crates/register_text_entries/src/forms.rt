@@ -6,7 +6,7 @@ ghost use Rattle.register_text_entries.specs.Items.{Finds, Quotes, framed, kind_
 
 use super::{Found, Item, KindFound, Quoted, Tag, is_broken};
 use text::{Class, Span, scan, word_at};
-use values::{Kind, KindRead, kind_at, word_length};
+use values::{Kind, kind_at, word_length};
 
 // The place behind the word w, where it stands at a place.
 pub fn after_word(s: &[u8], at: usize, w: &[u8]) -> Found
@@ -62,7 +62,7 @@ pub fn framed_at(s: &[u8], at: usize, w: &[u8], v: &[u8]) -> Quoted
 pub fn kind_word(s: &[u8], at: usize) -> KindFound
     ensures { kind_in s.now result ≡ kind_word_at (drop at s.now) }
 {
-    let KindRead::Kind(kind) = kind_at(s, at) else {
+    let Some(kind) = kind_at(s, at) else {
         return KindFound::Nothing;
     };
     KindFound::At(kind, at + word_length(kind))

@@ -6,8 +6,8 @@ ghost use Rattle.register_text_entries.specs.Items.{entry_in};
 ghost use Rattle.register_text_entries.specs.Table.{entry_code, tag_from, kind_of_code, entry_from, entry_at, with_row};
 
 use super::{Item, Tag};
-use tables::{narrow, num_at};
-use text::{Span, widen};
+use tables::{get_or, narrow};
+use text::Span;
 use values::{Kind, kind_code, kind_from};
 
 // Writes a number at a place of a table, where there is room.
@@ -27,7 +27,7 @@ pub fn code_of(tag: Tag, kind: Kind) -> usize
         Tag::Val => 2,
         Tag::Close => 3,
         Tag::Broken => 3,
-        Tag::Prop => 4 + widen(kind_code(kind)),
+        Tag::Prop => 4 + usize::from(kind_code(kind)),
     }
 }
 
@@ -99,12 +99,12 @@ pub fn item_at(t: &[u16], i: usize) -> Item
     }
     let at = 5 * i;
     let first = Span {
-        start: num_at(t, at + 1),
-        len: num_at(t, at + 2),
+        start: usize::from(get_or(t, at + 1, 0)),
+        len: usize::from(get_or(t, at + 2, 0)),
     };
     let second = Span {
-        start: num_at(t, at + 3),
-        len: num_at(t, at + 4),
+        start: usize::from(get_or(t, at + 3, 0)),
+        len: usize::from(get_or(t, at + 4, 0)),
     };
-    item_from(num_at(t, at), first, second)
+    item_from(usize::from(get_or(t, at, 0)), first, second)
 }

@@ -9,8 +9,8 @@ use lib.Dec.{ltb}
 use lib.ListN.{length, get_or}
 use Rattle.text.specs.Bytes.{Bytes, order_of}
 use Rattle.text.specs.Table.{tabulate}
-use Rattle.text.specs.declared.Order.{Order}
-use Rattle.text.specs.declared.Order.TheVariants.{Less, Equal, Greater}
+use Rattle.std.specs.declared.cmp.Ordering.{Ordering}
+use Rattle.std.specs.declared.cmp.Ordering.TheVariants.{Less, Equal, Greater}
 use Rattle.sorting.specs.Ascending.{is_equal, Total, placed, member, insert_sorted, sorted}
 use Rattle.sorting.specs.Listing.{Built}
 use Rattle.sorting.proofs.Canonical.{same_truth, insert_there, sorted_ascends, sorted_snoc, member_sorted, member_snoc}
@@ -24,13 +24,13 @@ use Rattle.register_text_verdict.specs.Names.{Names}
 use Rattle.register_text_verdict.proofs.Rows.{twice_to_ext}
 use Rattle.register_text_verdict.proofs.Naming.{alike_text}
 
-module _ {A : Type 0} (o : A → A → Order) (w : Total o) where
+module _ {A : Type 0} (o : A → A → Ordering) (w : Total o) where
   insert_length : (x : A) (l : List A) → member o x l ≡ false → length (insert_sorted o x l) ≡ suc (length l)
   unfolding member insert_sorted
   insert_length x [] h = refl
   insert_length x (y ∷ l) h = go (o x y) refl h (insert_length x l)
     where
-      go : (r : Order) → o x y ≡ r → (is_equal (o x y) || member o x l) ≡ false → (member o x l ≡ false → length (insert_sorted o x l) ≡ suc (length l)) → length (placed (o x y) x y l (insert_sorted o x l)) ≡ suc (suc (length l))
+      go : (r : Ordering) → o x y ≡ r → (is_equal (o x y) || member o x l) ≡ false → (member o x l ≡ false → length (insert_sorted o x l) ≡ suc (length l)) → length (placed (o x y) x y l (insert_sorted o x l)) ≡ suc (suc (length l))
       go Less e k ih = rw e
       go Equal e k ih = absurd (true≢false (rw e at k))
       go Greater e k ih = rw e (ap suc (ih (rw e at k)))

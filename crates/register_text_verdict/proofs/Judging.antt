@@ -1,9 +1,9 @@
 -- The ways through judging: a text that is too long, one that is not lines of the two forms, and one that is.
+use Rattle.std.specs.Prelude.{Option, Some, None}
 use Prim.Native.Nat.{ℕ, zero, suc, ◌≤◌, ◌<◌}
 use mathlib.Core.Path.{◌≡◌, refl, sym, ◌∙◌}
 use mathlib.Core.Bool.{Bool, true, false, not, ◌&&◌, ◌||◌, or-true, and-false, false≢true}
 use mathlib.Core.List.{List, []}
-use mathlib.Core.Option.{Option, some, none}
 use native.Mathlib.Omega.{arith}
 use lib.Dec.{ltb}
 use lib.ListN.{length, take}
@@ -34,8 +34,8 @@ undeclared_unfit Γ (cat x) h = h
 undeclared_unfit Γ (val x v) h = go (Γ x) h
   where
     go : (o : Option Kind) → found o (λ k. false) true ≡ true → found (o >>= λ k. read_value k v) (λ w. false) true ≡ true
-    go none h = refl
-    go (some k) h = absurd (false≢true h)
+    go None h = refl
+    go (Some k) h = absurd (false≢true h)
 undeclared_unfit Γ close h = h
 
 any_to_lem : (n : ℕ) (f g : ℕ → Bool) → ((i : ℕ) → f i ≡ true → g i ≡ true) → any_to n f ≡ true → any_to n g ≡ true

@@ -1,9 +1,9 @@
 -- The published definitions over the rows of a table.
+use Rattle.std.specs.Prelude.{Option, Some, None}
 use Prim.Native.Nat.{ℕ, zero, suc, ◌+◌, ◌<◌}
 use mathlib.Core.Path.{◌≡◌, refl, sym, ap, ap₂, ◌∙◌}
 use mathlib.Core.Bool.{Bool, true, false, cond, ◌&&◌, ◌||◌, or-false}
 use mathlib.Core.List.{List, [], ◌∷◌, ◌++◌, append-nil}
-use mathlib.Core.Option.{Option, some, none}
 use native.Mathlib.Omega.{arith}
 use native.Mathlib.Numerals.{add-one}
 use lib.ListN.{length, get_or, length-append, get_or-append}
@@ -50,7 +50,7 @@ places_count (suc n) g = length-append (places_to n g) (cond (g n) (n ∷ []) []
 
 -- the kind of a property
 
-kind_append : (x : Bytes) (l : List Entry) (e : Entry) → kind_among (properties (l ++ (e ∷ []))) x ≡ found (kind_among (properties l) x) some (declared_kind x e)
+kind_append : (x : Bytes) (l : List Entry) (e : Entry) → kind_among (properties (l ++ (e ∷ []))) x ≡ found (kind_among (properties l) x) Some (declared_kind x e)
 unfolding properties kind_among
 kind_append x [] (prop y k) = refl
 kind_append x [] (page n y) = refl
@@ -59,8 +59,8 @@ kind_append x [] (val y v) = refl
 kind_append x [] close = refl
 kind_append x (prop y k ∷ l) e = go (same y x) (kind_append x l e)
   where
-    go : (b : Bool) → kind_among (properties (l ++ (e ∷ []))) x ≡ found (kind_among (properties l) x) some (declared_kind x e)
-        → cond b (some k) (kind_among (properties (l ++ (e ∷ []))) x) ≡ found (cond b (some k) (kind_among (properties l) x)) some (declared_kind x e)
+    go : (b : Bool) → kind_among (properties (l ++ (e ∷ []))) x ≡ found (kind_among (properties l) x) Some (declared_kind x e)
+        → cond b (Some k) (kind_among (properties (l ++ (e ∷ []))) x) ≡ found (cond b (Some k) (kind_among (properties l) x)) Some (declared_kind x e)
     go true h = refl
     go false h = h
 kind_append x (page n y ∷ l) e = kind_append x l e
@@ -68,29 +68,29 @@ kind_append x (cat y ∷ l) e = kind_append x l e
 kind_append x (val y v ∷ l) e = kind_append x l e
 kind_append x (close ∷ l) e = kind_append x l e
 
-first_append : (g : ℕ → Option Kind) (l k : List ℕ) → first_in g (l ++ k) ≡ found (first_in g l) some (first_in g k)
+first_append : (g : ℕ → Option Kind) (l k : List ℕ) → first_in g (l ++ k) ≡ found (first_in g l) Some (first_in g k)
 unfolding first_in
 first_append g [] k = refl
 first_append g (i ∷ l) k = go (g i) (first_append g l k)
   where
-    go : (o : Option Kind) → first_in g (l ++ k) ≡ found (first_in g l) some (first_in g k) → found o some (first_in g (l ++ k)) ≡ found (found o some (first_in g l)) some (first_in g k)
-    go none h = h
-    go (some j) h = refl
+    go : (o : Option Kind) → first_in g (l ++ k) ≡ found (first_in g l) Some (first_in g k) → found o Some (first_in g (l ++ k)) ≡ found (found o Some (first_in g l)) Some (first_in g k)
+    go None h = h
+    go (Some j) h = refl
 
 pub kind_rows : (x : Bytes) (n : ℕ) (f : ℕ → Entry) → kind_among (properties (tabulate n f)) x ≡ first_in (λ i. declared_kind x (f i)) (places_to n (λ i. is_prop (f i)))
 unfolding tabulate places_to properties kind_among first_in
 kind_rows x zero f = refl
 kind_rows x (suc n) f =
     kind_append x (tabulate n f) (f n)
-    ∙ ap₂ (λ a b. found a some b) (kind_rows x n f) (one (f n) refl)
+    ∙ ap₂ (λ a b. found a Some b) (kind_rows x n f) (one (f n) refl)
     ∙ sym (first_append g (places_to n (λ i. is_prop (f i))) (cond (is_prop (f n)) (n ∷ []) []))
   where
     g : ℕ → Option Kind
     g i = declared_kind x (f i)
 
-    last : (o : Option Kind) → o ≡ found o some none
-    last none = refl
-    last (some k) = refl
+    last : (o : Option Kind) → o ≡ found o Some None
+    last None = refl
+    last (Some k) = refl
 
     one : (e : Entry) → f n ≡ e → declared_kind x e ≡ first_in g (cond (is_prop e) (n ∷ []) [])
     one (prop y k) q = last (declared_kind x (prop y k)) ∙ rw q

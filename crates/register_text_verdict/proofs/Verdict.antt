@@ -1,9 +1,9 @@
 -- The verdict on a text by the tests of its rows.
+use Rattle.std.specs.Prelude.{Some, None}
 use Prim.Native.Nat.{ℕ, zero, suc, ◌*◌, ◌≤◌}
 use mathlib.Core.Path.{◌≡◌, refl, sym, ap, ap₂, ◌∙◌, fun_ext}
 use mathlib.Core.Bool.{Bool, true, false, cond, ◌||◌}
 use mathlib.Core.List.{List, [], ◌∷◌, ◌++◌}
-use mathlib.Core.Option.{some, none}
 use lib.Dec.{ltb}
 use borrow.Author.Tests.{le-ltb}
 use native.Mathlib.Omega.{arith}
@@ -38,12 +38,12 @@ pub too_long : (s : Bytes) → ltb 32768 (length s) ≡ true → 1 ≡ number_of
 unfolding read_register
 too_long s h = rw h
 
-pub not_lines : (s : Bytes) → ltb 32768 (length s) ≡ false → entries s ≡ none → 2 ≡ number_of (read_register s)
+pub not_lines : (s : Bytes) → ltb 32768 (length s) ≡ false → entries s ≡ None → 2 ≡ number_of (read_register s)
 unfolding read_register
 not_lines s h e = rw (h, e)
 
 -- a text that reads as the entries k
-module _ (s : Bytes) (k : List Entry) (h : ltb 32768 (length s) ≡ false) (e : entries s ≡ some k) where
+module _ (s : Bytes) (k : List Entry) (h : ltb 32768 (length s) ≡ false) (e : entries s ≡ Some k) where
   pub not_ruled : any breaks_rule k ≡ true → 3 ≡ number_of (read_register s)
   unfolding read_register judge
   not_ruled r = rw (h, e, r)

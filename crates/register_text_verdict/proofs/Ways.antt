@@ -1,9 +1,9 @@
 -- One law for each way through a function over one row, or two.
+use Rattle.std.specs.Prelude.{Option, Some, None}
 use Prim.Native.Nat.{ℕ, ◌+◌, ◌≤◌, ◌<◌}
 use mathlib.Core.Path.{◌≡◌, refl, sym, ap, ap₂, ◌∙◌}
 use mathlib.Core.Bool.{Bool, true, false, cond, not, ◌&&◌, false≢true, true≢false}
 use mathlib.Core.List.{List}
-use mathlib.Core.Option.{Option, some, none}
 use native.Mathlib.Numerals.{add-one}
 use native.Mathlib.Omega.{arith}
 use lib.ListN.{length, get_or, take, drop, length-take, drop_of_length-le}
@@ -11,13 +11,10 @@ use lib.Seq.{drop-cons, get_or-take}
 use Rattle.text.specs.Bytes.{Bytes, same, part}
 use Rattle.text.specs.Parts.{part_of}
 use Rattle.values.specs.declared.Kind.{Kind}
-use Rattle.values.specs.declared.KindRead.{KindRead}
 use Rattle.values.specs.declared.Scalar.{Scalar}
-use Rattle.values.specs.declared.CodeRead.{CodeRead}
 use Rattle.names.specs.Names.{is_name, is_property_name, is_namespace}
 use Rattle.values.specs.Names.{is_value, is_reference, reference, composed_reference, identifier}
 use Rattle.values.specs.Values.{map_option, scalar, plain, link, read_scalar, read_link, read_value}
-use Rattle.values.specs.Answers.{code_read, kind_read}
 use Rattle.language.specs.Answer.{◌>>=◌, found}
 use Rattle.language.specs.Register.{Typing}
 use Rattle.language.specs.RegisterText.{breaks_rule, same_declared}
@@ -49,41 +46,41 @@ pub ruleset rules = (rule_prop, rule_cat, rule_page, rule_val)
 
 -- A value of a kind.
 some_map : {A B : Type 0} (f : A → B) (o : Option A) → found o (λ w. true) false ≡ found (map_option f o) (λ w. true) false
-some_map f none = refl
-some_map f (some a) = refl
+some_map f None = refl
+some_map f (Some a) = refl
 
-some_cond : {A : Type 0} (b : Bool) (a : A) → b ≡ found (cond b (some a) none) (λ w. true) false
+some_cond : {A : Type 0} (b : Bool) (a : A) → b ≡ found (cond b (Some a) None) (λ w. true) false
 some_cond true a = refl
 some_cond false a = refl
 
-is_code : (o : Option ℕ) (n : ℕ) → code_read o ≡ CodeRead.Code n → true ≡ found o (λ w. true) false
-is_code none n h = cc
-is_code (some z) n h = refl
+is_code : (o : Option ℕ) (n : ℕ) → o ≡ Some n → true ≡ found o (λ w. true) false
+is_code None n h = cc
+is_code (Some z) n h = refl
 
-no_code : (o : Option ℕ) → code_read o ≡ CodeRead.Unfit → false ≡ found o (λ w. true) false
-no_code none h = refl
-no_code (some z) h = cc
+no_code : (o : Option ℕ) → o ≡ None → false ≡ found o (λ w. true) false
+no_code None h = refl
+no_code (Some z) h = cc
 
 module _ (v : Bytes) (k : Kind) where
   pub fits_page : (r : Bool) → k ≡ Kind.Page → r ≡ is_reference (reference v) → r ≡ found (read_value k v) (λ w. true) false
   unfolding read_link
   fits_page r h e = rw h (e ∙ some_cond (is_reference (reference v)) (identifier (composed_reference (reference v))) ∙ some_map link (read_link v))
 
-  module _ (j : Scalar) (h : k ≡ Kind.Scalar j) (r : CodeRead) (e : r ≡ code_read (read_scalar j v)) where
+  module _ (j : Scalar) (h : k ≡ Kind.Scalar j) (r : Option ℕ) (e : r ≡ (read_scalar j v)) where
     as_scalar : found (read_scalar j v) (λ w. true) false ≡ found (read_value k v) (λ w. true) false
     as_scalar = rw h (some_map (scalar j) (read_scalar j v) ∙ some_map plain (map_option (scalar j) (read_scalar j v)))
 
-    pub fits_scalar : (n : ℕ) → r ≡ CodeRead.Code n → true ≡ found (read_value k v) (λ w. true) false
+    pub fits_scalar : (n : ℕ) → r ≡ Some n → true ≡ found (read_value k v) (λ w. true) false
     fits_scalar n f = is_code (read_scalar j v) n (sym e ∙ f) ∙ as_scalar
 
-    pub unfit_scalar : r ≡ CodeRead.Unfit → false ≡ found (read_value k v) (λ w. true) false
+    pub unfit_scalar : r ≡ None → false ≡ found (read_value k v) (λ w. true) false
     unfit_scalar f = no_code (read_scalar j v) (sym e ∙ f) ∙ as_scalar
 
 pub ruleset fit = (fits_page, fits_scalar, unfit_scalar)
 
 -- The kind of a property.
 module _ (x : Bytes) where
-  pub kind_by : (g : Tag) (k : Kind) (a b : Bytes) → declared_kind x (entry_by g k a b) ≡ cond (declares_tag Declared.Property g && same a x) (some k) none
+  pub kind_by : (g : Tag) (k : Kind) (a b : Bytes) → declared_kind x (entry_by g k a b) ≡ cond (declares_tag Declared.Property g && same a x) (Some k) None
   kind_by Tag.Prop k a b = refl
   kind_by Tag.Page k a b = refl
   kind_by Tag.Cat k a b = refl
@@ -92,65 +89,65 @@ module _ (x : Bytes) where
   kind_by Tag.Broken k a b = refl
 
 module _ (s : Bytes) (t rows : List ℕ) (m : ℕ) (x : Bytes) (k : ℕ) (inv : kinds_in s t rows m x ≡ first_in (λ i. declared_kind x (entry_at s t i)) (drop k (take m rows))) where
-  none_left : length (take m rows) ≤ k → KindRead.Nothing ≡ kind_read (kinds_in s t rows m x)
+  none_left : length (take m rows) ≤ k → None ≡ (kinds_in s t rows m x)
   unfolding first_in
   none_left h =
-      ap kind_read (sym (inv ∙ ap (first_in (λ i. declared_kind x (entry_at s t i))) (drop_of_length-le (take m rows) h)))
+      (sym (inv ∙ ap (first_in (λ i. declared_kind x (entry_at s t i))) (drop_of_length-le (take m rows) h)))
 
-  pub kind_past : length rows ≤ k → KindRead.Nothing ≡ kind_read (kinds_in s t rows m x)
+  pub kind_past : length rows ≤ k → None ≡ (kinds_in s t rows m x)
   kind_past h = none_left (simp length-take (omega arith))
 
-  pub kind_none : m ≤ k → KindRead.Nothing ≡ kind_read (kinds_in s t rows m x)
+  pub kind_none : m ≤ k → None ≡ (kinds_in s t rows m x)
   kind_none h = none_left (simp length-take (omega arith))
 
   module _ (below : k < m) (within : k < length rows) (n : ℕ) (e : n ≡ get_or rows k 0) (i : Item) (f : (u : Bytes) → entry_in u i ≡ entry_at u t n)
       (b : Bool) (hb : b ≡ declares_tag Declared.Property i.tag) (y : Bytes) (hy : y ≡ part s i.first.start i.first.len) (r : Bool) (hr : r ≡ same y x) where
-    kind_row : declared_kind x (entry_at s t (get_or rows k 0)) ≡ cond (b && r) (some i.kind) none
+    kind_row : declared_kind x (entry_at s t (get_or rows k 0)) ≡ cond (b && r) (Some i.kind) None
     kind_row =
         ap (declared_kind x) (ap (entry_at s t) (sym e) ∙ sym (f s)) ∙ kind_by x i.tag i.kind _ _ ∙ rw (hb, hr, hy)
 
-    kind_step : kinds_in s t rows m x ≡ found (cond (b && r) (some i.kind) none) some (first_in (λ j. declared_kind x (entry_at s t j)) (drop (k + 1) (take m rows)))
+    kind_step : kinds_in s t rows m x ≡ found (cond (b && r) (Some i.kind) None) Some (first_in (λ j. declared_kind x (entry_at s t j)) (drop (k + 1) (take m rows)))
     unfolding first_in
     kind_step =
         let l : k < length (take m rows) = simp length-take (omega arith) in
         inv ∙ rw (add-one k, drop-cons (take m rows) k 0 l, get_or-take m rows k 0 below, kind_row)
 
-    pub kind_here : b && r ≡ true → KindRead.Kind i.kind ≡ kind_read (kinds_in s t rows m x)
-    kind_here h = let e' : kinds_in s t rows m x ≡ some i.kind = kind_step ∙ rw h in ap kind_read (sym e')
+    pub kind_here : b && r ≡ true → Some i.kind ≡ (kinds_in s t rows m x)
+    kind_here h = let e' : kinds_in s t rows m x ≡ Some i.kind = kind_step ∙ rw h in (sym e')
 
     pub kind_later : b && r ≡ false → kinds_in s t rows m x ≡ first_in (λ j. declared_kind x (entry_at s t j)) (drop (k + 1) (take m rows))
     kind_later h = kind_step ∙ rw h
 
 -- 5 and 6 of a val form.
-read_some : (o : Option Kind) (k : Kind) → kind_read o ≡ KindRead.Kind k → o ≡ some k
-read_some none k h = cc
-read_some (some j) k h = cc
+read_some : (o : Option Kind) (k : Kind) → o ≡ Some k → o ≡ Some k
+read_some None k h = cc
+read_some (Some j) k h = cc
 
-read_none : (o : Option Kind) → kind_read o ≡ KindRead.Nothing → o ≡ none
-read_none none h = refl
-read_none (some j) h = cc
+read_none : (o : Option Kind) → o ≡ None → o ≡ None
+read_none None h = refl
+read_none (Some j) h = cc
 
 not_found : {A : Type 0} (o : Option A) → not (found o (λ w. true) false) ≡ found o (λ w. false) true
-not_found none = refl
-not_found (some a) = refl
+not_found None = refl
+not_found (Some a) = refl
 
-module _ (s : Bytes) (t props : List ℕ) (m : ℕ) (i : Item) (h : i.tag ≡ Tag.Val) (p : Bytes) (e : p ≡ part s i.first.start i.first.len) (r : KindRead) (f : r ≡ kind_read (kinds_in s t props m p)) where
-  kind_of_lem : r ≡ kind_read (kinds_in s t props m (part_of s i.first))
-  kind_of_lem = f ∙ ap (λ z. kind_read (kinds_in s t props m z)) e
+module _ (s : Bytes) (t props : List ℕ) (m : ℕ) (i : Item) (h : i.tag ≡ Tag.Val) (p : Bytes) (e : p ≡ part s i.first.start i.first.len) (r : Option Kind) (f : r ≡ (kinds_in s t props m p)) where
+  kind_of_lem : r ≡ (kinds_in s t props m (part_of s i.first))
+  kind_of_lem = f ∙ ap (λ z. (kinds_in s t props m z)) e
 
-  pub undeclared_not : (k : Kind) → r ≡ KindRead.Kind k → false ≡ fails Check.Undeclared (kinds_in s t props m) (entry_in s i)
+  pub undeclared_not : (k : Kind) → r ≡ Some k → false ≡ fails Check.Undeclared (kinds_in s t props m) (entry_in s i)
   undeclared_not k g =
       rw h (ap (λ o. found o (λ j. false) true) (sym (read_some (kinds_in s t props m (part_of s i.first)) k (sym kind_of_lem ∙ g))))
 
-  pub undeclared_is : r ≡ KindRead.Nothing → true ≡ fails Check.Undeclared (kinds_in s t props m) (entry_in s i)
+  pub undeclared_is : r ≡ None → true ≡ fails Check.Undeclared (kinds_in s t props m) (entry_in s i)
   undeclared_is g =
       rw h (ap (λ o. found o (λ j. false) true) (sym (read_none (kinds_in s t props m (part_of s i.first)) (sym kind_of_lem ∙ g))))
 
-  pub unfit_none : r ≡ KindRead.Nothing → true ≡ fails Check.Unfit (kinds_in s t props m) (entry_in s i)
+  pub unfit_none : r ≡ None → true ≡ fails Check.Unfit (kinds_in s t props m) (entry_in s i)
   unfit_none g =
       rw h (ap (λ o. found (o >>= λ j. read_value j (part_of s i.second)) (λ w. false) true) (sym (read_none (kinds_in s t props m (part_of s i.first)) (sym kind_of_lem ∙ g))))
 
-  pub unfit_some : (k : Kind) → r ≡ KindRead.Kind k → (v : Bytes) → v ≡ part s i.second.start i.second.len → (b : Bool) → b ≡ found (read_value k v) (λ w. true) false → not b ≡ fails Check.Unfit (kinds_in s t props m) (entry_in s i)
+  pub unfit_some : (k : Kind) → r ≡ Some k → (v : Bytes) → v ≡ part s i.second.start i.second.len → (b : Bool) → b ≡ found (read_value k v) (λ w. true) false → not b ≡ fails Check.Unfit (kinds_in s t props m) (entry_in s i)
   unfit_some k g v q b u =
       ap not (u ∙ ap (λ z. found (read_value k z) (λ w. true) false) q)
       ∙ not_found (read_value k (part_of s i.second))

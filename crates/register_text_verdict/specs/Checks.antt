@@ -1,6 +1,5 @@
 -- Working definitions: what the functions over rows answer.
-use Rattle.std.specs.Prelude.{ℕ, ◌≤◌, ◌≡◌, Bool, true, false, cond, ◌||◌, List, [], ltb, length, take, get_or}
-use Rattle.std.proofs.Math.Option.{some}
+use Rattle.std.specs.Prelude.{ℕ, ◌≤◌, ◌≡◌, Bool, true, false, cond, ◌||◌, List, [], ltb, length, take, get_or, Some}
 use Rattle.text.specs.Bytes.{Bytes, any}
 use Rattle.text.specs.Table.{count_to}
 use Rattle.values.specs.Values.{read_value}
@@ -83,7 +82,7 @@ inner_in t n = count_to n (λ i. is_inner (entry_at [] t i))
 -- The first n rows of t are the entries of the text s.
 pub record RowsRead (s : Bytes) (t : List ℕ) (n : ℕ) : Type 0 where
   pub short : length s ≤ 32768
-  pub read : entries s ≡ some (entries_in s t n)
+  pub read : entries s ≡ Some (entries_in s t n)
   pub few : n ≤ 5500
 
 -- What reading a text answers, where its table has room: 1 or 2, or its entries are in the table.
@@ -94,7 +93,7 @@ pub record ReadsRows (s : Bytes) (t : List ℕ) (r : TypedRows) : Type 0 where
 -- The same, and their names and values keep their rules as typed.
 pub record Typed (s : Bytes) (t : List ℕ) (n : ℕ) : Type 0 where
   pub short : length s ≤ 32768
-  pub read : entries s ≡ some (entries_in s t n)
+  pub read : entries s ≡ Some (entries_in s t n)
   pub ruled : any breaks_rule (entries_in s t n) ≡ false
   pub few : n ≤ 5500
 
@@ -107,7 +106,7 @@ pub record JudgesTyped (s : Bytes) (t : List ℕ) (r : TypedRows) : Type 0 where
 pub record Prepared (s c : Bytes) (t : List ℕ) (n : ℕ) : Type 0 where
   pub typed : List Entry
   pub short : length s ≤ 32768
-  pub read : entries s ≡ some typed
+  pub read : entries s ≡ Some typed
   pub ruled : any breaks_rule typed ≡ false
   pub rows : entries_in c t n ≡ composed_entries typed
   pub few : n ≤ 5500

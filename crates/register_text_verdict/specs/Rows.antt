@@ -1,7 +1,6 @@
 -- Working definitions: a register as rows of a table. A row is one entry of the text; two lists of row numbers say which rows
 -- are properties and which are pages.
-use Rattle.std.specs.Prelude.{ℕ, zero, suc, Bool, true, false, cond, ◌||◌, List, [], ◌∷◌, ◌++◌, length, get_or}
-use Rattle.std.proofs.Math.Option.{Option, some, none}
+use Rattle.std.specs.Prelude.{ℕ, zero, suc, Bool, true, false, cond, ◌||◌, List, [], ◌∷◌, ◌++◌, length, get_or, Option, Some, None}
 use Rattle.text.specs.Bytes.{Bytes, same}
 use Rattle.values.specs.declared.Kind.{Kind}
 use Rattle.language.specs.Answer.{found}
@@ -35,13 +34,13 @@ is_prop close = false
 
 -- The kind that an entry declares x with, if it does.
 abbrev pub declared_kind : Bytes → Entry → Option Kind
-declared_kind x (prop y k) = cond (same y x) (some k) none
-declared_kind x (page n y) = none
-declared_kind x (cat y) = none
-declared_kind x (val y v) = none
-declared_kind x close = none
+declared_kind x (prop y k) = cond (same y x) (Some k) None
+declared_kind x (page n y) = None
+declared_kind x (cat y) = None
+declared_kind x (val y v) = None
+declared_kind x close = None
 
 -- The first kind that is found in a list of rows.
 unfoldable pub first_in : (ℕ → Option Kind) → List ℕ → Option Kind
-first_in g [] = none
-first_in g (i ∷ l) = found (g i) some (first_in g l)
+first_in g [] = None
+first_in g (i ∷ l) = found (g i) Some (first_in g l)

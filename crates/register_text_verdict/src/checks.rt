@@ -2,7 +2,6 @@
 ghost use Rattle.std.specs.Prelude.{◌≡◌, true, false};
 ghost use Rattle.text.specs.Table.{bit};
 ghost use Rattle.values.specs.Values.{read_value};
-ghost use Rattle.values.specs.Answers.{kind_read};
 ghost use Rattle.language.specs.Answer.{found};
 ghost use Rattle.language.specs.RegisterText.{breaks_rule, same_declared};
 ghost use Rattle.register_text_entries.specs.Items.{entry_in};
@@ -14,9 +13,9 @@ use super::{Check, Declared};
 use names::{is_name, is_namespace, is_property_name};
 use register_text_entries::table::item_at;
 use register_text_entries::{Item, Tag};
-use tables::num_at;
+use tables::get_or;
 use text::{part, same_bytes};
-use values::{CodeRead, Kind, KindRead, is_reference, is_value, read_scalar};
+use values::{Kind, is_reference, is_value, read_scalar};
 
 // Whether an entry declares what is looked for.
 pub fn is_declared(what: Declared, tag: Tag) -> bool
@@ -50,25 +49,25 @@ pub fn bit_of(b: bool) -> usize
 }
 
 // The kind that the first m of a list of rows declare x with.
-pub fn property_kind(s: &[u8], t: &[u16], rows: &[u16], m: usize, x: &[u8]) -> KindRead
-    ensures { result ≡ kind_read (kinds_in s.now t.now rows.now m x.now) }
+pub fn property_kind(s: &[u8], t: &[u16], rows: &[u16], m: usize, x: &[u8]) -> Option<Kind>
+    ensures { result ≡ kinds_in s.now t.now rows.now m x.now }
 {
     let mut k: usize = 0;
     while k < m {
         if rows.len() <= k {
-            return KindRead::Nothing;
+            return None;
         }
-        let item = item_at(t, num_at(rows, k));
+        let item = item_at(t, usize::from(get_or(rows, k, 0)));
         let tag = item.tag;
         let kind = item.kind;
         let name = item.first;
         let declared = is_declared(Declared::Property, tag);
         if declared & same_bytes(part(s, name.start, name.len), x) {
-            return KindRead::Kind(kind);
+            return Some(kind);
         }
         k += 1;
     }
-    KindRead::Nothing
+    None
 }
 
 // Whether a value is fit for a kind.
@@ -78,8 +77,8 @@ pub fn value_fits(kind: Kind, v: &[u8]) -> bool
     match kind {
         Kind::Page => is_reference(v),
         Kind::Scalar(k) => match read_scalar(k, v) {
-            CodeRead::Code(_) => true,
-            CodeRead::Unfit => false,
+            Some(_) => true,
+            None => false,
         },
         Kind::String => true,
     }
@@ -111,8 +110,8 @@ pub fn is_undeclared(s: &[u8], t: &[u16], props: &[u16], m: usize, item: Item) -
     let x = item.first;
     match tag {
         Tag::Val => match property_kind(s, t, props, m, part(s, x.start, x.len)) {
-            KindRead::Kind(_) => false,
-            KindRead::Nothing => true,
+            Some(_) => false,
+            None => true,
         },
         Tag::Prop => false,
         Tag::Page => false,
@@ -131,8 +130,8 @@ pub fn is_unfit(s: &[u8], t: &[u16], props: &[u16], m: usize, item: Item) -> boo
     let v = item.second;
     match tag {
         Tag::Val => match property_kind(s, t, props, m, part(s, x.start, x.len)) {
-            KindRead::Kind(k) => !value_fits(k, part(s, v.start, v.len)),
-            KindRead::Nothing => true,
+            Some(k) => !value_fits(k, part(s, v.start, v.len)),
+            None => true,
         },
         Tag::Prop => false,
         Tag::Page => false,

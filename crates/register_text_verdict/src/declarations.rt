@@ -6,7 +6,7 @@ ghost use Rattle.register_text_verdict.specs.Names.{Closed, Joins, Pieces, Names
 use super::Piece;
 use register_text_entries::table::{item_at, put};
 use register_text_entries::{Item, Tag};
-use tables::num_at;
+use tables::get_or;
 use text::{Class, Span, scan, word_at};
 
 // Whether a part has no quotation mark and the word w stands behind it.
@@ -86,7 +86,7 @@ pub fn list_names(
     }
     let mut k: usize = 0;
     while k < m {
-        let Piece::At(p) = piece_of(s, item_at(t, num_at(rows, k))) else {
+        let Piece::At(p) = piece_of(s, item_at(t, usize::from(get_or(rows, k, 0)))) else {
             return false;
         };
         put_start(starts, k, p.start);

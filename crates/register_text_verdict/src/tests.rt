@@ -11,7 +11,7 @@ use super::declarations::list_names;
 use dictionary::build;
 use register_text_entries::Tag;
 use register_text_entries::table::item_at;
-use tables::num_at;
+use tables::get_or;
 
 // Up to so many rows are compared in pairs.
 const FEW: usize = 12;
@@ -33,11 +33,11 @@ pub fn some_row(s: &[u8], t: &[u16], n: usize, props: &[u16], m: usize, check: C
 pub fn like_before(s: &[u8], t: &[u16], rows: &[u16], k: usize) -> bool
     ensures { result ≡ any_to k (λ a. same_declared (entry_at s.now t.now (get_or rows.now a 0)) (entry_at s.now t.now (get_or rows.now k 0))) }
 {
-    let this = item_at(t, num_at(rows, k));
+    let this = item_at(t, usize::from(get_or(rows, k, 0)));
     let mut some = false;
     let mut a: usize = 0;
     while a < k {
-        some = some | are_alike(s, item_at(t, num_at(rows, a)), this);
+        some = some | are_alike(s, item_at(t, usize::from(get_or(rows, a, 0))), this);
         a += 1;
     }
     some

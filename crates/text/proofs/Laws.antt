@@ -9,8 +9,10 @@ use lib.Dec.{ltb, eqb, eqb-suc-suc, eqb-zero-suc, eqb-suc-zero}
 use lib.ListN.{length, take, drop, get_or, drop_of_length-le, length-drop, length-take}
 use lib.Seq.{drop-cons, length-take-le}
 use borrow.Author.Tests.{lt-ltb, le-ltb, ltb-true, ltb-false, eqb-true, eq-eqb, ne_eqb}
+use Rattle.std.specs.Ordering.{nat_cmp}
+use Rattle.std.proofs.Common.{rules}
 use Rattle.text.specs.Bytes.{Bytes, order_of, numbers, same, any, all, span, starts, part}
-use Rattle.text.specs.declared.Order.TheVariants.{Less, Equal, Greater}
+use Rattle.std.specs.declared.cmp.Ordering.TheVariants.{Less, Equal, Greater}
 
 -- A part that lies within a text is as long as it says.
 pub part_length : (s : Bytes) (start len : ℕ) → start + len ≤ length s → length (part s start len) ≡ len
@@ -88,6 +90,11 @@ module _ (a b : ℕ) where
   pub numbers_equal : b ≤ a → a ≤ b → numbers a b ≡ Equal
   unfolding numbers
   numbers_equal h k = rw (le-ltb a b h, le-ltb b a k)
+
+-- Numbers are compared as the library compares them.
+pub numbers_cmp : (a b : ℕ) → nat_cmp a b ≡ numbers a b
+unfolding numbers
+numbers_cmp a b = search (rules)
 
 -- Two pairs of numbers that stand alike have one order.
 pub numbers_like : (a b c d : ℕ) → (a < b → c < d) × (b < a → d < c) → (b ≤ a → d ≤ c) × (a ≤ b → c ≤ d) → numbers a b ≡ numbers c d

@@ -1,10 +1,9 @@
 -- Byte strings: their order, parts of them, trimming, a word at the front. Document 01, "Names, values and kinds".
-use Rattle.std.specs.Prelude.{ℕ, suc, Bool, true, false, cond, ◌&&◌, ◌||◌, List, [], ◌∷◌, ltb, eqb, length, take, drop}
+use Rattle.std.specs.Prelude.{ℕ, suc, Bool, true, false, cond, ◌&&◌, ◌||◌, List, [], ◌∷◌, ltb, eqb, length, take, drop, Option, Some, None}
 use Prim.Native.Char.{code}
 use Prim.Native.String.{String, [] as nil, ◌∷◌ as ◌then◌}
-use Rattle.std.proofs.Math.Option.{Option, some, none}
-use Rattle.text.specs.declared.Order.{Order}
-use Rattle.text.specs.declared.Order.TheVariants.{Less, Equal, Greater}
+use Rattle.std.specs.declared.cmp.Ordering.{Ordering}
+use Rattle.std.specs.declared.cmp.Ordering.TheVariants.{Less, Equal, Greater}
 
 -- A string of bytes, each a number below 256.
 abbrev pub Bytes : Type 0
@@ -16,11 +15,11 @@ bytes nil = []
 bytes (c then s) = code c ∷ bytes s
 
 -- The order of two numbers.
-unfoldable pub numbers : ℕ → ℕ → Order
+unfoldable pub numbers : ℕ → ℕ → Ordering
 numbers a b = cond (ltb a b) Less (cond (ltb b a) Greater Equal)
 
 -- "compared byte by byte, bytes unsigned, a proper prefix being less"
-unfoldable pub order_of : Bytes → Bytes → Order
+unfoldable pub order_of : Bytes → Bytes → Ordering
 order_of [] [] = Equal
 order_of [] (y ∷ t) = Less
 order_of (x ∷ s) [] = Greater
@@ -80,7 +79,7 @@ starts (c ∷ w) (b ∷ s) = elim (eqb b c) [ true ↦ starts w s | false ↦ fa
 
 -- What is behind the word w, where it stands at the front.
 unfoldable pub after : Bytes → Bytes → Option Bytes
-after w s = cond (starts w s) (some (drop (length w) s)) none
+after w s = cond (starts w s) (Some (drop (length w) s)) None
 
 -- The len bytes from start, as far as there are any.
 abbrev pub part : Bytes → ℕ → ℕ → Bytes

@@ -2,18 +2,13 @@
 #![tactic(auto)]
 
 ghost use Rattle.std.specs.Prelude.{◌≡◌, ◌+◌, ◌<◌, eqb, length, get_or, drop};
-ghost use Rattle.text.specs.Bytes.{any, all, same, order_of, numbers, span, starts, trim_end, part as part_from};
+ghost use Rattle.text.specs.Bytes.{any, all, same, order_of, span, starts, trim_end, part as part_from};
 ghost use Rattle.text.specs.Class.{one_of, in_class};
 ghost use Rattle.text.specs.Keys.{key_to};
 ghost use Rattle.text.specs.Parts.{Trimmed};
 
-// How two byte strings stand to one another.
-#[derive(Clone, Copy)]
-pub enum Order {
-    Less,
-    Equal,
-    Greater,
-}
+use std::cmp::Ordering;
+use tables::get_or;
 
 // The byte classes that a scan goes by.
 #[derive(Clone, Copy)]
@@ -35,20 +30,6 @@ pub struct Span {
     pub len: usize,
 }
 
-// The byte at a place, 0 past the end.
-pub fn byte_at(s: &[u8], i: usize) -> u8
-    ensures { result ≡ get_or s.now i 0 }
-{
-    if i < s.len() { s[i] } else { 0 }
-}
-
-// A byte as a wider number.
-pub fn widen(b: u8) -> usize
-    ensures { result ≡ b }
-{
-    b as usize
-}
-
 // What there is of the len bytes from start.
 pub fn part(s: &[u8], start: usize, len: usize) -> &[u8]
     ensures { result.now ≡ part_from s.now start len }
@@ -63,21 +44,11 @@ pub fn part(s: &[u8], start: usize, len: usize) -> &[u8]
     &s[start..]
 }
 
-// How two numbers stand to one another.
-pub fn compare_numbers(a: u64, b: u64) -> Order
-    ensures { result ≡ numbers a b }
-{
-    if a < b {
-        return Order::Less;
-    }
-    if b < a { Order::Greater } else { Order::Equal }
-}
-
 // The byte at a place as a wider number, 0 past the end.
 pub fn digit(t: &[u8], i: usize) -> u64
     ensures { (result ≡ get_or t.now i 0) × (result < 256) }
 {
-    byte_at(t, i) as u64
+    u64::from(get_or(t, i, 0))
 }
 
 // The key of a string of eight bytes or more, which is compiled to one load.
@@ -115,32 +86,32 @@ pub fn key_at(s: &[u8], at: usize) -> u64
 }
 
 // How two byte strings stand to one another from a place on.
-fn compare_from(a: &[u8], b: &[u8], from: usize) -> Order
+fn compare_from(a: &[u8], b: &[u8], from: usize) -> Ordering
     ensures { result ≡ order_of (drop from a.now) (drop from b.now) }
 {
     let mut i = from;
     while i < a.len() {
         if b.len() <= i {
-            return Order::Greater;
+            return Ordering::Greater;
         }
         if a[i] < b[i] {
-            return Order::Less;
+            return Ordering::Less;
         }
         if b[i] < a[i] {
-            return Order::Greater;
+            return Ordering::Greater;
         }
         i += 1;
     }
     if i < b.len() {
-        Order::Less
+        Ordering::Less
     } else {
-        Order::Equal
+        Ordering::Equal
     }
 }
 
 // How two byte strings stand to one another. Eight bytes of each are one number while both have so many: the test of both lengths
 // lets the compiler load them at once.
-pub fn compare_long(a: &[u8], b: &[u8]) -> Order
+pub fn compare_long(a: &[u8], b: &[u8]) -> Ordering
     ensures { result ≡ order_of a.now b.now }
 {
     let mut i: usize = 0;
@@ -148,7 +119,7 @@ pub fn compare_long(a: &[u8], b: &[u8]) -> Order
         let x = key_at(a, i);
         let y = key_at(b, i);
         if x != y {
-            return compare_numbers(x, y);
+            return x.cmp(&y);
         }
         i += 8;
     }
@@ -156,7 +127,7 @@ pub fn compare_long(a: &[u8], b: &[u8]) -> Order
 }
 
 // The same, for strings of which one is often short: it is small, so that a compiler puts it into what calls it.
-pub fn compare(a: &[u8], b: &[u8]) -> Order
+pub fn compare(a: &[u8], b: &[u8]) -> Ordering
     ensures { result ≡ order_of a.now b.now }
 {
     if (8 <= a.len()) & (8 <= b.len()) {

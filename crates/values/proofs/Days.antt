@@ -1,9 +1,9 @@
 -- Laws of days: a code keeps their order and loses nothing, what is read is a day, and a day has one text.
+use Rattle.std.specs.Prelude.{Option, Some, None}
 use Prim.Native.Nat.{ℕ, ◌+◌, ◌-◌, ◌*◌, ◌/◌, ◌%◌, ◌≤◌, ◌<◌}
 use mathlib.Core.Path.{◌≡◌, refl, ap, sym, ◌∙◌, subst}
 use mathlib.Core.Bool.{Bool, true, false, cond, not, ◌&&◌, ◌||◌, and-eq-true_iff}
 use mathlib.Core.List.{[], ◌∷◌, ◌++◌}
-use mathlib.Core.Option.{Option, some, none}
 use native.Mathlib.Omega.{arith}
 use lib.Dec.{leb, ltb, eqb}
 use lib.ListN.{length, get_or, drop, drop_of_length-le}
@@ -14,8 +14,6 @@ use Rattle.text.specs.Class.{is_digit}
 use Rattle.text.proofs.Laws.{numbers_less, numbers_greater, numbers_equal}
 use Rattle.values.specs.Values.{decimal, read_digits, map_option}
 use Rattle.values.specs.Dates.{Date, date, is_leap_year, days_in, is_day, or_else, order_dates, date_code, date_from, real_day, read_date, two_digits, spell_date}
-use Rattle.values.specs.Answers.{code_read}
-use Rattle.values.specs.declared.CodeRead.{CodeRead}
 
 -- A day's numbers are small.
 month_le : (y m : ℕ) → days_in y m ≤ 31
@@ -89,26 +87,26 @@ date_order a b h k = years (ltb a.year b.year) (ltb b.year a.year) refl refl
         rw (numbers_equal a.year b.year l n) (months (omega arith) (ltb a.month b.month) (ltb b.month a.month) refl refl)
 
 -- What is read passed the test, and its parts are read.
-passed : {A : Type 0} (t : Bool) (o : Option A) (x : A) → cond t o none ≡ some x → (t ≡ true) × (o ≡ some x)
+passed : {A : Type 0} (t : Bool) (o : Option A) (x : A) → cond t o None ≡ Some x → (t ≡ true) × (o ≡ Some x)
 passed true o x h = (refl, h)
 passed false o x h = absurd (let l : ◌≡◌ {A = ℕ} 0 1 = cc in omega arith)
 
-real_read : (o p q : Option ℕ) (d : Date) → real_day o p q ≡ some d → (o ≡ some d.year) × (p ≡ some d.month) × (q ≡ some d.day) × (is_day d ≡ true)
-real_read none p q d h = absurd (let l : ◌≡◌ {A = ℕ} 0 1 = cc in omega arith)
-real_read (some y) none q d h = absurd (let l : ◌≡◌ {A = ℕ} 0 1 = cc in omega arith)
-real_read (some y) (some m) none d h = absurd (let l : ◌≡◌ {A = ℕ} 0 1 = cc in omega arith)
-real_read (some y) (some m) (some n) d h =
-    let t = passed (is_day (date y m n)) (some (date y m n)) d h in
+real_read : (o p q : Option ℕ) (d : Date) → real_day o p q ≡ Some d → (o ≡ Some d.year) × (p ≡ Some d.month) × (q ≡ Some d.day) × (is_day d ≡ true)
+real_read None p q d h = absurd (let l : ◌≡◌ {A = ℕ} 0 1 = cc in omega arith)
+real_read (Some y) None q d h = absurd (let l : ◌≡◌ {A = ℕ} 0 1 = cc in omega arith)
+real_read (Some y) (Some m) None d h = absurd (let l : ◌≡◌ {A = ℕ} 0 1 = cc in omega arith)
+real_read (Some y) (Some m) (Some n) d h =
+    let t = passed (is_day (date y m n)) (Some (date y m n)) d h in
     let e : date y m n ≡ d = cc in
-    (ap (λ (d : Date). some d.year) e, ap (λ (d : Date). some d.month) e, ap (λ (d : Date). some d.day) e, rw (← e) t.0)
+    (ap (λ (d : Date). Some d.year) e, ap (λ (d : Date). Some d.month) e, ap (λ (d : Date). Some d.day) e, rw (← e) t.0)
 
-pub read_date_day : (s : Bytes) (d : Date) → read_date s ≡ some d → is_day d ≡ true
+pub read_date_day : (s : Bytes) (d : Date) → read_date s ≡ Some d → is_day d ≡ true
 unfolding read_date
 read_date_day s d h =
     let t = passed (eqb (length s) 10 && eqb (get_or s 4 0) 45 && eqb (get_or s 7 0) 45) (real_day (read_digits (part s 0 4)) (read_digits (part s 5 2)) (read_digits (part s 8 2))) d h in
     (real_read (read_digits (part s 0 4)) (read_digits (part s 5 2)) (read_digits (part s 8 2)) d t.1).3
 
-pub read_date_long : (s : Bytes) (d : Date) → read_date s ≡ some d → length s ≡ 10
+pub read_date_long : (s : Bytes) (d : Date) → read_date s ≡ Some d → length s ≡ 10
 unfolding read_date
 read_date_long s d h =
     let t = (and-eq-true_iff _ (eqb (get_or s 7 0) 45)).0 (passed _ _ d h).0 in
@@ -119,7 +117,7 @@ digit_between : (b : ℕ) → is_digit b ≡ true → (48 ≤ b) × (b ≤ 57)
 unfolding is_digit
 digit_between b h = let t = (and-eq-true_iff (leb 48 b) (leb b 57)).0 h in (leb-true 48 b t.0, leb-true b 57 t.1)
 
-two_read : (a b n : ℕ) → read_digits (a ∷ b ∷ []) ≡ some n → a ∷ b ∷ [] ≡ two_digits n
+two_read : (a b n : ℕ) → read_digits (a ∷ b ∷ []) ≡ Some n → a ∷ b ∷ [] ≡ two_digits n
 unfolding read_digits all decimal
 two_read a b n h =
     let t = passed _ _ n h in
@@ -131,7 +129,7 @@ two_read a b n h =
     let g : b ≡ 48 + n % 10 = omega (arith, x.0, x.1, y.0, y.1) in
     rw (← f, ← g)
 
-four_read : (a b c d n : ℕ) → read_digits (a ∷ b ∷ c ∷ d ∷ []) ≡ some n → a ∷ b ∷ c ∷ d ∷ [] ≡ two_digits (n / 100) ++ two_digits (n % 100)
+four_read : (a b c d n : ℕ) → read_digits (a ∷ b ∷ c ∷ d ∷ []) ≡ Some n → a ∷ b ∷ c ∷ d ∷ [] ≡ two_digits (n / 100) ++ two_digits (n % 100)
 unfolding read_digits all decimal
 four_read a b c d n h =
     let t = passed _ _ n h in
@@ -168,7 +166,7 @@ ten s l =
       end,
     )
 
-ten_read : (a b c d u e f v g h : ℕ) (x : Date) → read_date (a ∷ b ∷ c ∷ d ∷ u ∷ e ∷ f ∷ v ∷ g ∷ h ∷ []) ≡ some x → a ∷ b ∷ c ∷ d ∷ u ∷ e ∷ f ∷ v ∷ g ∷ h ∷ [] ≡ spell_date x
+ten_read : (a b c d u e f v g h : ℕ) (x : Date) → read_date (a ∷ b ∷ c ∷ d ∷ u ∷ e ∷ f ∷ v ∷ g ∷ h ∷ []) ≡ Some x → a ∷ b ∷ c ∷ d ∷ u ∷ e ∷ f ∷ v ∷ g ∷ h ∷ [] ≡ spell_date x
 unfolding read_date
 ten_read a b c d u e f v g h x r =
     let t = passed _ _ x r in
@@ -181,12 +179,12 @@ ten_read a b c d u e f v g h x r =
     ∙ ap (λ (n : Bytes). dashed (two_digits (x.year / 100) ++ two_digits (x.year % 100)) (two_digits x.month) n) (two_read g h x.day o.2)))
 
 -- A day has one text.
-pub date_spelled : (s : Bytes) (d : Date) → read_date s ≡ some d → s ≡ spell_date d
+pub date_spelled : (s : Bytes) (d : Date) → read_date s ≡ Some d → s ≡ spell_date d
 date_spelled s d h =
     let e = ten s (read_date_long s d h) in
-    e ∙ ten_read _ _ _ _ _ _ _ _ _ _ d (subst (λ (s : Bytes). read_date s ≡ some d) e h)
+    e ∙ ten_read _ _ _ _ _ _ _ _ _ _ d (subst (λ (s : Bytes). read_date s ≡ Some d) e h)
 
-pub one_text : (s t : Bytes) (d e : Date) → read_date s ≡ some d → read_date t ≡ some e → date_code d ≡ date_code e → s ≡ t
+pub one_text : (s t : Bytes) (d e : Date) → read_date s ≡ Some d → read_date t ≡ Some e → date_code d ≡ date_code e → s ≡ t
 one_text s t d e h k q =
     let f : d ≡ e = sym (date_of_code d (read_date_day s d h)) ∙ (ap date_from q ∙ date_of_code e (read_date_day t e k)) in
     date_spelled s d h ∙ (ap spell_date f ∙ sym (date_spelled t e k))
@@ -222,49 +220,49 @@ module _ (y m : ℕ) where
 pub ruleset calendar = (leap_is, leap_february, plain_february, short_month, long_month, day_is)
 
 -- The ways to read a date.
-pub told : (o : Option ℕ) (r : CodeRead) (n : ℕ) → r ≡ code_read o → r ≡ CodeRead.Code n → o ≡ some n
-told none r n e f = cc
-told (some m) r n e f = let q : n ≡ m = cc in rw q
+pub told : (o : Option ℕ) (r : Option ℕ) (n : ℕ) → r ≡ o → r ≡ Some n → o ≡ Some n
+told None r n e f = cc
+told (Some m) r n e f = let q : n ≡ m = cc in rw q
 
-untold : (o : Option ℕ) (r : CodeRead) → r ≡ code_read o → r ≡ CodeRead.Unfit → o ≡ none
-untold none r e f = refl
-untold (some m) r e f = cc
+untold : (o : Option ℕ) (r : Option ℕ) → r ≡ o → r ≡ None → o ≡ None
+untold None r e f = refl
+untold (Some m) r e f = cc
 
-module _ (o p q : Option ℕ) (u : CodeRead) (e : u ≡ code_read o) where
-  pub no_year : u ≡ CodeRead.Unfit → CodeRead.Unfit ≡ code_read (map_option date_code (real_day o p q))
+module _ (o p q : Option ℕ) (u : Option ℕ) (e : u ≡ o) where
+  pub no_year : u ≡ None → None ≡ (map_option date_code (real_day o p q))
   no_year h = rw (untold o u e h)
 
-  module _ (y : ℕ) (j : u ≡ CodeRead.Code y) (v : CodeRead) (f : v ≡ code_read p) where
-    pub no_month : v ≡ CodeRead.Unfit → CodeRead.Unfit ≡ code_read (map_option date_code (real_day o p q))
+  module _ (y : ℕ) (j : u ≡ Some y) (v : Option ℕ) (f : v ≡ p) where
+    pub no_month : v ≡ None → None ≡ (map_option date_code (real_day o p q))
     no_month h = rw (told o u y e j, untold p v f h)
 
-    module _ (m : ℕ) (k : v ≡ CodeRead.Code m) (w : CodeRead) (g : w ≡ code_read q) where
-      pub no_day_read : w ≡ CodeRead.Unfit → CodeRead.Unfit ≡ code_read (map_option date_code (real_day o p q))
+    module _ (m : ℕ) (k : v ≡ Some m) (w : Option ℕ) (g : w ≡ q) where
+      pub no_day_read : w ≡ None → None ≡ (map_option date_code (real_day o p q))
       no_day_read h = rw (told o u y e j, told p v m f k, untold q w g h)
 
-      module _ (d : ℕ) (l : w ≡ CodeRead.Code d) (b : Bool) (t : b ≡ is_day (date y m d)) where
-        pub a_day : b ≡ true → CodeRead.Code (10000 * y + 100 * m + d) ≡ code_read (map_option date_code (real_day o p q))
+      module _ (d : ℕ) (l : w ≡ Some d) (b : Bool) (t : b ≡ is_day (date y m d)) where
+        pub a_day : b ≡ true → Some (10000 * y + 100 * m + d) ≡ (map_option date_code (real_day o p q))
         a_day h = rw (told o u y e j, told p v m f k, told q w d g l, ← t, h)
 
-        pub no_day : b ≡ false → CodeRead.Unfit ≡ code_read (map_option date_code (real_day o p q))
+        pub no_day : b ≡ false → None ≡ (map_option date_code (real_day o p q))
         no_day h = rw (told o u y e j, told p v m f k, told q w d g l, ← t, h)
 
 module _ (s : Bytes) (b c : ℕ) (e : b ≡ get_or s 4 0) (f : c ≡ get_or s 7 0) where
-  pub date_read : (y m d : Bytes) → y ≡ part s 0 4 → m ≡ part s 5 2 → d ≡ part s 8 2 → (eqb (length s) 10 && eqb b 45 && eqb c 45) ≡ true → (r : CodeRead) → r ≡ code_read (map_option date_code (real_day (read_digits y) (read_digits m) (read_digits d))) → r ≡ code_read (map_option date_code (read_date s))
+  pub date_read : (y m d : Bytes) → y ≡ part s 0 4 → m ≡ part s 5 2 → d ≡ part s 8 2 → (eqb (length s) 10 && eqb b 45 && eqb c 45) ≡ true → (r : Option ℕ) → r ≡ (map_option date_code (real_day (read_digits y) (read_digits m) (read_digits d))) → r ≡ (map_option date_code (read_date s))
   unfolding read_date
   date_read y m d i j k h r g = rw (← e, ← f, h, ← i, ← j, ← k) g
 
-  pub date_unfit : (eqb (length s) 10 && eqb b 45 && eqb c 45) ≡ false → CodeRead.Unfit ≡ code_read (map_option date_code (read_date s))
+  pub date_unfit : (eqb (length s) 10 && eqb b 45 && eqb c 45) ≡ false → None ≡ (map_option date_code (read_date s))
   unfolding read_date
   date_unfit h = rw (← e, ← f, h)
 
 pub ruleset days = (no_year, no_month, no_day_read, a_day, no_day, date_read, date_unfit)
 
 -- The texts that the request names, computed: which are days, and which are none.
-pub the_texts : (read_date (bytes "2000-02-29") ≡ some (date 2000 2 29)) × (read_date (bytes "1583-01-01") ≡ some (date 1583 1 1)) × (read_date (bytes "9999-12-31") ≡ some (date 9999 12 31))
+pub the_texts : (read_date (bytes "2000-02-29") ≡ Some (date 2000 2 29)) × (read_date (bytes "1583-01-01") ≡ Some (date 1583 1 1)) × (read_date (bytes "9999-12-31") ≡ Some (date 9999 12 31))
 unfolding read_date read_digits decimal all is_digit is_day days_in is_leap_year
 the_texts = (refl, refl, refl)
 
-pub no_days : (read_date (bytes "1900-02-29") ≡ none) × (read_date (bytes "2100-02-29") ≡ none) × (read_date (bytes "1582-12-31") ≡ none) × (read_date (bytes "2024-13-01") ≡ none) × (read_date (bytes "2024-04-31") ≡ none) × (read_date (bytes "2024-4-1") ≡ none) × (read_date (bytes "2024-04-010") ≡ none)
+pub no_days : (read_date (bytes "1900-02-29") ≡ None) × (read_date (bytes "2100-02-29") ≡ None) × (read_date (bytes "1582-12-31") ≡ None) × (read_date (bytes "2024-13-01") ≡ None) × (read_date (bytes "2024-04-31") ≡ None) × (read_date (bytes "2024-4-1") ≡ None) × (read_date (bytes "2024-04-010") ≡ None)
 unfolding read_date read_digits decimal all is_digit is_day days_in is_leap_year
 no_days = (refl, refl, refl, refl, refl, refl, refl)

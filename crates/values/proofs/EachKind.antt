@@ -1,9 +1,9 @@
 -- What is said kind by kind. All else goes by `Kind.Page`, `Kind.Scalar k` and `Kind.String`.
+use Rattle.std.specs.Prelude.{Option, Some}
 use Prim.Native.Nat.{ℕ, zero, suc, ◌+◌, ◌^◌, ◌≤◌, ◌<◌}
 use mathlib.Core.Path.{◌≡◌, refl}
 use mathlib.Core.Bool.{true}
 use mathlib.Core.List.{◌++◌}
-use mathlib.Core.Option.{some}
 use native.Mathlib.Omega.{arith}
 use lib.Dec.{eqb}
 use lib.ListN.{length}
@@ -12,10 +12,9 @@ use Rattle.text.specs.Bytes.{Bytes, starts}
 use Rattle.text.specs.Table.{bit}
 use Rattle.values.specs.Values.{map_option, kind_word, scalar_code, kind_code, kind_count, kind_from, same_scalar, read_number, read_boolean, biased, read_scalar, above, in_range}
 use Rattle.values.specs.Spelling.{spell_number, spell_boolean, number_from, spell_scalar}
-use Rattle.values.specs.Answers.{code_read, first_kind, kind_at}
+use Rattle.values.specs.Answers.{first_kind, kind_at}
 use Rattle.values.specs.declared.Kind.{Kind}
 use Rattle.values.specs.declared.Scalar.{Scalar}
-use Rattle.values.specs.declared.CodeRead.{CodeRead}
 use Rattle.values.proofs.Digits.{spelled_few}
 use Rattle.values.proofs.Decimal.{read_small}
 use Rattle.values.proofs.Spelled.{on_mapped, spelled_number_le, spelled_boolean_le}
@@ -28,7 +27,7 @@ word_filled (Kind.Scalar Scalar.Number) = omega arith
 word_filled (Kind.Scalar Scalar.Boolean) = omega arith
 word_filled Kind.String = omega arith
 
-pub kind_at_word : (k : Kind) (s : Bytes) → kind_at (kind_word k ++ s) ≡ some k
+pub kind_at_word : (k : Kind) (s : Bytes) → kind_at (kind_word k ++ s) ≡ Some k
 unfolding first_kind starts
 kind_at_word Kind.Page s = refl
 kind_at_word (Kind.Scalar Scalar.Number) s = refl
@@ -62,11 +61,11 @@ codes_apart Scalar.Number = (λ e. omega arith, λ e. omega arith)
 codes_apart Scalar.Boolean = (λ e. omega arith, λ e. omega arith)
 
 -- What is read in a kind is in its range, and spelled at most four bytes longer: `0` and `false`.
-pub read_in_range : (k : Scalar) (s : Bytes) (c : ℕ) → read_scalar k s ≡ some c → in_range k c ≡ true
+pub read_in_range : (k : Scalar) (s : Bytes) (c : ℕ) → read_scalar k s ≡ Some c → in_range k c ≡ true
 read_in_range Scalar.Number s c = on_mapped (λ c. in_range Scalar.Number c ≡ true) biased (read_number s) c (λ z e. small_in_range z (read_small s z e))
 read_in_range Scalar.Boolean s c = on_mapped (λ c. in_range Scalar.Boolean c ≡ true) bit (read_boolean s) c (λ b e. bit_in_range b)
 
-pub spelled_scalar_le : (k : Scalar) (s : Bytes) (c : ℕ) → read_scalar k s ≡ some c → length (spell_scalar k c) ≤ length s + 4
+pub spelled_scalar_le : (k : Scalar) (s : Bytes) (c : ℕ) → read_scalar k s ≡ Some c → length (spell_scalar k c) ≤ length s + 4
 spelled_scalar_le Scalar.Number s c =
     on_mapped (λ c. length (spell_scalar Scalar.Number c) ≤ length s + 4) biased (read_number s) c
     (λ z e. rw (number_of_code z (read_small s z e)) (omega (arith, spelled_number_le s z e)))
@@ -107,11 +106,11 @@ pub same_scalars : (a b : Scalar) (x y : ℕ) → x ≡ scalar_code a → y ≡ 
 same_scalars a b x y e f = rw (e, f)
 
 module _ (k : Scalar) where
-  module _ (s : Bytes) (r : CodeRead) where
-    pub read_number_lem : k ≡ Scalar.Number → r ≡ code_read (map_option biased (read_number s)) → r ≡ code_read (read_scalar k s)
+  module _ (s : Bytes) (r : Option ℕ) where
+    pub read_number_lem : k ≡ Scalar.Number → r ≡ (map_option biased (read_number s)) → r ≡ (read_scalar k s)
     read_number_lem e f = rw e f
 
-    pub read_boolean_lem : k ≡ Scalar.Boolean → r ≡ code_read (map_option bit (read_boolean s)) → r ≡ code_read (read_scalar k s)
+    pub read_boolean_lem : k ≡ Scalar.Boolean → r ≡ (map_option bit (read_boolean s)) → r ≡ (read_scalar k s)
     read_boolean_lem e f = rw e f
 
   module _ (c : ℕ) where

@@ -1,10 +1,10 @@
 -- The numbers that request 7 names, computed: which texts are one value, how they stand, and which are unfit.
+use Rattle.std.specs.Prelude.{Some, None}
 use mathlib.Core.Path.{◌≡◌, refl}
-use mathlib.Core.Option.{some, none}
 use lib.IntN.{pos, negsuc}
 use Rattle.text.specs.Bytes.{bytes, numbers, all, span}
 use Rattle.text.specs.Class.{is_digit}
-use Rattle.text.specs.declared.Order.TheVariants.{Less}
+use Rattle.std.specs.declared.cmp.Ordering.TheVariants.{Less}
 use Rattle.values.specs.Values.{decimal, read_digits, read_fraction, read_thousandths, read_number, order_numbers}
 
 -- "`-0.0` equals 0"
@@ -13,12 +13,12 @@ unfolding read_number read_thousandths read_fraction read_digits decimal all spa
 zero_below = refl
 
 -- `1.5`, `1.50` and `01.500` are one.
-pub one_and_a_half : (read_number (bytes "1.5") ≡ some (pos 1500)) × (read_number (bytes "1.50") ≡ some (pos 1500)) × (read_number (bytes "01.500") ≡ some (pos 1500))
+pub one_and_a_half : (read_number (bytes "1.5") ≡ Some (pos 1500)) × (read_number (bytes "1.50") ≡ Some (pos 1500)) × (read_number (bytes "01.500") ≡ Some (pos 1500))
 unfolding read_number read_thousandths read_fraction read_digits decimal all span is_digit
 one_and_a_half = (refl, refl, refl)
 
 -- "`-0.5` lies between -1 and 0"
-pub half_below : (read_number (bytes "-0.5") ≡ some (negsuc 499)) × (read_number (bytes "-1") ≡ some (negsuc 999))
+pub half_below : (read_number (bytes "-0.5") ≡ Some (negsuc 499)) × (read_number (bytes "-1") ≡ Some (negsuc 999))
 unfolding read_number read_thousandths read_fraction read_digits decimal all span is_digit
 half_below = (refl, refl)
 
@@ -27,11 +27,11 @@ unfolding numbers
 between = (refl, refl)
 
 -- The largest number, and one of 16 digits before the point.
-pub largest : (read_number (bytes "999999999999999.999") ≡ some (pos 999_999_999_999_999_999)) × (read_number (bytes "1000000000000000.0") ≡ none)
+pub largest : (read_number (bytes "999999999999999.999") ≡ Some (pos 999_999_999_999_999_999)) × (read_number (bytes "1000000000000000.0") ≡ None)
 unfolding read_number read_thousandths read_fraction read_digits decimal all span is_digit
 largest = (refl, refl)
 
 -- `1.`, `.5`, `1.2345`, `1,5`, `+1` and `1e3` are unfit.
-pub unfit : (read_number (bytes "1.") ≡ none) × (read_number (bytes ".5") ≡ none) × (read_number (bytes "1.2345") ≡ none) × (read_number (bytes "1,5") ≡ none) × (read_number (bytes "+1") ≡ none) × (read_number (bytes "1e3") ≡ none)
+pub unfit : (read_number (bytes "1.") ≡ None) × (read_number (bytes ".5") ≡ None) × (read_number (bytes "1.2345") ≡ None) × (read_number (bytes "1,5") ≡ None) × (read_number (bytes "+1") ≡ None) × (read_number (bytes "1e3") ≡ None)
 unfolding read_number read_thousandths read_fraction read_digits decimal all span is_digit
 unfit = (refl, refl, refl, refl, refl, refl)

@@ -1,9 +1,9 @@
 -- Laws of references, booleans and kinds.
+use Rattle.std.specs.Prelude.{Option, Some, None}
 use Prim.Native.Nat.{ℕ, ◌+◌, ◌≤◌, ◌<◌}
 use mathlib.Core.Path.{◌≡◌, refl, sym, ◌∙◌}
 use mathlib.Core.List.{[], ◌∷◌, map}
 use mathlib.Core.Bool.{Bool, true, false, cond, not, ◌&&◌, ◌||◌, and_assoc}
-use mathlib.Core.Option.{Option, some, none}
 use native.Mathlib.Omega.{arith}
 use native.Mathlib.Numerals.{add-one}
 use lib.Dec.{eqb}
@@ -19,25 +19,24 @@ use Rattle.text.proofs.Laws.{same_unlike, same_end, same_other, same_step, any_t
 use Rattle.names.specs.Names.{is_sized, first, last, is_name, is_namespace}
 use Rattle.values.specs.Names.{is_value, is_reference, reference}
 use Rattle.values.specs.Values.{lower, read_boolean, read_scalar, read_link, read_value, map_option, plain, link, scalar, string, kind_of_constant, kind_of, Constant, Value}
-use Rattle.values.specs.Answers.{has_bare_ends, Splits, code_read}
+use Rattle.values.specs.Answers.{has_bare_ends, Splits}
 use Rattle.values.specs.declared.Kind.{Kind}
 use Rattle.values.specs.declared.Split.{Split}
-use Rattle.values.specs.declared.CodeRead.{CodeRead}
 
 -- A value that is read in a kind has that kind.
 module _ {A : Type 0} (f : A → Value) (k : Kind) (h : (a : A) → kind_of (f a) ≡ k) (v : Value) where
-  mapped_kind : (o : Option A) → map_option f o ≡ some v → kind_of v ≡ k
-  mapped_kind none e = cc
-  mapped_kind (some a) e = let q : f a ≡ v = cc in rw (← q) (h a)
+  mapped_kind : (o : Option A) → map_option f o ≡ Some v → kind_of v ≡ k
+  mapped_kind None e = cc
+  mapped_kind (Some a) e = let q : f a ≡ v = cc in rw (← q) (h a)
 
-plain_kind : {A : Type 0} (f : A → Constant) (k : Kind) → ((a : A) → kind_of_constant (f a) ≡ k) → (o : Option A) (v : Value) → map_option plain (map_option f o) ≡ some v → kind_of v ≡ k
-plain_kind f k h none v e = cc
-plain_kind f k h (some a) v e = mapped_kind (λ x. plain (f x)) k h v (some a) e
+plain_kind : {A : Type 0} (f : A → Constant) (k : Kind) → ((a : A) → kind_of_constant (f a) ≡ k) → (o : Option A) (v : Value) → map_option plain (map_option f o) ≡ Some v → kind_of v ≡ k
+plain_kind f k h None v e = cc
+plain_kind f k h (Some a) v e = mapped_kind (λ x. plain (f x)) k h v (Some a) e
 
-pub read_kind : (k : Kind) (s : Bytes) (v : Value) → read_value k s ≡ some v → kind_of v ≡ k
+pub read_kind : (k : Kind) (s : Bytes) (v : Value) → read_value k s ≡ Some v → kind_of v ≡ k
 read_kind Kind.Page s v e = mapped_kind link Kind.Page (λ i. refl) v (read_link s) e
 read_kind (Kind.Scalar k) s v e = plain_kind (scalar k) (Kind.Scalar k) (λ c. refl) (read_scalar k s) v e
-read_kind Kind.String s v e = plain_kind string Kind.String (λ x. refl) (some s) v e
+read_kind Kind.String s v e = plain_kind string Kind.String (λ x. refl) (Some s) v e
 
 -- The rule for values, from what its parts answer.
 module _ (s : Bytes) (a d : Bool) (x : ℕ) (e : a ≡ is_sized s) (f : x ≡ first s) (g : d ≡ has_bare_ends s) where
@@ -95,19 +94,19 @@ module _ (s : Bytes) where
   any_is x y z a b c t e f g h = any_three (same (map lower s)) x y z ∙ rw (← e, ← f, ← g) h
 
   module _ (a b c : Bool) (e : a ≡ same (map lower s) (bytes "true")) (f : b ≡ same (map lower s) (bytes "yes")) (g : c ≡ same (map lower s) (bytes "1")) where
-    pub boolean_true : (a || b || c) ≡ true → CodeRead.Code 1 ≡ code_read (map_option bit (read_boolean s))
+    pub boolean_true : (a || b || c) ≡ true → Some 1 ≡ (map_option bit (read_boolean s))
     unfolding read_boolean
     boolean_true h = rw (any_is (bytes "true") (bytes "yes") (bytes "1") a b c true e f g h)
 
     module _ (n : (a || b || c) ≡ false) (a' b' c' : Bool) (e' : a' ≡ same (map lower s) (bytes "false")) (f' : b' ≡ same (map lower s) (bytes "no")) (g' : c' ≡ same (map lower s) (bytes "0")) where
-      other : (t : Bool) → (a' || b' || c') ≡ t → code_read (map_option bit (read_boolean s)) ≡ code_read (map_option bit (cond t (some false) none))
+      other : (t : Bool) → (a' || b' || c') ≡ t → (map_option bit (read_boolean s)) ≡ (map_option bit (cond t (Some false) None))
       unfolding read_boolean
       other t h = rw (any_is (bytes "true") (bytes "yes") (bytes "1") a b c false e f g n, any_is (bytes "false") (bytes "no") (bytes "0") a' b' c' t e' f' g' h)
 
-      pub boolean_false : (a' || b' || c') ≡ true → CodeRead.Code 0 ≡ code_read (map_option bit (read_boolean s))
+      pub boolean_false : (a' || b' || c') ≡ true → Some 0 ≡ (map_option bit (read_boolean s))
       boolean_false h = sym (other true h)
 
-      pub boolean_unfit : (a' || b' || c') ≡ false → CodeRead.Unfit ≡ code_read (map_option bit (read_boolean s))
+      pub boolean_unfit : (a' || b' || c') ≡ false → None ≡ (map_option bit (read_boolean s))
       boolean_unfit h = sym (other false h)
 
 pub ruleset booleans = (boolean_true, boolean_false, boolean_unfit)

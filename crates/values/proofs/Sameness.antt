@@ -1,13 +1,13 @@
 -- Values that are the same are one value.
+use Rattle.std.specs.Prelude.{Some, None}
 use Prim.Native.Nat.{ℕ}
 use mathlib.Core.Path.{◌≡◌, refl, sym, ap, ◌∙◌}
 use mathlib.Core.Bool.{Bool, true, false, cond, and-eq-true_iff, false≢true}
-use mathlib.Core.Option.{some, none}
 use native.Mathlib.Omega.{arith}
 use lib.Dec.{eqb, ltb}
 use borrow.Author.Tests.{eqb-true, eq-eqb, ne_eqb, ltb-false}
 use Rattle.text.specs.Bytes.{same, order_of, numbers}
-use Rattle.text.specs.declared.Order.{Order}
+use Rattle.std.specs.declared.cmp.Ordering.{Ordering}
 use Rattle.text.proofs.Laws.{same_eq, same_refl, numbers_equal, order_eq, order_refl}
 use Rattle.values.specs.Names.{Identifier, same_identifier}
 use Rattle.values.specs.Values.{Constant, scalar, string, Value, plain, link, kind_code, kind_from, same_scalar, same_kind, order_constants, is_equal_order, same_value}
@@ -16,14 +16,14 @@ use Rattle.values.specs.declared.Scalar.{Scalar}
 use Rattle.values.proofs.EachKind.{kind_coded, codes_apart}
 
 -- an order that is not `Equal`
-no_order : {A : Type 0} {o : Order} → is_equal_order (some o) ≡ false → o ≡ Order.Equal → A
-no_order n e = absurd (false≢true (sym n ∙ ap (λ o. is_equal_order (some o)) e))
+no_order : {A : Type 0} {o : Ordering} → is_equal_order (Some o) ≡ false → o ≡ Ordering.Equal → A
+no_order n e = absurd (false≢true (sym n ∙ ap (λ o. is_equal_order (Some o)) e))
 
-numbers_eq : (a b : ℕ) → numbers a b ≡ Order.Equal → a ≡ b
+numbers_eq : (a b : ℕ) → numbers a b ≡ Ordering.Equal → a ≡ b
 unfolding numbers
 numbers_eq a b h = go (ltb a b) (ltb b a) refl refl h
   where
-    go : (p q : Bool) → ltb a b ≡ p → ltb b a ≡ q → cond p Order.Less (cond q Order.Greater Order.Equal) ≡ Order.Equal → a ≡ b
+    go : (p q : Bool) → ltb a b ≡ p → ltb b a ≡ q → cond p Ordering.Less (cond q Ordering.Greater Ordering.Equal) ≡ Ordering.Equal → a ≡ b
     go true q e f h = no_order refl h
     go false true e f h = no_order refl h
     go false false e f h = omega (arith, ltb-false a b e, ltb-false b a f)
@@ -56,15 +56,15 @@ scalar_of Kind.String = Scalar.Number
 pub scalar_eq : (j k : Scalar) → same_scalar j k ≡ true → j ≡ k
 scalar_eq j k h = ap scalar_of (kind_eq (Kind.Scalar j) (Kind.Scalar k) h)
 
-equal_order : (o : Order) → is_equal_order (some o) ≡ true → o ≡ Order.Equal
-equal_order Order.Less h = absurd (false≢true h)
-equal_order Order.Equal h = refl
-equal_order Order.Greater h = absurd (false≢true h)
+equal_order : (o : Ordering) → is_equal_order (Some o) ≡ true → o ≡ Ordering.Equal
+equal_order Ordering.Less h = absurd (false≢true h)
+equal_order Ordering.Equal h = refl
+equal_order Ordering.Greater h = absurd (false≢true h)
 
 constant_eq : (a b : Constant) → is_equal_order (order_constants a b) ≡ true → a ≡ b
 constant_eq (scalar j a) (scalar k b) h = go (same_scalar j k) refl h
   where
-    go : (t : Bool) → same_scalar j k ≡ t → is_equal_order (cond t (some (numbers a b)) none) ≡ true → scalar j a ≡ scalar k b
+    go : (t : Bool) → same_scalar j k ≡ t → is_equal_order (cond t (Some (numbers a b)) None) ≡ true → scalar j a ≡ scalar k b
     go true e h =
         let n : a ≡ b = numbers_eq a b (equal_order (numbers a b) h) in
         ap (λ (i : Scalar). scalar i a) (scalar_eq j k e) ∙ ap (scalar k) n

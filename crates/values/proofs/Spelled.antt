@@ -1,9 +1,9 @@
 -- The shortest spelling: it is no longer than the text that was read, but for booleans, and a link keeps the rule for values at it.
+use Rattle.std.specs.Prelude.{Option, Some, None}
 use Prim.Native.Nat.{ℕ, zero, suc, ◌+◌, ◌-◌, ◌*◌, ◌/◌, ◌%◌, ◌^◌, ◌≤◌, ◌<◌}
 use mathlib.Core.Path.{◌≡◌, refl, ap, ap₂, sym, ◌∙◌, subst}
 use mathlib.Core.List.{[], ◌∷◌, ◌++◌}
 use mathlib.Core.Bool.{Bool, true, false, cond, not, ◌&&◌, ◌||◌, true≢false, and-eq-true_iff, and-true}
-use mathlib.Core.Option.{Option, some, none}
 use native.Mathlib.Omega.{arith}
 use native.Mathlib.Nat.{pow-succ', zero-add, div-lt_iff_lt-mul}
 use lib.Dec.{leb, ltb, eqb}
@@ -26,23 +26,23 @@ use Rattle.values.proofs.Decimal.{decimal_lt, decimal_short, fraction_small}
 use Rattle.values.proofs.Digits.{fraction_empty, fraction_most, tenths_most, hundredths_most, thousandths_long}
 
 -- What was read where a test had to pass, and what was read through a function.
-passed : {A : Type 0} (t : Bool) (a b : A) → cond t (some a) none ≡ some b → (t ≡ true) × (a ≡ b)
+passed : {A : Type 0} (t : Bool) (a b : A) → cond t (Some a) None ≡ Some b → (t ≡ true) × (a ≡ b)
 passed true a b h = (refl, cc)
 passed false a b h = absurd (let l : ◌≡◌ {A = ℕ} 0 1 = cc in omega arith)
 
-pub on_mapped : {A B : Type 0} (P : B → Type 0) (f : A → B) (o : Option A) (b : B) → ((a : A) → o ≡ some a → P (f a)) → map_option f o ≡ some b → P b
-on_mapped P f none b h e = absurd (let l : ◌≡◌ {A = ℕ} 0 1 = cc in omega arith)
-on_mapped P f (some a) b h e = let q : f a ≡ b = cc in subst P q (h a refl)
+pub on_mapped : {A B : Type 0} (P : B → Type 0) (f : A → B) (o : Option A) (b : B) → ((a : A) → o ≡ Some a → P (f a)) → map_option f o ≡ Some b → P b
+on_mapped P f None b h e = absurd (let l : ◌≡◌ {A = ℕ} 0 1 = cc in omega arith)
+on_mapped P f (Some a) b h e = let q : f a ≡ b = cc in subst P q (h a refl)
 
 -- What holds of what a text writes in each kind holds of the value that is read.
 module _
     (P : Value → Type 0)
     (s : Bytes)
-    (for-link : (i : Identifier) → read_link s ≡ some i → P (link i))
-    (for-scalar : (k : Scalar) (c : ℕ) → read_scalar k s ≡ some c → P (plain (scalar k c)))
+    (for-link : (i : Identifier) → read_link s ≡ Some i → P (link i))
+    (for-scalar : (k : Scalar) (c : ℕ) → read_scalar k s ≡ Some c → P (plain (scalar k c)))
     (for-string : P (plain (string s)))
   where
-    pub of_read : (k : Kind) (v : Value) → read_value k s ≡ some v → P v
+    pub of_read : (k : Kind) (v : Value) → read_value k s ≡ Some v → P v
     of_read Kind.Page v h = on_mapped P link (read_link s) v for-link h
     of_read (Kind.Scalar k) v h = on_mapped P plain (read_constant (Kind.Scalar k) s) v (λ c. on_mapped (λ c. P (plain c)) (scalar k) (read_scalar k s) c (for-scalar k)) h
     of_read Kind.String v h = let e : plain (string s) ≡ v = cc in subst P e for-string
@@ -61,7 +61,7 @@ digits_within_le (suc f) n (suc k) h =
     go false e l = rw (e, digits_within, length-append) (omega arith)
 
 -- Digits with and without zeros at the front.
-pub digits_le : (s : Bytes) (n : ℕ) → read_digits s ≡ some n → length (digits n) ≤ length s
+pub digits_le : (s : Bytes) (n : ℕ) → read_digits s ≡ Some n → length (digits n) ≤ length s
 unfolding read_digits digits
 digits_le [] n h = absurd (let l : ◌≡◌ {A = ℕ} 0 1 = cc in omega arith)
 digits_le (b ∷ s) n h =
@@ -71,12 +71,12 @@ digits_le (b ∷ s) n h =
     digits_within_le (suc n) n (length s) (rw (zero-add, t.1) at (decimal_lt (b ∷ s) 0 0 d (omega arith)))
 
 -- Where a test had to pass and what was read is changed.
-passed_mapped : (t : Bool) (f : ℕ → ℕ) (o : Option ℕ) (m : ℕ) → cond t (map_option f o) none ≡ some m → (n : ℕ) × (t ≡ true) × (o ≡ some n) × (f n ≡ m)
-passed_mapped true f none m h = absurd (let l : ◌≡◌ {A = ℕ} 0 1 = cc in omega arith)
-passed_mapped true f (some n) m h = (n, refl, refl, cc)
+passed_mapped : (t : Bool) (f : ℕ → ℕ) (o : Option ℕ) (m : ℕ) → cond t (map_option f o) None ≡ Some m → (n : ℕ) × (t ≡ true) × (o ≡ Some n) × (f n ≡ m)
+passed_mapped true f None m h = absurd (let l : ◌≡◌ {A = ℕ} 0 1 = cc in omega arith)
+passed_mapped true f (Some n) m h = (n, refl, refl, cc)
 passed_mapped false f o m h = absurd (let l : ◌≡◌ {A = ℕ} 0 1 = cc in omega arith)
 
-digits_filled : (s : Bytes) (n : ℕ) → read_digits s ≡ some n → 1 ≤ length s
+digits_filled : (s : Bytes) (n : ℕ) → read_digits s ≡ Some n → 1 ≤ length s
 unfolding read_digits
 digits_filled [] n h = absurd (let l : ◌≡◌ {A = ℕ} 0 1 = cc in omega arith)
 digits_filled (b ∷ s) n h = omega arith
@@ -89,21 +89,21 @@ scaled_le (suc (suc zero)) n a b h = hundredths_most (n * 10) (omega arith)
 scaled_le (suc (suc (suc zero))) n a b h = fraction_most (n * 1)
 scaled_le (suc (suc (suc (suc k)))) n a b h = absurd (omega arith)
 
-fraction_le : (s : Bytes) (m : ℕ) → read_fraction s ≡ some m → length (spell_fraction m) ≤ length s
+fraction_le : (s : Bytes) (m : ℕ) → read_fraction s ≡ Some m → length (spell_fraction m) ≤ length s
 unfolding read_fraction
 fraction_le [] m h = let q : ◌≡◌ {A = ℕ} 0 m = cc in rw (← q) (omega (arith, fraction_empty 0 refl))
 fraction_le (b ∷ s) m h =
     let t = passed_mapped (eqb b 46 && leb (length s) 3) (λ n. n * 10 ^ (3 - length s)) (read_digits s) m h in
     rw (← t.3) (scaled_le (length s) t.0 (digits_filled s t.0 t.2) (leb-true (length s) 3 ((and-eq-true_iff (eqb b 46) (leb (length s) 3)).0 t.1).1) (decimal_short s t.0 t.2))
 
-thousandths_le : (s : Bytes) (n : ℕ) → read_thousandths s ≡ some n → length (spell_thousandths n) ≤ length s
+thousandths_le : (s : Bytes) (n : ℕ) → read_thousandths s ≡ Some n → length (spell_thousandths n) ≤ length s
 unfolding read_thousandths
 thousandths_le s n h = go (read_digits (take (span is_digit s) s)) (read_fraction (drop (span is_digit s) s)) refl refl h
   where
-    go : (a b : Option ℕ) → read_digits (take (span is_digit s) s) ≡ a → read_fraction (drop (span is_digit s) s) ≡ b → in_thousandths a b ≡ some n → length (spell_thousandths n) ≤ length s
-    go none b d e f = absurd (let l : ◌≡◌ {A = ℕ} 0 1 = cc in omega arith)
-    go (some w) none d e f = absurd (let l : ◌≡◌ {A = ℕ} 0 1 = cc in omega arith)
-    go (some w) (some m) d e f =
+    go : (a b : Option ℕ) → read_digits (take (span is_digit s) s) ≡ a → read_fraction (drop (span is_digit s) s) ≡ b → in_thousandths a b ≡ Some n → length (spell_thousandths n) ≤ length s
+    go None b d e f = absurd (let l : ◌≡◌ {A = ℕ} 0 1 = cc in omega arith)
+    go (Some w) None d e f = absurd (let l : ◌≡◌ {A = ℕ} 0 1 = cc in omega arith)
+    go (Some w) (Some m) d e f =
         let q : 1000 * w + m ≡ n = cc in
         let small = fraction_small _ m e in
         let whole : n / 1000 ≡ w = omega (arith, q, small) in
@@ -119,7 +119,7 @@ thousandths_le s n h = go (read_digits (take (span is_digit s) s)) (read_fractio
           length-drop (span is_digit s) s,
         )
 
-pub spelled_number_le : (s : Bytes) (z : ℤ) → read_number s ≡ some z → length (spell_number z) ≤ length s
+pub spelled_number_le : (s : Bytes) (z : ℤ) → read_number s ≡ Some z → length (spell_number z) ≤ length s
 unfolding read_number spell_number
 spelled_number_le [] z h = absurd (let l : ◌≡◌ {A = ℕ} 0 1 = cc in omega arith)
 spelled_number_le (b ∷ s) z h = go (eqb b 45) h
@@ -128,19 +128,19 @@ spelled_number_le (b ∷ s) z h = go (eqb b 45) h
     minus zero l = omega arith
     minus (suc n) l = omega arith
 
-    go : (t : Bool) → cond t (map_option (λ n. neg_ℤ (pos n)) (read_thousandths s)) (map_option pos (read_thousandths (b ∷ s))) ≡ some z → length (spell_number z) ≤ suc (length s)
+    go : (t : Bool) → cond t (map_option (λ n. neg_ℤ (pos n)) (read_thousandths s)) (map_option pos (read_thousandths (b ∷ s))) ≡ Some z → length (spell_number z) ≤ suc (length s)
     go true e = on_mapped (λ z. length (spell_number z) ≤ suc (length s)) (λ n. neg_ℤ (pos n)) (read_thousandths s) z (λ n r. minus n (thousandths_le s n r)) e
     go false e = on_mapped (λ z. length (spell_number z) ≤ suc (length s)) pos (read_thousandths (b ∷ s)) z (thousandths_le (b ∷ s)) e
 
 -- `0` is four bytes shorter than `false`.
-pub spelled_boolean_le : (s : Bytes) (b : Bool) → read_boolean s ≡ some b → length (spell_boolean b) ≤ length s + 4
+pub spelled_boolean_le : (s : Bytes) (b : Bool) → read_boolean s ≡ Some b → length (spell_boolean b) ≤ length s + 4
 unfolding read_boolean any same
 spelled_boolean_le [] b h = absurd (let l : ◌≡◌ {A = ℕ} 0 1 = cc in omega arith)
 spelled_boolean_le (x ∷ s) true h = omega arith
 spelled_boolean_le (x ∷ s) false h = omega arith
 
 -- The reference that a link was read from.
-pub link_read : (s : Bytes) (i : Identifier) → read_link s ≡ some i → (is_reference (reference s) ≡ true) × (identifier (composed_reference (reference s)) ≡ i)
+pub link_read : (s : Bytes) (i : Identifier) → read_link s ≡ Some i → (is_reference (reference s) ≡ true) × (identifier (composed_reference (reference s)) ≡ i)
 unfolding read_link
 link_read s i h = passed _ (identifier (composed_reference (reference s))) i h
 
@@ -179,7 +179,7 @@ reference_le s = go (ltb (span (is_other 58) s) (length s)) refl
         )
     go false e = omega (arith, trim_le s, composed_le (trim s))
 
-pub spelled_link_le : (s : Bytes) (i : Identifier) → read_link s ≡ some i → length (spell_identifier i) ≤ length s
+pub spelled_link_le : (s : Bytes) (i : Identifier) → read_link s ≡ Some i → length (spell_identifier i) ≤ length s
 spelled_link_le s i h = subst (λ i. length (spell_identifier i) ≤ length s) (link_read s i h).1 (reference_le s)
 
 -- The rule for values, from its parts, and its length.

@@ -1,7 +1,6 @@
 -- Working definitions, but for `kind_at`: what the functions answer, by the definitions of `Names` and `Values` over the
 -- declared types.
-use Rattle.std.specs.Prelude.{ℕ, ◌≡◌, Bool, cond, not, ◌&&◌, List, [], ◌∷◌}
-use Rattle.std.proofs.Math.Option.{Option, some, none}
+use Rattle.std.specs.Prelude.{ℕ, ◌≡◌, Bool, cond, not, ◌&&◌, List, [], ◌∷◌, Option, Some, None}
 use Rattle.text.specs.Bytes.{Bytes, is_blank, starts}
 use Rattle.text.specs.Parts.{part_of, Within}
 use Rattle.names.specs.Names.{first, last}
@@ -9,8 +8,6 @@ use Rattle.values.specs.Names.{Reference, bare, qualified, reference}
 use Rattle.values.specs.Values.{kind_word, kinds}
 use Rattle.values.specs.declared.Kind.{Kind}
 use Rattle.values.specs.declared.Split.{Split}
-use Rattle.values.specs.declared.CodeRead.{CodeRead}
-use Rattle.values.specs.declared.KindRead.{KindRead}
 
 -- "no blank at either end"
 abbrev pub has_bare_ends : Bytes → Bool
@@ -26,18 +23,10 @@ pub record Splits (s : Bytes) (r : Split) : Type 0 where
   pub namespace : Within s r.namespace
   pub article : Within s r.article
 
-abbrev pub code_read : Option ℕ → CodeRead
-code_read none = CodeRead.Unfit
-code_read (some c) = CodeRead.Code c
-
 -- The kind whose word stands at the front. No word is the front of another.
 unfoldable pub first_kind : List Kind → Bytes → Option Kind
-first_kind [] s = none
-first_kind (k ∷ l) s = cond (starts (kind_word k) s) (some k) (first_kind l s)
+first_kind [] s = None
+first_kind (k ∷ l) s = cond (starts (kind_word k) s) (Some k) (first_kind l s)
 
 abbrev pub kind_at : Bytes → Option Kind
 kind_at s = first_kind kinds s
-
-abbrev pub kind_read : Option Kind → KindRead
-kind_read none = KindRead.Nothing
-kind_read (some k) = KindRead.Kind k

@@ -1,9 +1,8 @@
 -- Dates: the days of the Gregorian calendar, how they are read, their codes and their order, and their text. Document 02, "Best-before dates".
-use Rattle.std.specs.Prelude.{ℕ, ◌+◌, ◌*◌, ◌/◌, ◌%◌, Bool, cond, not, ◌&&◌, ◌||◌, [], ◌∷◌, ◌++◌, leb, eqb, length, get_or}
-use Rattle.std.proofs.Math.Option.{Option, some, none}
+use Rattle.std.specs.Prelude.{ℕ, ◌+◌, ◌*◌, ◌/◌, ◌%◌, Bool, cond, not, ◌&&◌, ◌||◌, [], ◌∷◌, ◌++◌, leb, eqb, length, get_or, Option, Some, None}
 use Rattle.text.specs.Bytes.{Bytes, numbers, part}
-use Rattle.text.specs.declared.Order.{Order}
-use Rattle.text.specs.declared.Order.TheVariants.{Less, Equal, Greater}
+use Rattle.std.specs.declared.cmp.Ordering.{Ordering}
+use Rattle.std.specs.declared.cmp.Ordering.TheVariants.{Less, Equal, Greater}
 use Rattle.values.specs.Values.{read_digits}
 
 -- A year, a month and a day of the month.
@@ -28,12 +27,12 @@ unfoldable pub is_day : Date → Bool
 is_day d = leb 1583 d.year && leb d.year 9999 && leb 1 d.month && leb d.month 12 && leb 1 d.day && leb d.day (days_in d.year d.month)
 
 -- "ordered by day": by the year, in a year by the month, in a month by the day (`date_order` in proofs/Days).
-abbrev pub or_else : Order → Order → Order
+abbrev pub or_else : Ordering → Ordering → Ordering
 or_else Less o = Less
 or_else Equal o = o
 or_else Greater o = Greater
 
-unfoldable pub order_dates : Date → Date → Order
+unfoldable pub order_dates : Date → Date → Ordering
 order_dates a b = or_else (numbers a.year b.year) (or_else (numbers a.month b.month) (numbers a.day b.day))
 
 -- The code of a date, its eight digits: 20240229. And the date that a code tells.
@@ -45,17 +44,17 @@ date_from c = date (c / 10000) (c / 100 % 100) (c % 100)
 
 -- The day of a year, a month and a day of the month, where they are read and it is one.
 abbrev pub real_day : Option ℕ → Option ℕ → Option ℕ → Option Date
-real_day none m d = none
-real_day (some y) none d = none
-real_day (some y) (some m) none = none
-real_day (some y) (some m) (some d) = cond (is_day (date y m d)) (some (date y m d)) none
+real_day None m d = None
+real_day (Some y) None d = None
+real_day (Some y) (Some m) None = None
+real_day (Some y) (Some m) (Some d) = cond (is_day (date y m d)) (Some (date y m d)) None
 
 -- "four digits, `-`, two digits, `-`, two digits, a real Gregorian day"
 unfoldable pub read_date : Bytes → Option Date
 read_date s =
     cond (eqb (length s) 10 && eqb (get_or s 4 0) 45 && eqb (get_or s 7 0) 45)
     (real_day (read_digits (part s 0 4)) (read_digits (part s 5 2)) (read_digits (part s 8 2)))
-    none
+    None
 
 -- A day has one text.
 abbrev pub two_digits : ℕ → Bytes

@@ -1,11 +1,10 @@
 -- Kinds, and the values of each. Document 01, "Names, values and kinds"; thesis 4.2.1 and 4.3.1.
-use Rattle.std.specs.Prelude.{ℕ, suc, ◌+◌, ◌*◌, ◌-◌, ◌^◌, Bool, true, false, cond, ◌&&◌, List, [], ◌∷◌, map, leb, ltb, eqb, length, take, drop, ℤ, pos, negsuc, neg_ℤ}
-use Rattle.std.proofs.Math.Option.{Option, some, none}
+use Rattle.std.specs.Prelude.{ℕ, suc, ◌+◌, ◌*◌, ◌-◌, ◌^◌, Bool, true, false, cond, ◌&&◌, List, [], ◌∷◌, map, leb, ltb, eqb, length, take, drop, ℤ, pos, negsuc, neg_ℤ, Option, Some, None}
 use Rattle.text.specs.Bytes.{Bytes, bytes, numbers, order_of, same, all, any, span}
 use Rattle.text.specs.Class.{is_digit}
 use Rattle.text.specs.Table.{bit}
-use Rattle.text.specs.declared.Order.{Order}
-use Rattle.text.specs.declared.Order.TheVariants.{Less, Equal, Greater}
+use Rattle.std.specs.declared.cmp.Ordering.{Ordering}
+use Rattle.std.specs.declared.cmp.Ordering.TheVariants.{Less, Equal, Greater}
 use Rattle.values.specs.declared.Kind.{Kind}
 use Rattle.values.specs.declared.Scalar.{Scalar}
 use Rattle.values.specs.Names.{Identifier, same_identifier, reference, is_reference, composed_reference, identifier}
@@ -56,8 +55,8 @@ same_kind Kind.String Kind.String = true
 
 -- What was read, changed by f.
 abbrev pub map_option : {A B : Type 0} → (A → B) → Option A → Option B
-map_option f none = none
-map_option f (some a) = some (f a)
+map_option f None = None
+map_option f (Some a) = Some (f a)
 
 -- Constants, CVal of thesis 4.2.1. A value of a scalar kind is told by its code, a number; the order of codes is the kind's own.
 pub data Constant : Type 0 where
@@ -84,18 +83,18 @@ decimal n (b ∷ s) = decimal (10 * n + (b - 48)) s
 
 -- "1 to 15 decimal digits"
 unfoldable pub read_digits : Bytes → Option ℕ
-read_digits s = cond (leb 1 (length s) && leb (length s) 15 && all is_digit s) (some (decimal 0 s)) none
+read_digits s = cond (leb 1 (length s) && leb (length s) 15 && all is_digit s) (Some (decimal 0 s)) None
 
 -- Document 02, "Half crates": "a point and one to three digits after its digits", or nothing. What they add is a count of thousandths.
 unfoldable pub read_fraction : Bytes → Option ℕ
-read_fraction [] = some 0
-read_fraction (b ∷ s) = cond (eqb b 46 && leb (length s) 3) (map_option (λ n. n * 10 ^ (3 - length s)) (read_digits s)) none
+read_fraction [] = Some 0
+read_fraction (b ∷ s) = cond (eqb b 46 && leb (length s) 3) (map_option (λ n. n * 10 ^ (3 - length s)) (read_digits s)) None
 
 -- Both, where both are read.
 abbrev pub in_thousandths : Option ℕ → Option ℕ → Option ℕ
-in_thousandths none m = none
-in_thousandths (some n) none = none
-in_thousandths (some n) (some m) = some (1000 * n + m)
+in_thousandths None m = None
+in_thousandths (Some n) None = None
+in_thousandths (Some n) (Some m) = Some (1000 * n + m)
 
 -- "its value is a count of thousandths": its digits, and what stands behind them.
 unfoldable pub read_thousandths : Bytes → Option ℕ
@@ -103,7 +102,7 @@ read_thousandths s = in_thousandths (read_digits (take (span is_digit s) s)) (re
 
 -- "an optional minus", then its digits
 unfoldable pub read_number : Bytes → Option ℤ
-read_number [] = none
+read_number [] = None
 read_number (b ∷ s) = cond (eqb b 45) (map_option (λ n. neg_ℤ (pos n)) (read_thousandths s)) (map_option pos (read_thousandths (b ∷ s)))
 
 -- An ASCII letter in its small form; any other byte as it is.
@@ -114,12 +113,12 @@ lower b = cond (leb 65 b && leb b 90) (b + 32) b
 unfoldable pub read_boolean : Bytes → Option Bool
 read_boolean s =
     let t = map lower s in
-    cond (any (same t) (bytes "true" ∷ bytes "yes" ∷ bytes "1" ∷ [])) (some true)
-    (cond (any (same t) (bytes "false" ∷ bytes "no" ∷ bytes "0" ∷ [])) (some false) none)
+    cond (any (same t) (bytes "true" ∷ bytes "yes" ∷ bytes "1" ∷ [])) (Some true)
+    (cond (any (same t) (bytes "false" ∷ bytes "no" ∷ bytes "0" ∷ [])) (Some false) None)
 
 -- "A page value is a reference.", its names composed.
 unfoldable pub read_link : Bytes → Option Identifier
-read_link s = cond (is_reference (reference s)) (some (identifier (composed_reference (reference s)))) none
+read_link s = cond (is_reference (reference s)) (Some (identifier (composed_reference (reference s)))) None
 
 -- 10^18, above every number that is read in thousandths, and the code of a number: 10^18 more.
 abbrev pub base : ℕ
@@ -148,9 +147,9 @@ in_range k c = leb (lowest k) c && ltb c (above k)
 
 -- The constant that bytes write in a kind, or none: they are unfit for it. A page value is no constant.
 abbrev pub read_constant : Kind → Bytes → Option Constant
-read_constant Kind.Page s = none
+read_constant Kind.Page s = None
 read_constant (Kind.Scalar k) s = map_option (scalar k) (read_scalar k s)
-read_constant Kind.String s = some (string s)
+read_constant Kind.String s = Some (string s)
 
 -- The value that bytes write in a kind, or none.
 abbrev pub read_value : Kind → Bytes → Option Value
@@ -159,17 +158,17 @@ read_value (Kind.Scalar k) s = map_option plain (read_constant (Kind.Scalar k) s
 read_value Kind.String s = map_option plain (read_constant Kind.String s)
 
 -- The order of two constants of one kind; none for two kinds (thesis 4.5.2).
-abbrev pub order_constants : Constant → Constant → Option Order
-order_constants (scalar j a) (scalar k b) = cond (same_scalar j k) (some (numbers a b)) none
-order_constants (scalar k a) (string b) = none
-order_constants (string a) (scalar k b) = none
-order_constants (string a) (string b) = some (order_of a b)
+abbrev pub order_constants : Constant → Constant → Option Ordering
+order_constants (scalar j a) (scalar k b) = cond (same_scalar j k) (Some (numbers a b)) None
+order_constants (scalar k a) (string b) = None
+order_constants (string a) (scalar k b) = None
+order_constants (string a) (string b) = Some (order_of a b)
 
-abbrev pub is_equal_order : Option Order → Bool
-is_equal_order none = false
-is_equal_order (some Less) = false
-is_equal_order (some Equal) = true
-is_equal_order (some Greater) = false
+abbrev pub is_equal_order : Option Ordering → Bool
+is_equal_order None = false
+is_equal_order (Some Less) = false
+is_equal_order (Some Equal) = true
+is_equal_order (Some Greater) = false
 
 -- Two values are one: `7` and `007`, `Berlin` and `:Berlin`.
 abbrev pub same_value : Value → Value → Bool
@@ -179,14 +178,14 @@ same_value (link i) (plain b) = false
 same_value (link i) (link j) = same_identifier i j
 
 -- The orders that the codes of numbers and of booleans keep (`number_order` and `boolean_order` in proofs/Coded).
-abbrev pub order_numbers : ℤ → ℤ → Order
+abbrev pub order_numbers : ℤ → ℤ → Ordering
 order_numbers (pos a) (pos b) = numbers a b
 order_numbers (pos a) (negsuc b) = Greater
 order_numbers (negsuc a) (pos b) = Less
 order_numbers (negsuc a) (negsuc b) = numbers b a
 
 -- "false is less than true"
-abbrev pub order_booleans : Bool → Bool → Order
+abbrev pub order_booleans : Bool → Bool → Ordering
 order_booleans true true = Equal
 order_booleans true false = Greater
 order_booleans false true = Less

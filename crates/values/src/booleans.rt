@@ -4,9 +4,7 @@ ghost use Rattle.text.specs.Bytes.{same};
 ghost use Rattle.text.specs.Table.{bit};
 ghost use Rattle.values.specs.Values.{map_option, lower, read_boolean};
 ghost use Rattle.values.specs.Spelling.{spell_boolean};
-ghost use Rattle.values.specs.Answers.{code_read};
 
-use crate::CodeRead;
 
 // An ASCII letter in its small form; any other byte as it is.
 fn lower_of(b: u8) -> u8
@@ -33,18 +31,18 @@ fn is_word(s: &[u8], w: &[u8]) -> bool
 }
 
 // The boolean that the bytes write: 1 for true, 0 for false.
-pub fn read_boolean(s: &[u8]) -> CodeRead
-    ensures { result ≡ code_read (map_option bit (read_boolean s.now)) }
+pub fn read_boolean(s: &[u8]) -> Option<u64>
+    ensures { result ≡ map_option bit (read_boolean s.now) }
 {
     let yes = is_word(s, b"true") | is_word(s, b"yes") | is_word(s, b"1");
     if yes {
-        return CodeRead::Code(1);
+        return Some(1);
     }
     let no = is_word(s, b"false") | is_word(s, b"no") | is_word(s, b"0");
     if no {
-        CodeRead::Code(0)
+        Some(0)
     } else {
-        CodeRead::Unfit
+        None
     }
 }
 

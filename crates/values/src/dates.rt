@@ -2,11 +2,10 @@
 ghost use Rattle.std.specs.Prelude.{◌≡◌};
 ghost use Rattle.values.specs.Values.{map_option, read_digits};
 ghost use Rattle.values.specs.Dates.{date, is_leap_year, days_in, is_day, date_code, date_from, real_day, read_date};
-ghost use Rattle.values.specs.Answers.{code_read};
 
-use crate::CodeRead;
 use crate::numbers::read_digits;
-use text::{byte_at, part};
+use tables::get_or;
+use text::part;
 
 // Whether a year is a leap year.
 fn is_leap_year(y: u64) -> bool
@@ -47,34 +46,34 @@ pub fn is_date_code(c: u64) -> bool
 }
 
 // The code of a year, a month and a day of the month, where they are read and there is such a day.
-fn real_day(year: &[u8], month: &[u8], day: &[u8]) -> CodeRead
-    ensures { result ≡ code_read (map_option date_code (real_day (read_digits year.now) (read_digits month.now) (read_digits day.now))) }
+fn real_day(year: &[u8], month: &[u8], day: &[u8]) -> Option<u64>
+    ensures { result ≡ map_option date_code (real_day (read_digits year.now) (read_digits month.now) (read_digits day.now)) }
 {
     match read_digits(year) {
-        CodeRead::Code(y) => match read_digits(month) {
-            CodeRead::Code(m) => match read_digits(day) {
-                CodeRead::Code(d) => {
+        Some(y) => match read_digits(month) {
+            Some(m) => match read_digits(day) {
+                Some(d) => {
                     if is_day(y, m, d) {
-                        CodeRead::Code(10000 * y + 100 * m + d)
+                        Some(10000 * y + 100 * m + d)
                     } else {
-                        CodeRead::Unfit
+                        None
                     }
                 }
-                CodeRead::Unfit => CodeRead::Unfit,
+                None => None,
             },
-            CodeRead::Unfit => CodeRead::Unfit,
+            None => None,
         },
-        CodeRead::Unfit => CodeRead::Unfit,
+        None => None,
     }
 }
 
 // The code of the day that the bytes write.
-pub fn read_date(s: &[u8]) -> CodeRead
-    ensures { result ≡ code_read (map_option date_code (read_date s.now)) }
+pub fn read_date(s: &[u8]) -> Option<u64>
+    ensures { result ≡ map_option date_code (read_date s.now) }
 {
-    if (s.len() == 10) & (byte_at(s, 4) == 45) & (byte_at(s, 7) == 45) {
+    if (s.len() == 10) & (get_or(s, 4, 0) == 45) & (get_or(s, 7, 0) == 45) {
         real_day(part(s, 0, 4), part(s, 5, 2), part(s, 8, 2))
     } else {
-        CodeRead::Unfit
+        None
     }
 }

@@ -2,33 +2,33 @@
 ghost use Rattle.std.specs.Prelude.{◌≡◌, length, drop};
 ghost use Rattle.values.specs.Values.{kind_word, scalar_code, kind_code, kind_from, same_scalar, same_kind, read_scalar, lowest, above, in_range};
 ghost use Rattle.values.specs.Spelling.{spell_scalar};
-ghost use Rattle.values.specs.Answers.{code_read, kind_read, kind_at};
+ghost use Rattle.values.specs.Answers.{kind_at};
 
 use crate::booleans::{boolean_length, read_boolean};
 use crate::numbers::{number_length, read_number};
-use crate::{CodeRead, Kind, KindRead, Scalar};
+use crate::{Kind, Scalar};
 use text::word_at;
 
 // Every kind has a byte below this.
 pub const KIND_COUNT: u8 = 4;
 
 // The kind whose word stands at a place.
-pub fn kind_at(s: &[u8], at: usize) -> KindRead
-    ensures { result ≡ kind_read (kind_at (drop at s.now)) }
+pub fn kind_at(s: &[u8], at: usize) -> Option<Kind>
+    ensures { result ≡ kind_at (drop at s.now) }
 {
     if word_at(s, at, b"page") {
-        return KindRead::Kind(Kind::Page);
+        return Some(Kind::Page);
     }
     if word_at(s, at, b"number") {
-        return KindRead::Kind(Kind::Scalar(Scalar::Number));
+        return Some(Kind::Scalar(Scalar::Number));
     }
     if word_at(s, at, b"boolean") {
-        return KindRead::Kind(Kind::Scalar(Scalar::Boolean));
+        return Some(Kind::Scalar(Scalar::Boolean));
     }
     if word_at(s, at, b"string") {
-        KindRead::Kind(Kind::String)
+        Some(Kind::String)
     } else {
-        KindRead::Nothing
+        None
     }
 }
 
@@ -98,8 +98,8 @@ pub fn same_kind(a: Kind, b: Kind) -> bool
 }
 
 // The code of the value that the bytes write in a scalar kind.
-pub fn read_scalar(k: Scalar, s: &[u8]) -> CodeRead
-    ensures { result ≡ code_read (read_scalar k s.now) }
+pub fn read_scalar(k: Scalar, s: &[u8]) -> Option<u64>
+    ensures { result ≡ read_scalar k s.now }
 {
     match k {
         Scalar::Number => read_number(s),

@@ -18,7 +18,8 @@ pub use kinds::{
     scalar_length, word_length,
 };
 use names::{is_name, is_namespace};
-use text::{Class, Span, all_in, byte_at, in_class, part, scan, trimmed};
+use tables::get_or;
+use text::{Class, Span, all_in, in_class, part, scan, trimmed};
 
 // The kinds of a property's values.
 #[derive(Clone, Copy)]
@@ -43,20 +44,6 @@ pub struct Split {
     pub article: Span,
 }
 
-// The code of a value that was read, or none.
-#[derive(Clone, Copy)]
-pub enum CodeRead {
-    Code(u64),
-    Unfit,
-}
-
-// A kind whose word was found, or none.
-#[derive(Clone, Copy)]
-pub enum KindRead {
-    Kind(Kind),
-    Nothing,
-}
-
 // The last byte of a text, 0 of an empty one.
 fn last_byte(s: &[u8]) -> u8
     ensures { result ≡ last s.now }
@@ -64,7 +51,7 @@ fn last_byte(s: &[u8]) -> u8
     if s.len() == 0 {
         return 0;
     }
-    byte_at(s, s.len() - 1)
+    get_or(s, s.len() - 1, 0)
 }
 
 // Whether there are 1 to 64 bytes.
@@ -78,14 +65,14 @@ fn is_sized(s: &[u8]) -> bool
 fn has_bare_ends(s: &[u8]) -> bool
     ensures { result ≡ has_bare_ends s.now }
 {
-    !in_class(Class::Blank, byte_at(s, 0)) & !in_class(Class::Blank, last_byte(s))
+    !in_class(Class::Blank, get_or(s, 0, 0)) & !in_class(Class::Blank, last_byte(s))
 }
 
 // Whether the bytes are a value.
 pub fn is_value(s: &[u8]) -> bool
     ensures { result ≡ is_value s.now }
 {
-    is_sized(s) & all_in(s, Class::Value) & (byte_at(s, 0) != 126) & has_bare_ends(s)
+    is_sized(s) & all_in(s, Class::Value) & (get_or(s, 0, 0) != 126) & has_bare_ends(s)
 }
 
 // Where the two sides of a reference lie, split at the first colon and trimmed.

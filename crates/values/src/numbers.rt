@@ -2,10 +2,9 @@
 ghost use Rattle.std.specs.Prelude.{◌≡◌, ◌-◌, ◌^◌, ◌<◌, length};
 ghost use Rattle.values.specs.Values.{map_option, read_digits, read_fraction, read_thousandths, read_number, biased};
 ghost use Rattle.values.specs.Spelling.{digits, spell_fraction, spell_thousandths, spell_number, number_from};
-ghost use Rattle.values.specs.Answers.{code_read};
 
-use crate::CodeRead;
-use text::{Class, all_in, byte_at, part, scan};
+use tables::get_or;
+use text::{Class, all_in, part, scan};
 
 // What a decimal digit counts.
 fn digit_of(b: u8) -> u64
@@ -15,20 +14,20 @@ fn digit_of(b: u8) -> u64
 }
 
 // The number that 1 to 15 decimal digits write, as it is.
-pub fn read_digits(s: &[u8]) -> CodeRead
-    ensures { result ≡ code_read (read_digits s.now) }
+pub fn read_digits(s: &[u8]) -> Option<u64>
+    ensures { result ≡ read_digits s.now }
 {
     let fit = (1 <= s.len()) & (s.len() <= 15) & all_in(s, Class::Digit);
     if !fit {
-        return CodeRead::Unfit;
+        return None;
     }
     let mut n: u64 = 0;
     let mut i: usize = 0;
     while i < s.len() {
-        n = 10 * n + digit_of(byte_at(s, i));
+        n = 10 * n + digit_of(get_or(s, i, 0));
         i += 1;
     }
-    CodeRead::Code(n)
+    Some(n)
 }
 
 // What the last of k digits behind a point counts, in thousandths.
@@ -45,50 +44,50 @@ fn last_counts(k: usize) -> u64
 }
 
 // The thousandths that a point and 1 to 3 digits write; nothing writes none.
-fn read_fraction(s: &[u8]) -> CodeRead
-    ensures { result ≡ code_read (read_fraction s.now) }
+fn read_fraction(s: &[u8]) -> Option<u64>
+    ensures { result ≡ read_fraction s.now }
 {
     if s.len() == 0 {
-        return CodeRead::Code(0);
+        return Some(0);
     }
     let digits = part(s, 1, s.len());
-    if (byte_at(s, 0) != 46) | (3 < digits.len()) {
-        return CodeRead::Unfit;
+    if (get_or(s, 0, 0) != 46) | (3 < digits.len()) {
+        return None;
     }
     match read_digits(digits) {
-        CodeRead::Code(n) => CodeRead::Code(n * last_counts(digits.len())),
-        CodeRead::Unfit => CodeRead::Unfit,
+        Some(n) => Some(n * last_counts(digits.len())),
+        None => None,
     }
 }
 
 // The thousandths that digits and what stands behind them write.
-fn read_thousandths(s: &[u8]) -> CodeRead
-    ensures { result ≡ code_read (read_thousandths s.now) }
+fn read_thousandths(s: &[u8]) -> Option<u64>
+    ensures { result ≡ read_thousandths s.now }
 {
     let point = scan(s, 0, Class::Digit);
     match read_digits(part(s, 0, point)) {
-        CodeRead::Code(n) => match read_fraction(part(s, point, s.len())) {
-            CodeRead::Code(m) => CodeRead::Code(1000 * n + m),
-            CodeRead::Unfit => CodeRead::Unfit,
+        Some(n) => match read_fraction(part(s, point, s.len())) {
+            Some(m) => Some(1000 * n + m),
+            None => None,
         },
-        CodeRead::Unfit => CodeRead::Unfit,
+        None => None,
     }
 }
 
 // The number of thousandths that the bytes write, with 10^18 added.
-pub fn read_number(s: &[u8]) -> CodeRead
-    ensures { result ≡ code_read (map_option biased (read_number s.now)) }
+pub fn read_number(s: &[u8]) -> Option<u64>
+    ensures { result ≡ map_option biased (read_number s.now) }
 {
-    if byte_at(s, 0) == 45 {
+    if get_or(s, 0, 0) == 45 {
         let digits = part(s, 1, s.len());
         match read_thousandths(digits) {
-            CodeRead::Code(n) => CodeRead::Code(1_000_000_000_000_000_000 - n),
-            CodeRead::Unfit => CodeRead::Unfit,
+            Some(n) => Some(1_000_000_000_000_000_000 - n),
+            None => None,
         }
     } else {
         match read_thousandths(s) {
-            CodeRead::Code(n) => CodeRead::Code(1_000_000_000_000_000_000 + n),
-            CodeRead::Unfit => CodeRead::Unfit,
+            Some(n) => Some(1_000_000_000_000_000_000 + n),
+            None => None,
         }
     }
 }

@@ -4,7 +4,7 @@ ghost use Rattle.values.specs.ByteRules.{rule_table, RuledOut, name_class};
 
 use crate::{has_bare_ends, is_sized};
 use names::own_form::all_paired;
-use text::{byte_at, widen};
+use tables::get_or;
 
 // A digit for each byte: 0 where a name may have it by itself, 1 where a composed name may have it in a pair, 2 where only a value may,
 // 4 where neither may.
@@ -21,7 +21,7 @@ fn ruled_out<'a>(rules: &'a [u8], s: &'a [u8]) -> u8
     let mut out: u8 = 0;
     let mut i: usize = 0;
     while i < s.len() {
-        out = out | byte_at(rules, widen(s[i]));
+        out = out | get_or(rules, usize::from(s[i]), 0);
         i += 1;
     }
     out % 16
@@ -35,7 +35,7 @@ pub fn name_class<'a>(rules: &'a [u8], s: &'a [u8]) -> u16
     if !fit {
         return 0;
     }
-    let first = byte_at(s, 0);
+    let first = get_or(s, 0, 0);
     let out = ruled_out(rules, s);
     let begun = !((first == 33) | (first == 126) | (first == 43));
     if begun & (out < 1) {

@@ -19,7 +19,6 @@ use register_form::{REGISTER_BYTES, page_count};
 use std::io;
 use std::process::ExitCode;
 use steps::step_at;
-use tables::widen;
 use text::part;
 
 // Writes a word, a number and the end of the line.
@@ -74,7 +73,7 @@ fn register_step(rt: &impl Print, words: &[u8], held: &mut [u8]) -> io::Result<(
     if number != 0 {
         return write_line(rt, "register", number);
     }
-    write_line(rt, "register 0 pages", widen(page_count(held)))
+    write_line(rt, "register 0 pages", usize::from(page_count(held)))
 }
 
 // The register call and the query call, with buffers one byte short.

@@ -1,7 +1,7 @@
 // The script, taken apart.
 ghost use Rattle.std.specs.Prelude.{ℕ, ◌<◌, ◌≤◌, length};
 
-use text::byte_at;
+use tables::get_or;
 
 // A step: its text is `len` bytes from `start` on, and the next step begins at `next`.
 #[derive(Clone, Copy)]
@@ -32,7 +32,7 @@ pub fn number_at(s: &[u8], at: usize) -> Number
     let mut value: usize = 0;
     let mut i = at;
     while i < s.len() {
-        let b = byte_at(s, i);
+        let b = get_or(s, i, 0);
         if b < 48 {
             return Number { value, end: i };
         }
@@ -72,7 +72,7 @@ pub fn step_at(s: &[u8], at: usize) -> Step
             next: s.len(),
         };
     }
-    let letter = byte_at(s, at);
+    let letter = get_or(s, at, 0);
     let number = number_at(s, at + 1);
     let value = number.value;
     let end = number.end;

@@ -5,7 +5,7 @@ use Rattle.call_ask.proofs.Writing.{writing_none, writing_more, writing_all, no_
 use Rattle.call_ask.proofs.write_marks.Goals as goal
 
 pub returns-then-out-end : goal.returns-then-out-end
-returns-then-out-end c = no_room _ _ _ _ _ c.capped.ensures c.widen-end.ensures c.if-out-end.true
+returns-then-out-end c = no_room _ _ _ _ _ c.capped.ensures c.from-end.ensures c.if-out-end.true
 
 pub loop-i-init : goal.loop-i-init
 loop-i-init c = writing_none _ _ _
@@ -20,4 +20,4 @@ pub shape_of-out : goal.shape_of-out
 shape_of-out c = c.loop-i.invariant.size
 
 pub returns : goal.returns
-returns c = writing_all _ _ _ _ _ c.loop-i.invariant _ _ c.capped.ensures c.widen-end.ensures c.loop-i-test.false
+returns c = writing_all _ _ _ _ _ c.loop-i.invariant _ _ c.capped.ensures c.from-end.ensures c.loop-i-test.false

@@ -7,4 +7,4 @@ returns-then-s-i c = told_past _ c.args.s.now c.args.i c.if-s-i.true
 
 -- src/lib.rt:83:1
 pub returns : goal.returns
-returns c = told_here _ c.args.s.now c.args.i _ _ _ _ c.byte_at-a.ensures c.byte_at-b.ensures c.byte_at-c.ensures c.letter_of.ensures
+returns c = told_here _ c.args.s.now c.args.i _ _ _ _ c.get_or-a.ensures c.get_or-b.ensures c.get_or-c.ensures c.letter_of.ensures

@@ -3,7 +3,7 @@ use Rattle.names.proofs.lone_letter.Goals as goal
 
 -- src/lib.rt:51:9
 pub returns-then-is_plain : goal.returns-then-is_plain
-returns-then-is_plain c = lone_plain _ _ _ c.is_plain.ensures c.if-is_plain.true _ c.wide.ensures
+returns-then-is_plain c = lone_plain _ _ _ c.is_plain.ensures c.if-is_plain.true _ c.from.ensures
 
 -- src/lib.rt:58:9
 pub returns-then-code-eq0 : goal.returns-then-code-eq0

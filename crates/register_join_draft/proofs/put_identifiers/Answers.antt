@@ -6,7 +6,7 @@ pub loop-i-init : goal.loop-i-init
 loop-i-init c = (omega arith, identifiers_none _ _ _ _ _)
 
 pub loop-i-preserved : goal.loop-i-preserved
-loop-i-preserved c = (omega arith, identifiers_next _ _ _ _ _ _ _ _ _ _ _ _ _ _ _ c.loop-i.invariant.1 (omega (arith, c.loop-i-test.true, c.page_count-most.ensures)) c.identifier_number.ensures c.widen.ensures c.get.ensures c.enter-n.ensures)
+loop-i-preserved c = (omega arith, identifiers_next _ _ _ _ _ _ _ _ _ _ _ _ _ _ _ c.loop-i.invariant.1 (omega (arith, c.loop-i-test.true, c.page_count-most.ensures)) c.identifier_number.ensures c.from.ensures c.get_or.ensures c.enter-n.ensures)
 
 pub shape_of-list : goal.shape_of-list
 shape_of-list c = c.loop-i.invariant.1.list_size

@@ -6,7 +6,7 @@ pub loop-p-init : goal.loop-p-init
 loop-p-init c = (omega arith, properties_none _ _ _ _ _ _)
 
 pub loop-p-preserved : goal.loop-p-preserved
-loop-p-preserved c = (omega arith, properties_next _ _ _ _ _ _ _ _ _ _ _ _ _ _ _ _ _ _ _ _ c.loop-p.invariant.1 (omega (arith, c.loop-p-test.true, c.property_count-most.ensures)) c.widen.ensures c.kind_byte.ensures c.put_byte.ensures c.name_number.ensures c.widen-in-loop-p.ensures c.get.ensures c.enter-n.ensures)
+loop-p-preserved c = (omega arith, properties_next _ _ _ _ _ _ _ _ _ _ _ _ _ _ _ _ _ _ _ _ c.loop-p.invariant.1 (omega (arith, c.loop-p-test.true, c.property_count-most.ensures)) c.from.ensures c.kind_byte.ensures c.put.ensures c.name_number.ensures c.from-in-loop-p.ensures c.get_or.ensures c.enter-n.ensures)
 
 pub shape_of-kinds : goal.shape_of-kinds
 shape_of-kinds c = c.loop-p.invariant.1.kinds_size

@@ -4,6 +4,7 @@ use mathlib.Core.List.{List}
 use native.Mathlib.Omega.{arith}
 use lib.ListN.{length}
 use Rattle.text.proofs.Keys.{Small, both_left, keys_differ, keys_same}
+use Rattle.text.proofs.Laws.{numbers_cmp}
 use Rattle.text.proofs.compare_long.Goals as goal
 
 pub loop-i-init : goal.loop-i-init
@@ -16,7 +17,7 @@ returns-then-x-y c =
     let i : ℕ = c.loop-i.i in
     let s : Small a = λ j. omega (arith, c.shared_slice_known-1.given j) in
     let t : Small b = λ j. omega (arith, c.shared_slice_known-2-1.given j) in
-    c.compare_numbers.ensures ∙ sym (c.loop-i.invariant.2 ∙ keys_differ a b s t i _ _ c.key_at-x.ensures c.key_at-y.ensures c.if-x-y.true)
+    (c.cmp.ensures ∙ numbers_cmp _ _) ∙ sym (c.loop-i.invariant.2 ∙ keys_differ a b s t i _ _ c.key_at-x.ensures c.key_at-y.ensures c.if-x-y.true)
 
 pub loop-i-smaller : goal.loop-i-smaller
 loop-i-smaller c =

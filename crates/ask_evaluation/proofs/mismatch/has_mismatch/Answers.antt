@@ -10,4 +10,4 @@ pub loop-i-preserved : goal.loop-i-preserved
 loop-i-preserved c = (omega arith, some_more _ _ _ _ c.loop-i.invariant.1 _ c.mixes_at-some.ensures)
 
 pub returns : goal.returns
-returns c = some_all _ _ _ _ c.loop-i.invariant.1 _ (c.widen-n.ensures ∙ c.two_at.ensures) c.loop-i.invariant.0 c.loop-i-test.false
+returns c = some_all _ _ _ _ c.loop-i.invariant.1 _ (c.from-n.ensures ∙ c.two_at.ensures) c.loop-i.invariant.0 c.loop-i-test.false

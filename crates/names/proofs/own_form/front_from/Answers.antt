@@ -12,15 +12,15 @@ overflow_add-i c = omega (arith, c.loop-i-test.true)
 
 -- src/own_form.rt:29:13
 pub returns-then-b : goal.returns-then-b
-returns-then-b c = front_marked _ _ c.loop-i.invariant c.loop-i-test.true _ c.byte_at-b.ensures c.if-b.true
+returns-then-b c = front_marked _ _ c.loop-i.invariant c.loop-i-test.true _ c.get_or-b.ensures c.if-b.true
 
 -- src/own_form.rt:34:13
 pub returns-then-w-eq0 : goal.returns-then-w-eq0
-returns-then-w-eq0 c = front_ends _ _ c.loop-i.invariant c.loop-i-test.true _ c.byte_at-b.ensures c.if-b.false _ c.lone_letter-x.ensures c.if-w-eq0.true
+returns-then-w-eq0 c = front_ends _ _ c.loop-i.invariant c.loop-i-test.true _ c.get_or-b.ensures c.if-b.false _ c.lone_letter-x.ensures c.if-w-eq0.true
 
 -- src/own_form.rt:36:9
 pub overflow_add-i-in-loop-i : goal.overflow_add-i-in-loop-i
-overflow_add-i-in-loop-i c = omega (arith, (front_more _ _ c.loop-i.invariant c.loop-i-test.true _ c.byte_at-b.ensures c.if-b.false _ c.lone_letter-x.ensures c.if-w-eq0.false).most)
+overflow_add-i-in-loop-i c = omega (arith, (front_more _ _ c.loop-i.invariant c.loop-i-test.true _ c.get_or-b.ensures c.if-b.false _ c.lone_letter-x.ensures c.if-w-eq0.false).most)
 
 -- src/own_form.rt:25:5
 pub loop-i-smaller : goal.loop-i-smaller
@@ -28,7 +28,7 @@ loop-i-smaller c = omega (arith, c.loop-i-test.true, c.if-w-eq0.false)
 
 -- src/own_form.rt:25:5
 pub loop-i-preserved : goal.loop-i-preserved
-loop-i-preserved c = front_more _ _ c.loop-i.invariant c.loop-i-test.true _ c.byte_at-b.ensures c.if-b.false _ c.lone_letter-x.ensures c.if-w-eq0.false
+loop-i-preserved c = front_more _ _ c.loop-i.invariant c.loop-i-test.true _ c.get_or-b.ensures c.if-b.false _ c.lone_letter-x.ensures c.if-w-eq0.false
 
 -- src/own_form.rt:20:1
 pub returns : goal.returns

@@ -5,10 +5,10 @@ use Rattle.program_listing.proofs.pagelist.put_lines.Goals as goal
 pub loop-i-init : goal.loop-i-init
 loop-i-init c = search (line-ways, rules)
 
-pub widen-requires : goal.widen-requires
+pub widen-requires : goal.from-requires
 widen-requires c = search (line-ways, rules)
 
-pub byte_at-mark-requires : goal.byte_at-mark-requires
+pub byte_at-mark-requires : goal.get_or-mark-requires
 byte_at-mark-requires c = search (line-ways, rules)
 
 pub put_page-to-requires : goal.put_page-to-requires

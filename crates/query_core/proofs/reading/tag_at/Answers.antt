@@ -3,4 +3,4 @@ use Rattle.query_core.proofs.reading.tag_at.Goals as goal
 
 pub returns : goal.returns
 unfolding slot_from
-returns c = rw (c.byte_at.ensures, c.slot_bytes.ensures)
+returns c = rw (c.get_or.ensures, c.slot_bytes.ensures)

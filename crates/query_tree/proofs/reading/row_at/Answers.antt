@@ -6,4 +6,4 @@ pub returns-then-h-i : goal.returns-then-h-i
 returns-then-h-i c = row_past _ _ c.if-h-i.true
 
 pub returns : goal.returns
-returns c = row_is _ _ _ _ _ _ _ _ refl c.byte_at.ensures c.byte_at-2.ensures c.two_at.ensures c.byte_at-3.ensures c.byte_at-4.ensures
+returns c = row_is _ _ _ _ _ _ _ _ refl c.get_or.ensures c.get_or-2.ensures c.two_at.ensures c.get_or-3.ensures c.get_or-4.ensures

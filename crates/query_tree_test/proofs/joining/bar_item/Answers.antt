@@ -4,4 +4,4 @@ use Rattle.query_tree_test.proofs.joining.bar_item.Goals as goal
 
 pub returns : goal.returns
 unfolding bar_item
-returns c = c.only_if.ensures ∙ rw (c.is_size.ensures, c.alike.ensures, c.item_of-item.ensures, c.larger-depth.ensures, c.widen-4.ensures, c.widen-3.ensures, c.widen-2.ensures, c.widen.ensures)
+returns c = c.only_if.ensures ∙ rw (c.is_size.ensures, c.alike.ensures, c.item_of-item.ensures, c.larger-depth.ensures, c.from-4.ensures, c.from-3.ensures, c.from-2.ensures, c.from.ensures)

@@ -5,4 +5,4 @@ use Rattle.query_tree_test.proofs.joining.subquery_item.Goals as goal
 
 pub returns : goal.returns
 unfolding subquery_item
-returns c = c.only_if.ensures ∙ rw (c.is_query.ensures, c.item_of-item.ensures, c.is_good-good.ensures, c.widen-depth.ensures, c.full_bytes.ensures, add-one)
+returns c = c.only_if.ensures ∙ rw (c.is_query.ensures, c.item_of-item.ensures, c.is_good-good.ensures, c.from-depth.ensures, c.full_bytes.ensures, add-one)

@@ -6,4 +6,4 @@ use Rattle.query_tree_test.proofs.leaves.spelled_value.Goals as goal
 
 pub returns : goal.returns
 unfolding spelled_value
-returns c = rw (c.same_bytes.ensures, c.byte_at.ensures, c.is_equal.ensures, c.is_value.ensures)
+returns c = rw (c.same_bytes.ensures, c.get_or.ensures, c.is_equal.ensures, c.is_value.ensures)

@@ -7,4 +7,4 @@ returns-then-at-gt-STRING_BYTES c = row_far _ _ c.if-at-gt-STRING_BYTES.true
 
 pub returns : goal.returns
 unfolding row_fits
-returns c = rw (c.widen-first.ensures, c.widen-second.ensures, c.widen.ensures, c.place_of.ensures, c.last_comparator.ensures, c.uses_first.ensures, c.uses_second.ensures)
+returns c = rw (c.from-first.ensures, c.from-second.ensures, c.from.ensures, c.place_of.ensures, c.last_comparator.ensures, c.uses_first.ensures, c.uses_second.ensures)

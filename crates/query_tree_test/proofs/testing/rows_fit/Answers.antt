@@ -10,10 +10,10 @@ pub returns-then-not-row_fits : goal.returns-then-not-row_fits
 returns-then-not-row_fits c = rows_stop c.args.h.now _ _ _ c.loop-i.invariant.1 c.row_at-row.ensures _ _ c.row_fits.ensures (not-true _ c.if-not-row_fits.true-raw) c.loop-i-test.true
 
 pub overflow_add-at : goal.overflow_add-at
-overflow_add-at c = omega (arith, c.loop-i.invariant.1.most, c.widen.ensures)
+overflow_add-at c = omega (arith, c.loop-i.invariant.1.most, c.from.ensures)
 
 pub overflow_add-at-in-loop-i : goal.overflow_add-at-in-loop-i
-overflow_add-at-in-loop-i c = omega (arith, c.loop-i.invariant.1.most, c.widen.ensures, c.widen-in-loop-i.ensures)
+overflow_add-at-in-loop-i c = omega (arith, c.loop-i.invariant.1.most, c.from.ensures, c.from-in-loop-i.ensures)
 
 pub overflow_add-i : goal.overflow_add-i
 overflow_add-i c = omega (arith, c.loop-i-test.true)
@@ -22,7 +22,7 @@ pub loop-i-smaller : goal.loop-i-smaller
 loop-i-smaller c = omega (arith, c.loop-i-test.true)
 
 pub loop-i-preserved : goal.loop-i-preserved
-loop-i-preserved c = (omega (arith, c.loop-i-test.true), rows_more c.args.h.now _ _ _ c.loop-i.invariant.1 c.row_at-row.ensures _ _ _ c.row_fits.ensures (not-false _ c.if-not-row_fits.false-raw) c.widen.ensures c.widen-in-loop-i.ensures)
+loop-i-preserved c = (omega (arith, c.loop-i-test.true), rows_more c.args.h.now _ _ _ c.loop-i.invariant.1 c.row_at-row.ensures _ _ _ c.row_fits.ensures (not-false _ c.if-not-row_fits.false-raw) c.from.ensures c.from-in-loop-i.ensures)
 
 pub returns : goal.returns
 returns c = rows_all c.args.h.now _ _ _ c.loop-i.invariant.1 c.loop-i.invariant.0 c.loop-i-test.false

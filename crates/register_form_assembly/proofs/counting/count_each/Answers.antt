@@ -8,10 +8,10 @@ add_capped-sum-requires c = search (summing, rules)
 pub loop-i-init : goal.loop-i-init
 loop-i-init c = search (summing, rules)
 
-pub widen-requires : goal.widen-requires
+pub widen-requires : goal.from-requires
 widen-requires c = search (summing, rules)
 
-pub get-requires : goal.get-requires
+pub get-requires : goal.get_or-requires
 get-requires c = search (summing, rules)
 
 pub term_bytes-requires : goal.term_bytes-requires
@@ -27,7 +27,7 @@ pub loop-i-smaller : goal.loop-i-smaller
 loop-i-smaller c = search (summing, rules)
 
 pub loop-i-preserved : goal.loop-i-preserved
-loop-i-preserved c = summing_more _ _ _ _ _ _ _ _ _ _ c.loop-i.invariant c.loop-i-test.true c.widen.ensures c.get.ensures c.term_bytes.ensures c.add_capped-sum-in-loop-i.ensures
+loop-i-preserved c = summing_more _ _ _ _ _ _ _ _ _ _ c.loop-i.invariant c.loop-i-test.true c.from.ensures c.get_or.ensures c.term_bytes.ensures c.add_capped-sum-in-loop-i.ensures
 
 pub returns : goal.returns
 returns c = search (summing, rules)

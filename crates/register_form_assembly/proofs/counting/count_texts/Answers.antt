@@ -8,10 +8,10 @@ add_capped-sum-requires c = search (summing, rules)
 pub loop-i-init : goal.loop-i-init
 loop-i-init c = search (summing, rules)
 
-pub widen-requires : goal.widen-requires
+pub widen-requires : goal.from-requires
 widen-requires c = search (summing, rules)
 
-pub get-requires : goal.get-requires
+pub get-requires : goal.get_or-requires
 get-requires c = search (summing, rules)
 
 pub text_bytes-requires : goal.text_bytes-requires

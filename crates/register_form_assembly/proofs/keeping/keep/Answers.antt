@@ -5,8 +5,8 @@ use Rattle.register_form_assembly.proofs.keeping.keep.Goals as goal
 pub returns-then-not-wanted : goal.returns-then-not-wanted
 returns-then-not-wanted c = kept_unwanted _ _ _ _ _ _ (not-true _ c.if-not-wanted.true-raw)
 
-pub returns-then-get-page : goal.returns-then-get-page
-returns-then-get-page c = kept_there _ _ _ _ _ _ _ _ (not-false _ c.if-not-wanted.false-raw) c.widen-k.ensures c.get.ensures c.if-get-page.true
+pub returns-then-get_or-page : goal.returns-then-get_or-page
+returns-then-get_or-page c = kept_there _ _ _ _ _ _ _ _ (not-false _ c.if-not-wanted.false-raw) c.from-k.ensures c.get_or.ensures c.if-get_or-page.true
 
 pub returns : goal.returns
-returns c = kept_new _ _ _ _ _ _ _ _ (not-false _ c.if-not-wanted.false-raw) c.widen-k.ensures c.get.ensures _ _ _ _ c.if-get-page.false c.put.ensures c.widen.ensures c.put-2.ensures c.bump.ensures
+returns c = kept_new _ _ _ _ _ _ _ _ (not-false _ c.if-not-wanted.false-raw) c.from-k.ensures c.get_or.ensures _ _ _ _ c.if-get_or-page.false c.put.ensures c.from.ensures c.put-2.ensures c.bump.ensures

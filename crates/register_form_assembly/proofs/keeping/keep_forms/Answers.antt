@@ -6,7 +6,7 @@ pub loop-page-init : goal.loop-page-init
 loop-page-init c = (omega arith, paging_none _ _ _ _ _ _ _)
 
 pub loop-page-preserved : goal.loop-page-preserved
-loop-page-preserved c = (omega arith, paging_more _ _ _ _ _ _ _ _ _ _ _ _ c.loop-page.invariant.1 _ _ _ _ _ _ _ _ _ _ _ _ c.loop-page-test.true c.widen.ensures c.get-from.ensures c.widen-in-loop-page.ensures c.get-to.ensures c.keep_pass-some.ensures c.keep_pass-count.ensures c.widen-in-loop-page-2.ensures c.put.ensures)
+loop-page-preserved c = (omega arith, paging_more _ _ _ _ _ _ _ _ _ _ _ _ c.loop-page.invariant.1 _ _ _ _ _ _ _ _ _ _ _ _ c.loop-page-test.true c.from.ensures c.get_or-from.ensures c.from-in-loop-page.ensures c.get_or-to.ensures c.keep_pass-some.ensures c.keep_pass-count.ensures c.from-in-loop-page-2.ensures c.put.ensures)
 
 pub returns : goal.returns
 returns c = paging_all _ _ _ _ _ _ _ _ _ _ _ _ c.loop-page.invariant.1 c.loop-page.invariant.0 c.loop-page-test.false

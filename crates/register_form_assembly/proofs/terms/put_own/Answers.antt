@@ -6,7 +6,7 @@ pub loop-i-init : goal.loop-i-init
 loop-i-init c = filling_none _ _
 
 pub loop-i-preserved : goal.loop-i-preserved
-loop-i-preserved c = filling_more _ _ _ _ _ _ _ c.loop-i.invariant c.widen.ensures refl c.put.ensures
+loop-i-preserved c = filling_more _ _ _ _ _ _ _ c.loop-i.invariant c.from.ensures refl c.put.ensures
 
 pub shape_of-t : goal.shape_of-t
 shape_of-t c = c.loop-i.invariant.size

@@ -5,7 +5,7 @@ pub loop-f-init : goal.loop-f-init
 loop-f-init c = terms_none _ _ _ _ _ _
 
 pub loop-f-preserved : goal.loop-f-preserved
-loop-f-preserved c = terms_more _ _ _ _ _ _ _ _ c.loop-f.invariant _ _ _ _ _ c.loop-f-test.true c.widen-k.ensures c.byte_at-group.ensures c.code_at.ensures c.code_by.ensures c.put_term.ensures
+loop-f-preserved c = terms_more _ _ _ _ _ _ _ _ c.loop-f.invariant _ _ _ _ _ c.loop-f-test.true c.from-k.ensures c.get_or-group.ensures c.get_or.ensures c.code_by.ensures c.put_term.ensures
 
 pub returns : goal.returns
 returns c = terms_all _ _ _ _ _ _ _ _ c.loop-f.invariant c.loop-f-test.false

@@ -2,13 +2,13 @@ use borrow.Author.Rules.{rules}
 use Rattle.register_form_bytes.proofs.Looping.{numbering}
 use Rattle.register_form_bytes.proofs.regions.put_each.Goals as goal
 
-pub widen-base-requires : goal.widen-base-requires
+pub widen-base-requires : goal.from-base-requires
 widen-base-requires c = search (numbering, rules)
 
 pub loop-i-init : goal.loop-i-init
 loop-i-init c = search (numbering, rules)
 
-pub widen-k-requires : goal.widen-k-requires
+pub widen-k-requires : goal.from-k-requires
 widen-k-requires c = search (numbering, rules)
 
 pub overflow_mul-k : goal.overflow_mul-k
@@ -17,7 +17,7 @@ overflow_mul-k c = search (numbering, rules)
 pub overflow_add-base : goal.overflow_add-base
 overflow_add-base c = search (numbering, rules)
 
-pub num_at-requires : goal.num_at-requires
+pub num_at-requires : goal.get_or-requires
 num_at-requires c = search (numbering, rules)
 
 pub put_two-requires : goal.put_two-requires

@@ -18,4 +18,4 @@ pub shape_of-h : goal.shape_of-h
 shape_of-h c = c.loop-i.invariant.0
 
 pub returns : goal.returns
-returns c = numbers_all _ _ _ _ _ _ c.loop-i.invariant.1 _ c.widen-base.ensures (omega arith)
+returns c = numbers_all _ _ _ _ _ _ c.loop-i.invariant.1 _ c.from-base.ensures (omega arith)

@@ -2,13 +2,13 @@ use borrow.Author.Rules.{rules}
 use Rattle.register_form_bytes.proofs.Looping.{declaring, properties_more}
 use Rattle.register_form_bytes.proofs.regions.put_properties.Goals as goal
 
-pub widen-base-requires : goal.widen-base-requires
+pub widen-base-requires : goal.from-base-requires
 widen-base-requires c = search (declaring, rules)
 
 pub loop-p-init : goal.loop-p-init
 loop-p-init c = search (declaring, rules)
 
-pub widen-k-requires : goal.widen-k-requires
+pub widen-k-requires : goal.from-k-requires
 widen-k-requires c = search (declaring, rules)
 
 pub overflow_mul-k : goal.overflow_mul-k
@@ -17,13 +17,13 @@ overflow_mul-k c = search (declaring, rules)
 pub overflow_add-base : goal.overflow_add-base
 overflow_add-base c = search (declaring, rules)
 
-pub byte_at-requires : goal.byte_at-requires
+pub byte_at-requires : goal.get_or-requires
 byte_at-requires c = search (declaring, rules)
 
-pub num_at-requires : goal.num_at-requires
+pub num_at-requires : goal.get_or-requires
 num_at-requires c = search (declaring, rules)
 
-pub get-requires : goal.get-requires
+pub get-requires : goal.get_or-requires
 get-requires c = search (declaring, rules)
 
 pub put_property-requires : goal.put_property-requires
@@ -36,7 +36,7 @@ pub loop-p-smaller : goal.loop-p-smaller
 loop-p-smaller c = search (declaring, rules)
 
 pub loop-p-preserved : goal.loop-p-preserved
-loop-p-preserved c = properties_more _ _ _ _ _ _ _ _ c.loop-p.invariant _ _ _ _ _ c.loop-p-test.true c.widen-k.ensures c.byte_at.ensures c.num_at.ensures c.get.ensures c.put_property.ensures
+loop-p-preserved c = properties_more _ _ _ _ _ _ _ _ c.loop-p.invariant _ _ _ _ _ c.loop-p-test.true c.from-k.ensures c.get_or.ensures c.get_or.ensures c.get_or.ensures c.put_property.ensures
 
 pub shape_of-h : goal.shape_of-h
 shape_of-h c = search (declaring, rules)

@@ -2,7 +2,7 @@ use borrow.Author.Rules.{rules}
 use Rattle.register_form_bytes.proofs.Looping.{laying, texts_more}
 use Rattle.register_form_bytes.proofs.regions.put_texts.Goals as goal
 
-pub widen-to-requires : goal.widen-to-requires
+pub widen-to-requires : goal.from-to-requires
 widen-to-requires c = search (laying, rules)
 
 pub loop-i-init : goal.loop-i-init
@@ -14,10 +14,10 @@ shape_of-h-then-h-to c = search (laying, rules)
 pub returns-then-h-to : goal.returns-then-h-to
 returns-then-h-to c = search (laying, rules)
 
-pub widen-requires : goal.widen-requires
+pub widen-requires : goal.from-requires
 widen-requires c = search (laying, rules)
 
-pub get-requires : goal.get-requires
+pub get-requires : goal.get_or-requires
 get-requires c = search (laying, rules)
 
 pub text_at-t-requires : goal.text_at-t-requires
@@ -36,7 +36,7 @@ pub loop-i-smaller : goal.loop-i-smaller
 loop-i-smaller c = search (laying, rules)
 
 pub loop-i-preserved : goal.loop-i-preserved
-loop-i-preserved c = texts_more _ _ _ _ _ _ _ _ c.loop-i.invariant _ _ _ _ c.loop-i-test.true c.widen.ensures c.get.ensures c.text_at-t.ensures c.put_bytes.ensures
+loop-i-preserved c = texts_more _ _ _ _ _ _ _ _ c.loop-i.invariant _ _ _ _ c.loop-i-test.true c.from.ensures c.get_or.ensures c.text_at-t.ensures c.put_bytes.ensures
 
 pub shape_of-h : goal.shape_of-h
 shape_of-h c = search (laying, rules)

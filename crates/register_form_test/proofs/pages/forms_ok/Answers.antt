@@ -22,11 +22,11 @@ shape_of-last-then-terms-f c = search (loops, rules)
 pub returns-then-terms-f : goal.returns-then-terms-f
 returns-then-terms-f c = search (form_past, rules)
 
-pub shape_of-last-then-get-mark : goal.shape_of-last-then-get-mark
-shape_of-last-then-get-mark c = search (loops, rules)
+pub shape_of-last-then-get_or-mark : goal.shape_of-last-then-get_or-mark
+shape_of-last-then-get_or-mark c = search (loops, rules)
 
-pub returns-then-get-mark : goal.returns-then-get-mark
-returns-then-get-mark c = form_again _ _ c.requires.0 c.requires.1 _ c.forms_of-forms.ensures _ _ c.two_at-f.ensures c.loop-j-test.true _ _ _ _ c.loop-j.invariant.4 _ _ c.widen-at.ensures c.get.ensures c.if-get-mark.true
+pub returns-then-get_or-mark : goal.returns-then-get_or-mark
+returns-then-get_or-mark c = form_again _ _ c.requires.0 c.requires.1 _ c.forms_of-forms.ensures _ _ c.two_at-f.ensures c.loop-j-test.true _ _ _ _ c.loop-j.invariant.4 _ _ c.from-at.ensures c.get_or.ensures c.if-get_or-mark.true
 
 pub shape_of-last-then-behind-category : goal.shape_of-last-then-behind-category
 shape_of-last-then-behind-category c = search (loops, rules)

@@ -16,7 +16,7 @@ pub loop-at-smaller : goal.loop-at-smaller
 loop-at-smaller c = omega arith
 
 pub loop-at-preserved : goal.loop-at-preserved
-loop-at-preserved c = looked_more _ _ _ _ c.loop-at.invariant _ _ c.loop-at-test.true c.two_at.ensures (c.wanted_at-some.ensures ∙ rw c.widen.ensures)
+loop-at-preserved c = looked_more _ _ _ _ c.loop-at.invariant _ _ c.loop-at-test.true c.two_at.ensures (c.wanted_at-some.ensures ∙ rw c.from.ensures)
 
 pub returns : goal.returns
 returns c = looked_end _ _ _ _ c.loop-at.invariant c.loop-at-test.false

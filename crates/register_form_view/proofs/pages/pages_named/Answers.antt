@@ -19,7 +19,7 @@ pub loop-i-preserved : goal.loop-i-preserved
 loop-i-preserved c =
     let is = c.name_passes.ensures in
     let so_far = c.loop-i.invariant in
-    elim c.if-name_passes.branch [ then-name_passes w ↦ taken_with _ _ _ _ so_far c.loop-i-test.true _ is _ _ _ w.if-name_passes.true w.widen.ensures w.with-set.ensures w.set-is | else-name_passes w ↦ taken_same _ _ _ _ so_far c.loop-i-test.true _ is _ w.if-name_passes.false w.set-is ]
+    elim c.if-name_passes.branch [ then-name_passes w ↦ taken_with _ _ _ _ so_far c.loop-i-test.true _ is _ _ _ w.if-name_passes.true w.from.ensures w.with-set.ensures w.set-is | else-name_passes w ↦ taken_same _ _ _ _ so_far c.loop-i-test.true _ is _ w.if-name_passes.false w.set-is ]
 
 pub returns : goal.returns
 returns c = λ places R o. taken_all _ _ _ _ c.loop-i.invariant _ c.loop-i-test.false c.page_count-n.ensures ∙ named_pages o c.args.x.now c.args.test _ c.rank_of-rank.ensures _ refl

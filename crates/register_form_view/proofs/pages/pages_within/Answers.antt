@@ -19,7 +19,7 @@ pub loop-i-preserved : goal.loop-i-preserved
 loop-i-preserved c =
     let is = form_passes_lem _ _ _ _ _ _ _ c.loop-i.invariant.0 c.form_end-end.ensures c.forms_between.ensures c.some_within.ensures in
     let so_far = c.loop-i.invariant.1 in
-    (c.form_end-end.ensures ∙ rw add-one, elim c.if-some_within.branch [ then-some_within w ↦ taken_with _ _ _ _ so_far c.loop-i-test.true _ is _ _ _ w.if-some_within.true w.widen.ensures w.with-set.ensures w.set-is | else-some_within w ↦ taken_same _ _ _ _ so_far c.loop-i-test.true _ is _ w.if-some_within.false w.set-is ])
+    (c.form_end-end.ensures ∙ rw add-one, elim c.if-some_within.branch [ then-some_within w ↦ taken_with _ _ _ _ so_far c.loop-i-test.true _ is _ _ _ w.if-some_within.true w.from.ensures w.with-set.ensures w.set-is | else-some_within w ↦ taken_same _ _ _ _ so_far c.loop-i-test.true _ is _ w.if-some_within.false w.set-is ])
 
 pub returns : goal.returns
 returns c = taken_all _ _ _ _ c.loop-i.invariant.1 _ c.loop-i-test.false c.page_count-n.ensures

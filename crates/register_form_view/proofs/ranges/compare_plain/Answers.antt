@@ -5,8 +5,8 @@ use Rattle.register_form_view.proofs.ranges.compare_plain.Goals as goal
 pub returns-then-t-eq0 : goal.returns-then-t-eq0
 returns-then-t-eq0 c = search (searching, rules)
 
-pub returns-then-byte_at-gt0 : goal.returns-then-byte_at-gt0
-returns-then-byte_at-gt0 c = search (searching, rules)
+pub returns-then-get_or-gt0 : goal.returns-then-get_or-gt0
+returns-then-get_or-gt0 c = search (searching, rules)
 
 pub returns : goal.returns
 returns c = search (searching, rules)

@@ -7,4 +7,4 @@ returns-then-is_named c = λ t. named_put _ _ _ _ _ _ c.is_named.ensures c.if-is
 
 -- src/composing.rt:127:1
 pub returns-else-is_named : goal.returns-else-is_named
-returns-else-is_named c = λ t. typed_put _ _ _ _ _ _ c.is_named.ensures c.if-is_named.false _ c.widen.ensures c.put_bytes.ensures
+returns-else-is_named c = λ t. typed_put _ _ _ _ _ _ c.is_named.ensures c.if-is_named.false _ c.from.ensures c.put_bytes.ensures

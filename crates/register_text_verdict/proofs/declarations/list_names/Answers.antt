@@ -22,7 +22,7 @@ pub overflow_add-k : goal.overflow_add-k
 overflow_add-k c = omega (arith, c.loop-k-test.true, c.ranges)
 
 pub loop-k-preserved : goal.loop-k-preserved
-loop-k-preserved c = listing_more _ _ _ _ _ _ _ _ _ c.loop-k.invariant c.if-s-starts.false c.loop-k-test.true _ c.num_at.ensures c.item_at.result c.item_at.ensures _ c.piece_of.ensures _ c.in-At.is _ _ c.put_start.ensures c.put.ensures
+loop-k-preserved c = listing_more _ _ _ _ _ _ _ _ _ c.loop-k.invariant c.if-s-starts.false c.loop-k-test.true _ c.get_or.ensures c.item_at.result c.item_at.ensures _ c.piece_of.ensures _ c.in-At.is _ _ c.put_start.ensures c.put.ensures
 
 pub shape_of-starts : goal.shape_of-starts
 shape_of-starts c = c.loop-k.invariant.sizes.0

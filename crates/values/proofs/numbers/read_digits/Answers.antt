@@ -16,7 +16,7 @@ pub overflow_add-n : goal.overflow_add-n
 overflow_add-n c = omega (arith, step_fits c.args.s.now c.loop-i.n c.loop-i.i c.loop-i.invariant c.loop-i-test.true)
 
 pub loop-i-preserved : goal.loop-i-preserved
-loop-i-preserved c = (c.loop-i.invariant.0, rw (c.digit_of.ensures, c.byte_at.ensures) (c.loop-i.invariant.1 ∙ decimal_step _ _ _ c.loop-i-test.true))
+loop-i-preserved c = (c.loop-i.invariant.0, rw (c.digit_of.ensures, c.get_or.ensures) (c.loop-i.invariant.1 ∙ decimal_step _ _ _ c.loop-i-test.true))
 
 pub returns : goal.returns
 returns c = digits_fit _ _ c.all_in.ensures c.if-not-fit.false-raw _ (c.loop-i.invariant.1 ∙ decimal_end _ _ _ c.loop-i-test.false)

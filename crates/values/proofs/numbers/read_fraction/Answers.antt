@@ -7,8 +7,8 @@ use Rattle.values.proofs.numbers.read_fraction.Goals as goal
 pub returns-then-s-eq0 : goal.returns-then-s-eq0
 returns-then-s-eq0 c = search (thousandths, rules)
 
-pub returns-then-byte_at-digits : goal.returns-then-byte_at-digits
-returns-then-byte_at-digits c = search (thousandths, rules)
+pub returns-then-get_or-digits : goal.returns-then-get_or-digits
+returns-then-get_or-digits c = search (thousandths, rules)
 
 pub overflow_mul-result : goal.overflow_mul-result
 overflow_mul-result c = omega (arith, scaled_fits _ _ _ (read_below (read_digits _) wholes (read_digits_small _) _ _ c.read_digits.ensures c.in-Code.is) c.last_counts.ensures)

@@ -7,7 +7,7 @@ pub overflow_sub-result : goal.overflow_sub-result
 overflow_sub-result c = omega (arith, read_below (read_thousandths _) base (read_thousandths_small _) _ _ c.read_thousandths.ensures c.in-Code.is)
 
 pub overflow_add-result : goal.overflow_add-result
-overflow_add-result c = omega (arith, read_below (read_thousandths _) base (read_thousandths_small _) _ _ c.read_thousandths-else-byte_at-eq45.ensures c.in-Code-read_thousandths.is)
+overflow_add-result c = omega (arith, read_below (read_thousandths _) base (read_thousandths_small _) _ _ c.read_thousandths-else-get_or-eq45.ensures c.in-Code-read_thousandths.is)
 
 pub returns-in-Code : goal.returns-in-Code
 returns-in-Code c = search ways
