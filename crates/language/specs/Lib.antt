@@ -17,3 +17,4 @@ pub mod Agreement
 pub mod Calls
 pub mod Spellings
 pub mod Sample
+pub mod Refusals

@@ -2,11 +2,13 @@
 #![tactic(auto)]
 
 pub mod comparators; // comparators.rt: what differs from comparator to comparator
+pub mod refusals; // refusals.rt: what a call refuses
 
 pub use comparators::{
     LAST_COMPARATOR, comparator_at, comparator_code, comparator_from, in_any_namespace, is_equal,
     or_equal, strict, word_length,
 };
+pub use refusals::Refusal;
 
 // Comparators of core queries (thesis 4.2.1).
 #[derive(Clone, Copy)]

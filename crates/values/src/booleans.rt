@@ -5,7 +5,6 @@ ghost use Rattle.text.specs.Table.{bit};
 ghost use Rattle.values.specs.Values.{map_option, lower, read_boolean};
 ghost use Rattle.values.specs.Spelling.{spell_boolean};
 
-
 // An ASCII letter in its small form; any other byte as it is.
 fn lower_of(b: u8) -> u8
     ensures { result ≡ lower b }
@@ -39,11 +38,7 @@ pub fn read_boolean(s: &[u8]) -> Option<u64>
         return Some(1);
     }
     let no = is_word(s, b"false") | is_word(s, b"no") | is_word(s, b"0");
-    if no {
-        Some(0)
-    } else {
-        None
-    }
+    if no { Some(0) } else { None }
 }
 
 // How long `true` or `false` is; any code but 1 is that of `false`.

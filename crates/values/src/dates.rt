@@ -49,21 +49,13 @@ pub fn is_date_code(c: u64) -> bool
 fn real_day(year: &[u8], month: &[u8], day: &[u8]) -> Option<u64>
     ensures { result ≡ map_option date_code (real_day (read_digits year.now) (read_digits month.now) (read_digits day.now)) }
 {
-    match read_digits(year) {
-        Some(y) => match read_digits(month) {
-            Some(m) => match read_digits(day) {
-                Some(d) => {
-                    if is_day(y, m, d) {
-                        Some(10000 * y + 100 * m + d)
-                    } else {
-                        None
-                    }
-                }
-                None => None,
-            },
-            None => None,
-        },
-        None => None,
+    let y = read_digits(year)?;
+    let m = read_digits(month)?;
+    let d = read_digits(day)?;
+    if is_day(y, m, d) {
+        Some(10000 * y + 100 * m + d)
+    } else {
+        None
     }
 }
 

@@ -54,10 +54,8 @@ fn read_fraction(s: &[u8]) -> Option<u64>
     if (get_or(s, 0, 0) != 46) | (3 < digits.len()) {
         return None;
     }
-    match read_digits(digits) {
-        Some(n) => Some(n * last_counts(digits.len())),
-        None => None,
-    }
+    let n = read_digits(digits)?;
+    Some(n * last_counts(digits.len()))
 }
 
 // The thousandths that digits and what stands behind them write.
@@ -65,31 +63,21 @@ fn read_thousandths(s: &[u8]) -> Option<u64>
     ensures { result ≡ read_thousandths s.now }
 {
     let point = scan(s, 0, Class::Digit);
-    match read_digits(part(s, 0, point)) {
-        Some(n) => match read_fraction(part(s, point, s.len())) {
-            Some(m) => Some(1000 * n + m),
-            None => None,
-        },
-        None => None,
-    }
+    let n = read_digits(part(s, 0, point))?;
+    let m = read_fraction(part(s, point, s.len()))?;
+    Some(1000 * n + m)
 }
 
 // The number of thousandths that the bytes write, with 10^18 added.
 pub fn read_number(s: &[u8]) -> Option<u64>
     ensures { result ≡ map_option biased (read_number s.now) }
 {
-    if get_or(s, 0, 0) == 45 {
-        let digits = part(s, 1, s.len());
-        match read_thousandths(digits) {
-            Some(n) => Some(1_000_000_000_000_000_000 - n),
-            None => None,
-        }
-    } else {
-        match read_thousandths(s) {
-            Some(n) => Some(1_000_000_000_000_000_000 + n),
-            None => None,
-        }
+    if get_or(s, 0, 0) == b'-' {
+        let n = read_thousandths(part(s, 1, s.len()))?;
+        return Some(1_000_000_000_000_000_000 - n);
     }
+    let n = read_thousandths(s)?;
+    Some(1_000_000_000_000_000_000 + n)
 }
 
 // How many decimal digits a number below 10,000 has; 4 for any other.

@@ -1,8 +1,7 @@
 use mathlib.Core.Path.{sym, ◌∙◌}
 use native.Mathlib.Omega.{arith}
 use Rattle.values.specs.Dates.{date}
-use Rattle.values.proofs.Days.{day_small, days}
-use borrow.Author.Rules.{rules}
+use Rattle.values.proofs.Days.{day_small}
 use Rattle.values.proofs.dates.real_day.Goals as goal
 
 pub overflow_mul-result : goal.overflow_mul-result
@@ -16,18 +15,3 @@ overflow_add-result c = omega (arith, day_small (date _ _ _) (sym c.is_day.ensur
 
 pub overflow_add-result-then-is_day : goal.overflow_add-result-then-is_day
 overflow_add-result-then-is_day c = omega (arith, day_small (date _ _ _) (sym c.is_day.ensures ∙ c.if-is_day.true))
-
-pub returns-then-is_day : goal.returns-then-is_day
-returns-then-is_day c = search (days, rules)
-
-pub returns-else-is_day : goal.returns-else-is_day
-returns-else-is_day c = search (days, rules)
-
-pub returns-in-Unfit-read_digits-2 : goal.returns-in-Unfit-read_digits-2
-returns-in-Unfit-read_digits-2 c = search (days, rules)
-
-pub returns-in-Unfit-read_digits : goal.returns-in-Unfit-read_digits
-returns-in-Unfit-read_digits c = search (days, rules)
-
-pub returns-in-Unfit : goal.returns-in-Unfit
-returns-in-Unfit c = search (days, rules)

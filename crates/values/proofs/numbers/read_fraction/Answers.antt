@@ -10,11 +10,11 @@ returns-then-s-eq0 c = search (thousandths, rules)
 pub returns-then-get_or-digits : goal.returns-then-get_or-digits
 returns-then-get_or-digits c = search (thousandths, rules)
 
+pub returns-in_err-n : goal.returns-in_err-n
+returns-in_err-n c = let n = c.in_err-n.was in rw c.from_residual.ensures (search (thousandths, rules))
+
 pub overflow_mul-result : goal.overflow_mul-result
-overflow_mul-result c = omega (arith, scaled_fits _ _ _ (read_below (read_digits _) wholes (read_digits_small _) _ _ c.read_digits.ensures c.in-Code.is) c.last_counts.ensures)
+overflow_mul-result c = omega (arith, scaled_fits _ _ _ (read_below (read_digits _) wholes (read_digits_small _) _ _ c.read_digits.ensures c.in_ok-n.was) c.last_counts.ensures)
 
-pub returns-in-Code : goal.returns-in-Code
-returns-in-Code c = search (thousandths, rules)
-
-pub returns-in-Unfit : goal.returns-in-Unfit
-returns-in-Unfit c = search (thousandths, rules)
+pub returns : goal.returns
+returns c = let n = c.in_ok-n.was in search (thousandths, rules)
