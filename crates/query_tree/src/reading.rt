@@ -14,7 +14,7 @@ use text::Span;
 fn node_from(row: Row) -> TreeNode
     ensures { (s : Bytes) → node_by s result ≡ node_from s row }
 {
-    let start = tables::widen(row.number);
+    let start = usize::from(row.number);
     let c = comparator_from(row.comparator);
     let len = usize::from(row.first);
     let first = Span { start, len };

@@ -55,7 +55,7 @@ pub fn bare_item(at: usize, c: SurfaceComparator, x: &[u8]) -> Item
     ensures { result ≡ leaf_item Shape.Identifiers at (is_equal c && is_category_of (bare x.now)) (is_composed_reference (bare x.now)) (length (word c) + cost_reference (bare x.now)) }
 {
     let kept = is_composed_name(x);
-    let n = text::widen(word_length(c)) + length_of(x);
+    let n = usize::from(word_length(c)) + length_of(x);
     leaf_item(Shape::Identifiers, at, false, kept, n)
 }
 
@@ -64,7 +64,7 @@ pub fn qualified_item(at: usize, c: SurfaceComparator, n: &[u8], x: &[u8]) -> It
 {
     let leads = is_equal(c) & same_bytes(n, b"Category");
     let kept = is_composed_namespace(n) & is_composed_name(x);
-    let cost = text::widen(word_length(c)) + (length_of(n) + (length_of(x) + 1));
+    let cost = usize::from(word_length(c)) + (length_of(n) + (length_of(x) + 1));
     leaf_item(Shape::Identifiers, at, leads, kept, cost)
 }
 
@@ -78,6 +78,6 @@ pub fn value_item(at: usize, c: SurfaceComparator, v: &[u8]) -> Item
     ensures { result ≡ leaf_item Shape.Alternatives at false (spelled_value c v.now) (length (word c) + length v.now) }
 {
     let kept = spelled_value(c, v);
-    let n = text::widen(word_length(c)) + length_of(v);
+    let n = usize::from(word_length(c)) + length_of(v);
     leaf_item(Shape::Alternatives, at, false, kept, n)
 }

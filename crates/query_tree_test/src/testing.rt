@@ -58,7 +58,7 @@ pub fn row_fits(row: Row, at: usize) -> bool
     let tag = row.tag;
     let first = usize::from(row.first);
     let second = usize::from(row.second);
-    let placed = (tag < layout::CATEGORY) | (tables::widen(row.number) == place_of(tag, at));
+    let placed = (tag < layout::CATEGORY) | (usize::from(row.number) == place_of(tag, at));
     let end = at + first + second;
     (tag <= layout::LINK)
         & (row.comparator <= last_comparator(tag))
@@ -96,7 +96,7 @@ fn rows_fit(h: &[u8], n: usize) -> Tested
 pub fn is_exact(h: &[u8]) -> bool
     ensures { result ≡ is_exact h.now }
 {
-    let n = tables::widen(two_at(h, 0));
+    let n = usize::from(two_at(h, 0));
     if layout::MOST_NODES < n {
         return false;
     }

@@ -23,7 +23,7 @@ use values::rules::{byte_rules, name_class};
 fn is_labelled(t: &[u8]) -> bool
     ensures { result ≡ is_labelled t.now }
 {
-    text::widen(get_or(t, 0, 0)) < t.len()
+    usize::from(get_or(t, 0, 0)) < t.len()
 }
 
 // The least of two lengths and 8.
