@@ -99,13 +99,6 @@ length_after n (Some t) = n + length t
 unfoldable pub name_length : Bytes → ℕ
 name_length s = cond (is_name s) (length_after 0 (composed s)) 0
 
--- A letter x that a function answers, where T says that it was lent the table: it is y. Its width, and that it has no more bytes when
--- it is composed, hold without that.
-pub record LetterTold (T : Type 0) (x y : Letter) : Type 0 where
-  pub most : x.width ≤ 3
-  pub shorter : (x.width ≡ 0 → ⊥) → length (encode x.code) ≤ x.width
-  pub is : T → x ≡ y
-
 -- What writing the composed form of s over b answers: how long it is, 0 for none. The text itself may then be written in its place.
 pub record FormPut (s b : Bytes) (at : ℕ) (c : Bytes) (r : ℕ) : Type 0 where
   pub size : length c ≡ length b

@@ -5,7 +5,7 @@ ghost use Rattle.std.specs.Prelude.{◌≡◌, ◌+◌, ◌<◌, ◌^◌, length
 ghost use Rattle.buffer.specs.Writing.{written};
 ghost use Rattle.names.specs.Codes.{encode};
 ghost use Rattle.names.specs.Names.{composed_name, has_name_shape, is_name, is_property_name, is_namespace, is_composed_name, is_composed_property_name, is_composed_namespace};
-ghost use Rattle.names.specs.Steps.{IsTable, letter_pair, lone_letter, letter_of, letter_at, LetterTold, Front, FormPut};
+ghost use Rattle.names.specs.Steps.{letter_pair, lone_letter, letter_of, letter_at, Front, FormPut};
 
 pub mod composed_codes; // composed_codes.rt: the composed letters of the table
 pub mod letter_codes; // letter_codes.rt: its letters
@@ -16,7 +16,7 @@ pub mod table; // table.rt: a letter and a mark looked up in it
 
 use buffer::{least, put_byte, put_bytes};
 use own_form::{is_own_form, is_plain, own_front};
-use table::composed_letter;
+use table::Table;
 use tables::get_or;
 use text::{Class, all_in, in_class, one_of, part};
 
@@ -56,47 +56,31 @@ fn lone_letter(a: u8, b: u8) -> Letter
     Letter { code, width: 2 }
 }
 
-// The composed letter that three bytes begin with. The table is asked only where the second is 204, as of every mark; the third then
-// tells the mark.
-fn letter_of(
-    places: &[u8],
-    letters: &[u16],
-    marks: &[u16],
-    codes: &[u16],
-    a: u8,
-    b: u8,
-    c: u8,
-) -> Letter
-    ensures { LetterTold (IsTable places.now letters.now marks.now codes.now) result (letter_of a b c) }
-{
-    if b != 204 {
-        return lone_letter(a, b);
+impl Table {
+    // The composed letter that three bytes begin with. The table is asked only where the second is 204, as of every mark; the third
+    // then tells the mark.
+    fn letter_of(&self, a: u8, b: u8, c: u8) -> Letter
+        ensures { result ≡ letter_of a b c }
+    {
+        if b != 204 {
+            return lone_letter(a, b);
+        }
+        let code = self.composed_letter(u16::from(a), 640 + u16::from(c));
+        if code == 0 {
+            return lone_letter(a, b);
+        }
+        Letter { code, width: 3 }
     }
-    let code = composed_letter(places, letters, marks, codes, u16::from(a), 640 + u16::from(c));
-    if code == 0 {
-        return lone_letter(a, b);
-    }
-    Letter { code, width: 3 }
-}
 
-// The composed letter at a place.
-fn letter_at(
-    places: &[u8],
-    letters: &[u16],
-    marks: &[u16],
-    codes: &[u16],
-    s: &[u8],
-    i: usize,
-) -> Letter
-    ensures { LetterTold (IsTable places.now letters.now marks.now codes.now) result (letter_at (drop i s.now)) }
-{
-    if s.len() <= i {
-        return Letter { code: 0, width: 0 };
+    // The composed letter at a place.
+    fn letter_at(&self, s: &[u8], i: usize) -> Letter
+        ensures { result ≡ letter_at (drop i s.now) }
+    {
+        if s.len() <= i {
+            return Letter { code: 0, width: 0 };
+        }
+        self.letter_of(get_or(s, i, 0), get_or(s, i + 1, 0), get_or(s, i + 2, 0))
     }
-    let a = get_or(s, i, 0);
-    let b = get_or(s, i + 1, 0);
-    let c = get_or(s, i + 2, 0);
-    letter_of(places, letters, marks, codes, a, b, c)
 }
 
 // How many bytes a code point has.
@@ -158,24 +142,15 @@ fn put_code(h: &mut [u8], at: usize, code: u16)
 
 // Goes over a text once, from a place up to which it is its own composed form: writes that form, letter by letter, and tells how long
 // it is, 0 where there is none.
-fn compose_from(
-    places: &[u8],
-    letters: &[u16],
-    marks: &[u16],
-    codes: &[u16],
-    h: &mut [u8],
-    at: usize,
-    s: &[u8],
-    front: usize,
-) -> usize
+fn compose_from(table: &Table, h: &mut [u8], at: usize, s: &[u8], front: usize) -> usize
     requires { Front s.now front × (at + length s.now < 2 ^ 64) }
-    ensures { IsTable places.now letters.now marks.now codes.now → FormPut s.now h.old at h.new result }
+    ensures { FormPut s.now h.old at h.new result }
 {
     put_bytes(h, at, part(s, 0, front));
     let mut n = front;
     let mut i = front;
     while i < s.len() {
-        let x = letter_at(places, letters, marks, codes, s, i);
+        let x = table.letter_at(s, i);
         let w = x.width;
         if w == 0 {
             return 0;
@@ -192,11 +167,8 @@ fn compose_rest(h: &mut [u8], at: usize, s: &[u8], front: usize) -> usize
     requires { Front s.now front × (at + length s.now < 2 ^ 64) }
     ensures { FormPut s.now h.old at h.new result }
 {
-    let places = table::places();
-    let letters = table::letters();
-    let marks = table::marks();
-    let codes = table::codes();
-    compose_from(&places, &letters, &marks, &codes, h, at, s, front)
+    let table = Table::new();
+    compose_from(&table, h, at, s, front)
 }
 
 // Whether the bytes are a name.

@@ -1,23 +1,16 @@
 // A name judged and composed, by a table that is lent.
 ghost use Rattle.std.specs.Prelude.{◌≡◌};
-ghost use Rattle.names.specs.Steps.{IsTable, NamePut};
+ghost use Rattle.names.specs.Steps.{NamePut};
 
 use super::own_form::own_front;
+use super::table::Table;
 use super::{compose_from, has_name_shape};
 use buffer::put_bytes;
 
 // Judges a name and writes its composed form: how long that is, 0 where the bytes are no name. The table is lent, so that it is not made
 // anew for each name.
-pub fn put_name(
-    places: &[u8],
-    letters: &[u16],
-    marks: &[u16],
-    codes: &[u16],
-    h: &mut [u8],
-    at: u16,
-    s: &[u8],
-) -> usize
-    ensures { IsTable places.now letters.now marks.now codes.now → NamePut s.now h.old at h.new result }
+pub fn put_name(table: &Table, h: &mut [u8], at: u16, s: &[u8]) -> usize
+    ensures { NamePut s.now h.old at h.new result }
 {
     if !has_name_shape(s) {
         return 0;
@@ -28,5 +21,5 @@ pub fn put_name(
         put_bytes(h, start, s);
         return front;
     }
-    compose_from(places, letters, marks, codes, h, start, s, front)
+    compose_from(table, h, start, s, front)
 }

@@ -3,14 +3,13 @@ ghost use Rattle.std.specs.Prelude.{◌≡◌, cond, [], length};
 ghost use Rattle.text.specs.Bytes.{Bytes};
 ghost use Rattle.text.specs.Parts.{part_of};
 ghost use Rattle.buffer.specs.Writing.{written};
-ghost use Rattle.names.specs.Steps.{IsTable};
 ghost use Rattle.register_text_entries.specs.Composing.{has_first, has_second, has_gap, gap, is_named, broken_by, SecondPut, Copies, Composes};
 
 use super::table::{item_at, put_item};
 use super::{Item, Tag};
 use buffer::put_bytes;
 use names::putting::put_name;
-use names::table::{codes, letters, marks, places};
+use names::table::Table;
 use tables::narrow;
 use text::{Class, Span, all_in, part};
 use values::is_value;
@@ -114,20 +113,11 @@ fn is_broken(tag: Tag, n: usize, m: usize, a: &[u8], b: &[u8]) -> bool
 }
 
 // Writes the second part, a name composed and a value as typed, and tells how long it then is, 0 where it is to be a name and is none.
-fn put_second(
-    places: &[u8],
-    letters: &[u16],
-    marks: &[u16],
-    codes: &[u16],
-    copy: &mut [u8],
-    at: u16,
-    tag: Tag,
-    b: &[u8],
-) -> usize
-    ensures { IsTable places.now letters.now marks.now codes.now → SecondPut tag b.now copy.old at copy.new result }
+fn put_second(table: &Table, copy: &mut [u8], at: u16, tag: Tag, b: &[u8]) -> usize
+    ensures { SecondPut tag b.now copy.old at copy.new result }
 {
     if is_named(tag) {
-        put_name(places, letters, marks, codes, copy, at, b)
+        put_name(table, copy, at, b)
     } else {
         put_bytes(copy, usize::from(at), b);
         b.len()
@@ -135,17 +125,8 @@ fn put_second(
 }
 
 // Copies an entry of s to a place, its names composed; the item's next place is the one behind it.
-fn copy_entry(
-    places: &[u8],
-    letters: &[u16],
-    marks: &[u16],
-    codes: &[u16],
-    s: &[u8],
-    item: Item,
-    copy: &mut [u8],
-    at: u16,
-) -> Copied
-    ensures { IsTable places.now letters.now marks.now codes.now → Copies s.now item copy.old at copy.new result }
+fn copy_entry(table: &Table, s: &[u8], item: Item, copy: &mut [u8], at: u16) -> Copied
+    ensures { Copies s.now item copy.old at copy.new result }
 {
     let tag = item.tag;
     let kind = item.kind;
@@ -154,13 +135,13 @@ fn copy_entry(
     let a = part(s, first.start, first.len);
     let b = part(s, second.start, second.len);
     let start = usize::from(at);
-    let first_size = put_name(places, letters, marks, codes, copy, at, a);
+    let first_size = put_name(table, copy, at, a);
     let n = usize::from(narrow(first_size));
     let end = start + n;
     put_gap(copy, end, tag);
     let behind = narrow(end + usize::from(gap_size(tag)));
     let begin = usize::from(behind);
-    let second_size = put_second(places, letters, marks, codes, copy, behind, tag, b);
+    let second_size = put_second(table, copy, behind, tag, b);
     let m = usize::from(narrow(second_size));
     let broken = is_broken(tag, first_size, second_size, a, b);
     Copied {
@@ -183,24 +164,12 @@ fn copy_entry(
 pub fn compose(s: &[u8], t: &[u16], n: usize, copy: &mut [u8], u: &mut [u16]) -> bool
     ensures { Composes s.now t.now n copy.old u.old copy.new u.new result }
 {
-    let places = places();
-    let letters = letters();
-    let marks = marks();
-    let codes = codes();
+    let table = Table::new();
     let mut broken = false;
     let mut end: u16 = 0;
     let mut i: usize = 0;
     while i < n {
-        let copied = copy_entry(
-            &places,
-            &letters,
-            &marks,
-            &codes,
-            s,
-            item_at(t, i),
-            copy,
-            end,
-        );
+        let copied = copy_entry(&table, s, item_at(t, i), copy, end);
         let item = copied.item;
         put_item(u, i, item);
         end = narrow(item.next);

@@ -17,7 +17,7 @@ loop-i-smaller c = search (going, rules)
 
 -- src/composing.rt:203:5
 pub loop-i-preserved : goal.loop-i-preserved
-loop-i-preserved c = (omega (arith, c.loop-i-test.true), going_more _ _ _ _ _ _ _ _ _ c.loop-i.invariant.1 _ _ _ _ _ c.item_at.ensures (c.copy_entry-copied.ensures (c.places-places.ensures, c.letters-letters.ensures, c.marks-marks.ensures, c.codes-codes.ensures)) c.put_item.ensures c.narrow-end.ensures)
+loop-i-preserved c = (omega (arith, c.loop-i-test.true), going_more _ _ _ _ _ _ _ _ _ c.loop-i.invariant.1 _ _ _ _ _ c.item_at.ensures c.copy_entry-copied.ensures c.put_item.ensures c.narrow-end.ensures)
 
 -- src/composing.rt:193:1
 pub shape_of-copy : goal.shape_of-copy

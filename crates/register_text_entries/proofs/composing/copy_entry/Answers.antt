@@ -16,4 +16,4 @@ overflow_add-end-2 c = omega (arith, c.from-start.ensures, c.from-n.ensures, c.n
 
 -- src/composing.rt:148:1
 pub returns : goal.returns
-returns c = λ t. copied_way c.args.s.now c.args.item _ _ _ _ c.args.at _ _ c.kept-first.result c.kept-second.result _ _ _ _ _ _ _ _ _ _ _ _ _ _ c.has_first.ensures c.kept-first.ensures c.has_second.ensures c.kept-second.ensures c.part-a.ensures c.part-b.ensures c.from-start.ensures (c.put_name-first_size.ensures t) c.narrow.ensures c.from-n.ensures c.put_gap.ensures c.gap_size.ensures c.from.ensures c.narrow-behind.ensures c.from-begin.ensures (c.put_second-second_size.ensures t) c.narrow-2.ensures c.from-m.ensures c.is_broken-broken.ensures
+returns c = copied_way c.args.s.now c.args.item _ _ _ _ c.args.at _ _ c.kept-first.result c.kept-second.result _ _ _ _ _ _ _ _ _ _ _ _ _ _ c.has_first.ensures c.kept-first.ensures c.has_second.ensures c.kept-second.ensures c.part-a.ensures c.part-b.ensures c.from-start.ensures c.put_name-first_size.ensures c.narrow.ensures c.from-n.ensures c.put_gap.ensures c.gap_size.ensures c.from.ensures c.narrow-behind.ensures c.from-begin.ensures c.put_second-second_size.ensures c.narrow-2.ensures c.from-m.ensures c.is_broken-broken.ensures
