@@ -1,5 +1,6 @@
 -- The meaning page by page is membership in the page sets of the thesis.
-use Rattle.std.specs.Prelude.{Option, Some, None, IsSome}
+use Rattle.std.specs.Prelude.{Option, Some, None}
+use mathlib.Core.Option.{some, IsSome}
 use mathlib.Core.Path.{◌≡◌, refl, sym, ap, ◌∙◌, subst}
 use mathlib.Core.Bool.{Bool, true, false, cond, not, ◌&&◌, ◌||◌, true≢false, false≢true}
 use mathlib.Core.List.Memᴰ
@@ -165,7 +166,7 @@ links_meant x c r p =
     there (link i) h = (i, refl, (identifiers_meant c r i).0 h)
 
 -- The page that is named: that of the one page with the identifier.
-named : {p : Page} (l : List Page) → distinct same_page l ≡ true → Memᴰ p l → page_named l p.identifier ≡ Some (page_of p)
+named : {p : Page} (l : List Page) → distinct same_page l ≡ true → Memᴰ p l → page_named l p.identifier ≡ some (page_of p)
 unfolding distinct page_named
 named {p = p} [] h x' = elim x' [ ]
 named (x ∷ l) h (Memᴰ.head e) = rw (e, identifier_refl x.identifier)
@@ -182,7 +183,7 @@ known (x ∷ l) i h = go (same_identifier x.identifier i) refl h (known l i)
     Found : List Page → Type 0
     Found l = (p : Page) × Memᴰ p l × (same_identifier p.identifier i ≡ true)
 
-    go : (b : Bool) → same_identifier x.identifier i ≡ b → IsSome (cond b (Some (page_of x)) (page_named l i)) → (i ∈ dom (page_named l) → Found l) → Found (x ∷ l)
+    go : (b : Bool) → same_identifier x.identifier i ≡ b → IsSome (cond b (some (page_of x)) (page_named l i)) → (i ∈ dom (page_named l) → Found l) → Found (x ∷ l)
     go true e h later = (x, Memᴰ.head refl, e)
     go false e h later = let t = later h in (t.0, Memᴰ.tail t.1, t.2)
 

@@ -1,7 +1,8 @@
 -- The meaning of core queries on sets, as the thesis writes it: 4.3.1, 4.3.2 and 4.5.1 to 4.5.3. That the meaning page by page
 -- (Semantics.antt) is membership in these sets is proved: `page_set_lem` and `page_set_known`.
-use Rattle.std.specs.Prelude.{◌≡◌, true, cond, ◌⊎◌, ◌≢◌, Option, Some, None, IsSome}
+use Rattle.std.specs.Prelude.{◌≡◌, true, cond, ◌⊎◌, ◌≢◌, Some, None}
 use mathlib.Core.List.{List, [], ◌∷◌, Memᴰ}
+use Rattle.std.proofs.Math.Option.{Option, some, none, IsSome}
 use Rattle.text.specs.Bytes.{Bytes, order_of}
 use Rattle.std.specs.declared.cmp.Ordering.{Ordering}
 use Rattle.values.specs.Names.{Identifier, Reference, same_identifier}
@@ -45,7 +46,7 @@ pub record Page : Type 1 where
   pub cats : 𝒫 Bytes
   pub props : Bytes → 𝒫 Value
 
--- 4.3.2, a partial function: none is ⊥.
+-- 4.3.2, a partial function: none is ⊥. The Option is that of proofs: a page's sets are too large for Rust's.
 abbrev pub Database : Type 1
 Database = Identifier → Option Page
 
@@ -54,12 +55,12 @@ dom D i = IsSome (D i)
 
 -- cats and props of `D i`. Of ⊥ they are empty; 4.5.3 asks only for i in dom D.
 abbrev pub cats : Option Page → 𝒫 Bytes
-cats None x = ⊥
-cats (Some p) x = x ∈ p.cats
+cats none x = ⊥
+cats (some p) x = x ∈ p.cats
 
 abbrev pub props : Option Page → Bytes → 𝒫 Value
-props None x v = ⊥
-props (Some p) x v = v ∈ p.props x
+props none x v = ⊥
+props (some p) x v = v ∈ p.props x
 
 -- A set of values, as the set of the identifiers in it.
 abbrev pub idents : 𝒫 Value → 𝒫 Identifier
@@ -112,8 +113,8 @@ page_of p = record { cats = λ x. Memᴰ x p.categories; props = λ x v. Memᴰ 
 
 -- The page that has the identifier; in a register there are no two.
 unfoldable pub page_named : List Registers.Page → Database
-page_named [] i = None
-page_named (p ∷ l) i = cond (same_identifier p.identifier i) (Some (page_of p)) (page_named l i)
+page_named [] i = none
+page_named (p ∷ l) i = cond (same_identifier p.identifier i) (some (page_of p)) (page_named l i)
 
 -- The database of a register.
 abbrev pub database_of : Register → Database
