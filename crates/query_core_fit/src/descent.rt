@@ -14,7 +14,7 @@ use query_core_emit::{Emitted, again};
 use query_tree::layout;
 use query_tree::reading::node_at;
 use text::{Span, part};
-use values::Option<Kind>;
+use values::Kind;
 
 // A query.
 #[cycle(fit_chain_fit_in_fit_query)]

@@ -14,7 +14,7 @@ use crate::leaves::{kind_at, step_of};
 use query_tree::reading::node_at;
 use query_tree::{TreeNode, layout};
 use text::part;
-use values::Option<Kind>;
+use values::Kind;
 
 // Whether no kind was found.
 fn is_nothing(kind: Option<Kind>) -> bool
