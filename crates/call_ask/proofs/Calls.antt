@@ -1,5 +1,5 @@
 -- The ways through the run and the ask call.
-use Rattle.std.specs.Prelude.{Option, Some, None}
+use Rattle.std.specs.Prelude.{Option, Some, None, Result, Ok, Err}
 use Prim.Native.Nat.{ℕ, ◌≤◌, ◌<◌}
 use mathlib.Core.Path.{◌≡◌, refl, sym, ap, ap₂, ◌∙◌}
 use mathlib.Core.Bool.{Bool, true, false, not, cond, true≢false, false≢true}
@@ -34,9 +34,9 @@ use Rattle.ask_evaluation.specs.Meaning.{marks_of, Means, Evaluates}
 use Rattle.ask_evaluation.specs.Mixing.{Mismatches}
 use Rattle.ask_evaluation.specs.declared.Evaluated.{Evaluated}
 use Rattle.call_answers.specs.Calls.{ask_call, marks_in}
-use Rattle.call_ask.specs.Call.{asked, Asks}
+use Rattle.language.specs.declared.refusals.Refusal.{Refusal}
+use Rattle.call_ask.specs.Call.{answer_of, asked, Asks}
 use Rattle.call_ask.specs.Running.{MarksWritten, run_into, Answers, Selected, Runs}
-use Rattle.call_ask.specs.declared.Asked.{Asked}
 use Rattle.call_ask.proofs.Writing.{marks_bytes, marks_count}
 
 -- the query, where there is one
@@ -49,7 +49,7 @@ some_query None e = absurd (false≢true e)
 some_query (Some c) e = (c, refl)
 
 -- what an answer is, once it is known
-answers : (a d : Answer (List Bool)) (b after : Bytes) (r : Asked) → a ≡ d → r ≡ asked d → after ≡ marks_in b d → Answers a b after r
+answers : (a d : Answer (List Bool)) (b after : Bytes) (r : Result ℕ Refusal) → a ≡ d → answer_of r ≡ asked d → after ≡ marks_in b d → Answers a b after r
 answers a d b after r e f g = record { answer = f ∙ sym (ap asked e); buffer = g ∙ sym (ap (marks_in b) e) }
 
 -- how many pages an opened register has
@@ -67,7 +67,7 @@ pages_few {h} {places} {R} o =
 
 -- run
 module _ (h : Bytes) (places : List ℕ) (q b : Bytes) (m : Bool) (mixed : Mismatches h q m) where
-  pub run_mixed : m ≡ true → Runs h places q b b (Asked.Refused 23)
+  pub run_mixed : m ≡ true → Runs h places q b b (Err Refusal.Mismatch)
   unfolding Runs Mismatches run_into run
   run_mixed e R v c k = answers _ (refused 23) b b _ (rw (sym (mixed places R v c k) ∙ e)) refl refl
 
@@ -77,14 +77,14 @@ module _ (h : Bytes) (places : List ℕ) (q b : Bytes) (m : Bool) (mixed : Misma
     unfolding Mismatches run_into run
     run_is R v c k = rw (sym (mixed places R v c k) ∙ e)
 
-    pub run_short : (n w : ℕ) → n ≡ page_count h → w ≡ n → length b < w → Runs h places q b b (Asked.Refused 24)
+    pub run_short : (n w : ℕ) → n ≡ page_count h → w ≡ n → length b < w → Runs h places q b b (Err Refusal.MarksTooShort)
     unfolding Runs
     run_short n w f g l R v c k =
         answers _ (refused 24) b b _ (run_is R v c k ∙ rw (lt-ltb (length b) (length R.pages) (omega (arith, pages_are v)))) refl refl
 
     pub run_done : (n w : ℕ) (set : PageSet) (count : ℕ) (after : Bytes) → n ≡ page_count h → w ≡ n → w ≤ length b → Selected h places q (marks_from set.words)
         → MarksWritten (marks_from set.words) n b after → count ≡ count_to 256 (λ i. get_or (marks_from set.words) i false)
-        → Runs h places q b after (Asked.Marked count)
+        → Runs h places q b after (Ok count)
     unfolding Runs Selected MarksWritten
     run_done n w set count after f g l i x z R v c k =
         let size : n ≡ length R.pages = f ∙ pages_are v in
@@ -92,7 +92,7 @@ module _ (h : Bytes) (places : List ℕ) (q b : Bytes) (m : Bool) (mixed : Misma
         let marks : marks_from set.words ≡ marks_of R n c = i R v c k ∙ ap (λ j. marks_of R j c) (sym size) in
         answers _ (accepted (map (selects c R) R.pages)) b after _
         (run_is R v c k ∙ rw (le-ltb (length b) (length R.pages) (omega arith)))
-        (ap Asked.Marked (z ∙ marks_count R c n size few (marks_from set.words) marks))
+        (ap accepted (z ∙ marks_count R c n size few (marks_from set.words) marks))
         (x few (omega arith) ∙ ap₂ (λ x y. x ++ drop y b) (marks_bytes R c n size few (marks_from set.words) marks) (size ∙ sym (length-map R.pages (selects c R))))
 
 -- select
@@ -105,10 +105,10 @@ selected_by h places q n r is found R v c k = means.0
 
 -- ask
 module _ (q h b : Bytes) (queried : Bool) (is : queried ≡ is_some (held_query q)) where
-  asks : (d : Answer (List Bool)) (after : Bytes) (r : Asked) → ask_call q h b ≡ d → r ≡ asked d → after ≡ marks_in b d → Asks q h b after r
+  asks : (d : Answer (List Bool)) (after : Bytes) (r : Result ℕ Refusal) → ask_call q h b ≡ d → answer_of r ≡ asked d → after ≡ marks_in b d → Asks q h b after r
   asks d after r e f g = record { answer = f ∙ sym (ap asked e); buffer = g ∙ sym (ap (marks_in b) e) }
 
-  pub ask_unqueried : not queried ≡ true → Asks q h b b (Asked.Refused 21)
+  pub ask_unqueried : not queried ≡ true → Asks q h b b (Err Refusal.NoQuery)
   unfolding ask_call
   ask_unqueried e = asks (refused 21) b _ (rw (no_query (held_query q) (sym is ∙ not-true queried e))) refl refl
 
@@ -117,11 +117,11 @@ module _ (q h b : Bytes) (queried : Bool) (is : queried ≡ is_some (held_query 
     held = some_query (held_query q) (sym is ∙ not-false queried e)
 
     module _ (g : Bytes) (places : List ℕ) (opened : Bool) (f : g ≡ part h 0 register_size) (opens : Opens g (replicate 2368 0) places opened) where
-      pub ask_unopened : not opened ≡ true → Asks q h b b (Asked.Refused 22)
+      pub ask_unopened : not opened ≡ true → Asks q h b b (Err Refusal.NoAskedRegister)
       unfolding ask_call
       ask_unopened n = asks (refused 22) b _ (rw (held.1, held_none h g f _ places opened opens n)) refl refl
 
-      pub ask_run : (after : Bytes) (r : Asked) → not opened ≡ false → Runs g places q b after r → Asks q h b after r
+      pub ask_run : (after : Bytes) (r : Result ℕ Refusal) → not opened ≡ false → Runs g places q b after r → Asks q h b after r
       unfolding ask_call Runs run_into
       ask_run after r n w =
           let o : Opened g places (register_in g) = record {

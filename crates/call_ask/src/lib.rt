@@ -10,17 +10,11 @@ ghost use Rattle.call_ask.specs.Running.{MarksWritten, Selected, Runs};
 use ask_evaluation::mismatch::has_mismatch;
 use ask_evaluation::{capped, eval};
 use buffer::two_at;
+use language::Refusal;
 use pageset::{PageSet, mark_at};
 use query_core::is_query;
 use register_form::{REGISTER_BYTES, page_count};
 use text::part;
-
-// What the ask call answers: the number that refuses it, or how many pages are marked.
-#[derive(Clone, Copy)]
-pub enum Asked {
-    Refused(usize),
-    Marked(usize),
-}
 
 // A mark as a byte.
 fn byte_of(b: bool) -> u8
@@ -38,10 +32,8 @@ fn write_marks(set: PageSet, n: u16, out: &mut [u8])
         return;
     }
     let words = set.words;
-    let mut i: usize = 0;
-    while i < end {
+    for i in 0..end {
         out[i] = byte_of(mark_at(&words, i));
-        i += 1;
     }
 }
 
@@ -54,33 +46,33 @@ fn select(q: &[u8], h: &[u8], places: &[u16]) -> PageSet
     found.set
 }
 
-// Runs a held query on a register that was opened: 23, 24, or the marks.
-fn run(q: &[u8], h: &[u8], places: &[u16], out: &mut [u8]) -> Asked
+// Runs a held query on a register that was opened: how many pages are marked.
+fn run(q: &[u8], h: &[u8], places: &[u16], out: &mut [u8]) -> Result<usize, Refusal>
     ensures { Runs h.now places.now q.now out.old out.new result }
 {
     if has_mismatch(q, h) {
-        return Asked::Refused(23);
+        return Err(Refusal::Mismatch);
     }
     let n = page_count(h);
     if out.len() < usize::from(n) {
-        return Asked::Refused(24);
+        return Err(Refusal::MarksTooShort);
     }
     let set = select(q, h, places);
     write_marks(set, n, out);
-    Asked::Marked(set.count())
+    Ok(set.count())
 }
 
-// The ask call: marks, a byte a page, those that the query selects, or answers the number that refuses it.
-pub fn ask(query: &[u8], register: &[u8], marks: &mut [u8]) -> Asked
+// The ask call: marks, a byte a page, those that the query selects, and answers how many they are.
+pub fn ask(query: &[u8], register: &[u8], marks: &mut [u8]) -> Result<usize, Refusal>
     ensures { Asks query.now register.now marks.old marks.new result }
 {
     if !is_query(query) {
-        return Asked::Refused(21);
+        return Err(Refusal::NoQuery);
     }
     let h = part(register, 0, REGISTER_BYTES);
     let mut places = [0u16; 2368];
     if !register_form_test::open(h, &mut places) {
-        return Asked::Refused(22);
+        return Err(Refusal::NoAskedRegister);
     }
     run(query, h, &places, marks)
 }

@@ -17,7 +17,6 @@ use Rattle.language.specs.Core.{Core}
 use Rattle.query_core.specs.declared.Selector.{Selector}
 use Rattle.query_core.specs.declared.Connective.{Connective}
 use Rattle.query_core.specs.declared.Node.{Node as DeclaredNode}
-use Rattle.query_core.specs.declared.NodeRead.{NodeRead}
 use Rattle.query_core.specs.Postfix.{Node, post, stepped, runs, only, read_back}
 use Rattle.query_core.specs.Held.{query_size, count_in, heap_in, node_in, nodes_to, has_sizes, held_query}
 use Rattle.query_core.specs.Reading.{joined_by, node_by, ReadsNode}
@@ -170,11 +169,11 @@ unfolding stack_at
 stack_post h n q e = rw e (runs_post q [])
 
 -- The ways of the loop: no node, a node that lacks what it takes, a node more.
-module _ (h : Bytes) (i k : ℕ) (e : height_at h i ≡ Some k) (r : NodeRead) (u : ReadsNode (heap_in h) (node_in h i) r) where
-  pub height_unread : r ≡ NodeRead.Nothing → height_at h (suc i) ≡ None
+module _ (h : Bytes) (i k : ℕ) (e : height_at h i ≡ Some k) (r : Option DeclaredNode) (u : ReadsNode (heap_in h) (node_in h i) r) where
+  pub height_unread : r ≡ None → height_at h (suc i) ≡ None
   height_unread f = height_suc h i ∙ rw (e, u.is, f)
 
-  module _ (x : DeclaredNode) (f : r ≡ NodeRead.Is x) (a : ℕ) (g : a ≡ arity_by x) where
+  module _ (x : DeclaredNode) (f : r ≡ Some x) (a : ℕ) (g : a ≡ arity_by x) where
     height_read : height_at h (suc i) ≡ risen (node_by (heap_in h) x) k
     height_read = height_suc h i ∙ rw (e, u.is, f)
 

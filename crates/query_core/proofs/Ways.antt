@@ -1,5 +1,6 @@
 -- The ways through the functions that read a node: what the calls gave, and what the answer then is.
 use Rattle.std.specs.Prelude.{Option, Some, None}
+use Rattle.std.specs.Bool.{then_some}
 use Prim.Native.Nat.{ℕ, suc, ◌-◌, ◌/◌, ◌≤◌, ◌<◌}
 use mathlib.Core.Path.{◌≡◌, refl, sym, ap, subst, ◌∙◌}
 use mathlib.Core.List.{[]}
@@ -28,16 +29,14 @@ use Rattle.query_core.specs.declared.Constant.{Constant}
 use Rattle.query_core.specs.declared.Selector.{Selector}
 use Rattle.query_core.specs.declared.Connective.{Connective}
 use Rattle.query_core.specs.declared.Slot.{Slot}
-use Rattle.query_core.specs.declared.ComparatorRead.{ComparatorRead}
-use Rattle.query_core.specs.declared.ConstantRead.{ConstantRead}
-use Rattle.query_core.specs.declared.NodeRead.{NodeRead}
+use Rattle.query_core.specs.declared.Node.{Node as DeclaredNode}
 use Rattle.query_core.specs.Postfix.{Node}
 use Rattle.query_core.specs.Held.{slot, heap_in, comparator_from, constant_of_kind, constant_from, constant_of, node_from, before, behind, link_from, link_by, node_of, slot_from, slot_in, node_in}
-use Rattle.query_core.specs.Reading.{constant_by, selector_by, keeps_constant, keeps_selector, comparator_read, chosen, ConstantReads, selected, joining, ReadsNode}
+use Rattle.query_core.specs.Reading.{constant_by, selector_by, keeps_constant, keeps_selector, ConstantReads, selected, joining, ReadsNode}
 
 -- The constant of a slot, by its kind.
 module _ (s : Bytes) (x : Slot) where
-  pub constant_unknown : kind_count ≤ x.kind → ConstantReads s x ConstantRead.Nothing
+  pub constant_unknown : kind_count ≤ x.kind → ConstantReads s x None
   unfolding constant_of constant_from
   constant_unknown l = record { is = rw (le-ltb x.kind kind_count l); keeps = refl }
 
@@ -46,78 +45,62 @@ module _ (s : Bytes) (x : Slot) where
     unfolding constant_of constant_from
     constant_known = rw (← told, lt-ltb x.kind kind_count below)
 
-    pub page_reads : k ≡ Kind.Page → ConstantReads s x ConstantRead.Nothing
+    pub page_reads : k ≡ Kind.Page → ConstantReads s x None
     page_reads e = record { is = constant_known ∙ rw e; keeps = refl }
 
-    module _ (r : ConstantRead) (fit : Bool) where
-      chosen_reads : (c : Constant) → constant_of s x ≡ only_if fit (Some (constant_by s c)) → (fit ≡ true → keeps_constant s c ≡ true) → r ≡ chosen fit c → ConstantReads s x r
+    module _ (r : Option Constant) (fit : Bool) where
+      chosen_reads : (c : Constant) → constant_of s x ≡ only_if fit (Some (constant_by s c)) → (fit ≡ true → keeps_constant s c ≡ true) → r ≡ then_some fit c → ConstantReads s x r
       chosen_reads c e f g = go fit e f g
         where
-          go : (b : Bool) → constant_of s x ≡ only_if b (Some (constant_by s c)) → (b ≡ true → keeps_constant s c ≡ true) → r ≡ chosen b c → ConstantReads s x r
+          go : (b : Bool) → constant_of s x ≡ only_if b (Some (constant_by s c)) → (b ≡ true → keeps_constant s c ≡ true) → r ≡ then_some b c → ConstantReads s x r
           go true e f g = record { is = rw g e; keeps = rw g (f refl) }
           go false e f g = record { is = rw g e; keeps = rw g }
 
-      pub scalar_reads : (j : Scalar) → k ≡ Kind.Scalar j → fit ≡ in_range j x.number → r ≡ chosen fit (Constant.Scalar j x.number) → ConstantReads s x r
+      pub scalar_reads : (j : Scalar) → k ≡ Kind.Scalar j → fit ≡ in_range j x.number → r ≡ then_some fit (Constant.Scalar j x.number) → ConstantReads s x r
       scalar_reads j e q g = chosen_reads (Constant.Scalar j x.number) (constant_known ∙ rw (e, q)) (λ h. rw (← q) h) g
 
-      pub string_reads : (t : Bytes) → k ≡ Kind.String → t ≡ part_of s x.second → fit ≡ is_value t → r ≡ chosen fit (Constant.String x.second) → ConstantReads s x r
+      pub string_reads : (t : Bytes) → k ≡ Kind.String → t ≡ part_of s x.second → fit ≡ is_value t → r ≡ then_some fit (Constant.String x.second) → ConstantReads s x r
       string_reads t e p q g = chosen_reads (Constant.String x.second) (constant_known ∙ rw (e, q, p)) (λ h. rw (← p, ← q) h) g
 
 pub ruleset constants = (constant_unknown, page_reads, scalar_reads, string_reads)
-
--- A comparator that was read, or not.
-module _ (q : ComparatorRead) (o : Option Comparator) (e : q ≡ comparator_read o) where
-  read_comparator : (c : Comparator) → q ≡ ComparatorRead.Is c → o ≡ Some c
-  read_comparator c f = go o e
-    where
-      go : (o : Option Comparator) → q ≡ comparator_read o → o ≡ Some c
-      go None g = let z : ComparatorRead.Is c ≡ ComparatorRead.Nothing = sym f ∙ g in cc
-      go (Some d) g = let z : ComparatorRead.Is c ≡ ComparatorRead.Is d = sym f ∙ g in cc
-
-  no_comparator : q ≡ ComparatorRead.Nothing → o ≡ None
-  no_comparator f = go o e
-    where
-      go : (o : Option Comparator) → q ≡ comparator_read o → o ≡ None
-      go None g = refl
-      go (Some d) g = let z : ComparatorRead.Nothing ≡ ComparatorRead.Is d = sym f ∙ g in cc
 
 only_none : (b : Bool) → ◌≡◌ {A = Option Node} (only_if b None) None
 only_none true = refl
 only_none false = refl
 
 -- A selector whose name was tested.
-selected_reads : (s : Bytes) (r : NodeRead) (o : Option Node) (b : Bool) (y : Selector) → o ≡ only_if b (Some (selector_by s y)) → (b ≡ true → keeps_selector s y ≡ true) → r ≡ selected b y → ReadsNode s o r
+selected_reads : (s : Bytes) (r : Option DeclaredNode) (o : Option Node) (b : Bool) (y : Selector) → o ≡ only_if b (Some (selector_by s y)) → (b ≡ true → keeps_selector s y ≡ true) → r ≡ selected b y → ReadsNode s o r
 selected_reads s r o true y e f g = record { is = rw g e; keeps = rw g (f refl) }
 selected_reads s r o false y e f g = record { is = rw g e; keeps = rw g }
 
 -- Article comparisons, by the slot's bytes.
-module _ (s b : Bytes) (k : ℕ) (q : ComparatorRead) (w : k ≡ get_or b 1 0) (e : q ≡ comparator_read (comparator_from k)) where
-  pub article_none : q ≡ ComparatorRead.Nothing → ReadsNode s (node_of s 6 (slot_from b)) NodeRead.Nothing
+module _ (s b : Bytes) (k : ℕ) (q : Option Comparator) (w : k ≡ get_or b 1 0) (e : q ≡ comparator_from k) where
+  pub article_none : q ≡ None → ReadsNode s (node_of s 6 (slot_from b)) None
   unfolding node_of node_from slot_from
-  article_none f = record { is = rw (← w, no_comparator q (comparator_from k) e f) (only_none (is_composed_name (part_of s (slot_from b).second))); keeps = refl }
+  article_none f = record { is = rw (← w, ← e, f) (only_none (is_composed_name (part_of s (slot_from b).second))); keeps = refl }
 
-  pub article_reads : (c : Comparator) (x : Span) (t : Bytes) (fit : Bool) (r : NodeRead) → q ≡ ComparatorRead.Is c → x ≡ (slot_from b).second → t ≡ part_of s x → fit ≡ is_composed_name t → r ≡ selected fit (Selector.Article c x) → ReadsNode s (node_of s 6 (slot_from b)) r
+  pub article_reads : (c : Comparator) (x : Span) (t : Bytes) (fit : Bool) (r : Option DeclaredNode) → q ≡ Some c → x ≡ (slot_from b).second → t ≡ part_of s x → fit ≡ is_composed_name t → r ≡ selected fit (Selector.Article c x) → ReadsNode s (node_of s 6 (slot_from b)) r
   unfolding node_of node_from slot_from
   article_reads c x t fit r f l p j g =
-      selected_reads s r _ fit _ (rw (← w, read_comparator q (comparator_from k) e c f, j, p, l)) (λ h. rw (← p, ← j) h) g
+      selected_reads s r _ fit _ (rw (← w, ← e, f, j, p, l)) (λ h. rw (← p, ← j) h) g
 
 -- Value comparisons.
-module _ (s : Bytes) (x : Slot) (q : ComparatorRead) (e : q ≡ comparator_read (comparator_from x.comparator)) where
-  pub value_none : q ≡ ComparatorRead.Nothing → ReadsNode s (node_of s 7 x) NodeRead.Nothing
+module _ (s : Bytes) (x : Slot) (q : Option Comparator) (e : q ≡ comparator_from x.comparator) where
+  pub value_none : q ≡ None → ReadsNode s (node_of s 7 x) None
   unfolding node_of node_from
-  value_none f = record { is = rw (no_comparator q (comparator_from x.comparator) e f) (only_none (is_composed_property_name (part_of s x.first))); keeps = refl }
+  value_none f = record { is = rw (← e, f) (only_none (is_composed_property_name (part_of s x.first))); keeps = refl }
 
-  module _ (c : Comparator) (f : q ≡ ComparatorRead.Is c) where
-    module _ (v : ConstantRead) (u : ConstantReads s x v) where
-      pub constant_missing : v ≡ ConstantRead.Nothing → ReadsNode s (node_of s 7 x) NodeRead.Nothing
+  module _ (c : Comparator) (f : q ≡ Some c) where
+    module _ (v : Option Constant) (u : ConstantReads s x v) where
+      pub constant_missing : v ≡ None → ReadsNode s (node_of s 7 x) None
       unfolding node_of node_from
       constant_missing g =
-          record { is = rw (read_comparator q (comparator_from x.comparator) e c f, u.is, g) (only_none (is_composed_property_name (part_of s x.first))); keeps = refl }
+          record { is = rw (← e, f, u.is, g) (only_none (is_composed_property_name (part_of s x.first))); keeps = refl }
 
-      pub value_reads : (k : Constant) (t : Bytes) (b : Bool) (r : NodeRead) → v ≡ ConstantRead.Is k → t ≡ part_of s x.first → b ≡ is_composed_property_name t → r ≡ selected b (Selector.Value x.first c k) → ReadsNode s (node_of s 7 x) r
+      pub value_reads : (k : Constant) (t : Bytes) (b : Bool) (r : Option DeclaredNode) → v ≡ Some k → t ≡ part_of s x.first → b ≡ is_composed_property_name t → r ≡ selected b (Selector.Value x.first c k) → ReadsNode s (node_of s 7 x) r
       unfolding node_of node_from
       value_reads k t b r g p w l =
-          selected_reads s r _ b _ (rw (read_comparator q (comparator_from x.comparator) e c f, u.is, g, w, p)) (λ h. rw (← p, ← w, h) (rw g at u.keeps)) l
+          selected_reads s r _ b _ (rw (← e, f, u.is, g, w, p)) (λ h. rw (← p, ← w, h) (rw g at u.keeps)) l
 
 -- Links.
 split_told : (s : Bytes) (r : Split) (n a : Bytes) (spaced named : Bool) → n ≡ part_of s r.namespace → a ≡ part_of s r.article → spaced ≡ is_composed_namespace n → named ≡ is_composed_name a
@@ -145,7 +128,7 @@ link_is s code name r p q l ep eq el = rw (← ep, ← eq, ← el) (go p q l)
     go true false l = refl
     go false q l = refl
 
-pub link_reads : (s : Bytes) (code : ℕ) (name : Span) (r : Split) (c : SurfaceComparator) (a x n : Bytes) (named spaced owned : Bool) (k : NodeRead) → c ≡ comparator_of code → a ≡ part_of s r.article → named ≡ is_composed_name a
+pub link_reads : (s : Bytes) (code : ℕ) (name : Span) (r : Split) (c : SurfaceComparator) (a x n : Bytes) (named spaced owned : Bool) (k : Option DeclaredNode) → c ≡ comparator_of code → a ≡ part_of s r.article → named ≡ is_composed_name a
     → n ≡ part_of s r.namespace → spaced ≡ is_composed_namespace n → x ≡ part_of s name → owned ≡ is_composed_property_name x
     → k ≡ selected (owned && (not r.qualified || spaced) && named && leb code last_comparator) (Selector.Link name c r) → ReadsNode s (link_from code (part_of s name) (split_of s r)) k
 link_reads s code name r c a x n named spaced owned k ec ea em en es ex eo g =
@@ -155,7 +138,7 @@ link_reads s code name r c a x n named spaced owned k ec ea em en es ex eo g =
     selected_reads s k _ (owned && ((not r.qualified || spaced) && named) && leb code last_comparator) (Selector.Link name (comparator_of code) r) (link_is s code name r owned _ _ p q refl)
     (λ h. let t = (and-eq-true_iff _ _).0 h in let u = (and-eq-true_iff _ _).0 t.0 in both_true (sym p ∙ u.0) (sym q ∙ u.1)) (g ∙ rw (e, ec))
 
-module _ (s b : Bytes) (mark : ℕ) (w : mark ≡ get_or b 2 0) (code : ℕ) (v : code ≡ get_or b 1 0) (y : Span) (z : y ≡ (slot_from b).second) (r : NodeRead) where
+module _ (s b : Bytes) (mark : ℕ) (w : mark ≡ get_or b 2 0) (code : ℕ) (v : code ≡ get_or b 1 0) (y : Span) (z : y ≡ (slot_from b).second) (r : Option DeclaredNode) where
   pub bare_link : mark ≡ 0 → (x n : Span) → x ≡ (slot_from b).first → ReadsNode s (link_from code (part_of s x) (split_of s (record { qualified = false; namespace = n; article = y }))) r → ReadsNode s (node_of s 8 (slot_from b)) r
   unfolding node_of link_by slot_from
   bare_link e x n f h =
@@ -170,7 +153,7 @@ module _ (s b : Bytes) (mark : ℕ) (w : mark ≡ get_or b 2 0) (code : ℕ) (v 
       rw q h
 
 -- The node of a slot's bytes, by its tag.
-module _ (s b : Bytes) (r : NodeRead) (tag : ℕ) where
+module _ (s b : Bytes) (r : Option DeclaredNode) (tag : ℕ) where
   pub and_reads : tag ≡ 0 → r ≡ joining Connective.And → ReadsNode s (node_of s tag (slot_from b)) r
   unfolding node_of node_from
   and_reads e g = record { is = rw (e, g); keeps = rw g }
@@ -202,10 +185,10 @@ module _ (s b : Bytes) (r : NodeRead) (tag : ℕ) where
   pub value_tag : (x : Slot) → tag ≡ 7 → x ≡ slot_from b → ReadsNode s (node_of s 7 x) r → ReadsNode s (node_of s tag (slot_from b)) r
   value_tag x e w h = rw (e, ← w) h
 
-pub link_tag : (s b : Bytes) (r : NodeRead) (tag : ℕ) → tag ≡ 8 → ReadsNode s (node_of s 8 (slot_from b)) r → ReadsNode s (node_of s tag (slot_from b)) r
+pub link_tag : (s b : Bytes) (r : Option DeclaredNode) (tag : ℕ) → tag ≡ 8 → ReadsNode s (node_of s 8 (slot_from b)) r → ReadsNode s (node_of s tag (slot_from b)) r
 link_tag s b r tag e h = rw e h
 
-pub no_tag : (s : Bytes) (x : Slot) (tag : ℕ) → (tag ≡ 0 → ⊥) × (tag ≡ 1 → ⊥) × (tag ≡ 2 → ⊥) × (tag ≡ 3 → ⊥) × (tag ≡ 4 → ⊥) × (tag ≡ 5 → ⊥) × (tag ≡ 6 → ⊥) × (tag ≡ 7 → ⊥) × (tag ≡ 8 → ⊥) → ReadsNode s (node_of s tag x) NodeRead.Nothing
+pub no_tag : (s : Bytes) (x : Slot) (tag : ℕ) → (tag ≡ 0 → ⊥) × (tag ≡ 1 → ⊥) × (tag ≡ 2 → ⊥) × (tag ≡ 3 → ⊥) × (tag ≡ 4 → ⊥) × (tag ≡ 5 → ⊥) × (tag ≡ 6 → ⊥) × (tag ≡ 7 → ⊥) × (tag ≡ 8 → ⊥) → ReadsNode s (node_of s tag x) None
 unfolding node_of node_from
 no_tag s x tag n =
     record {
@@ -225,7 +208,7 @@ tag_of : (b : Bytes) → get_or b 0 0 ≡ (slot_from b).tag
 unfolding slot_from
 tag_of b = refl
 
-pub in_place : (h t b : Bytes) (i tag : ℕ) (r : NodeRead) → t ≡ heap_in h → b ≡ part h (slot i) 20 → tag ≡ get_or b 0 0 → ReadsNode t (node_of t tag (slot_from b)) r → ReadsNode (heap_in h) (node_in h i) r
+pub in_place : (h t b : Bytes) (i tag : ℕ) (r : Option DeclaredNode) → t ≡ heap_in h → b ≡ part h (slot i) 20 → tag ≡ get_or b 0 0 → ReadsNode t (node_of t tag (slot_from b)) r → ReadsNode (heap_in h) (node_in h i) r
 unfolding node_in
 in_place h t b i tag r f g k u =
     let e : tag ≡ (slot_in h i).tag = k ∙ tag_of b ∙ ap (λ (z : Bytes). (slot_from z).tag) g in

@@ -1,20 +1,19 @@
 -- Working definitions: what a declared node says of a text, whether it keeps the rules, and what reading one answers.
 use Rattle.std.specs.Prelude.{◌≡◌, Bool, true, false, ◌&&◌, Option, Some, None}
+use Rattle.std.specs.Bool.{then_some}
+use Rattle.std.specs.Option.{option_map}
 use Rattle.text.specs.Bytes.{Bytes}
 use Rattle.text.specs.Parts.{part_of}
 use Rattle.names.specs.Names.{is_composed_name, is_composed_property_name, is_composed_namespace}
 use Rattle.values.specs.Names.{is_composed_reference, is_value}
 use Rattle.values.specs.Answers.{split_of}
 use Rattle.values.specs.Values.{scalar, string, in_range, Constant as CoreConstant}
-use Rattle.language.specs.declared.Comparator.{Comparator}
+use Rattle.language.specs.Answer.{found}
 use Rattle.query_core.specs.declared.Constant.{Constant}
 use Rattle.query_core.specs.declared.Selector.{Selector}
 use Rattle.query_core.specs.declared.Connective.{Connective}
 use Rattle.query_core.specs.declared.Node.{Node}
 use Rattle.query_core.specs.declared.Slot.{Slot}
-use Rattle.query_core.specs.declared.ComparatorRead.{ComparatorRead}
-use Rattle.query_core.specs.declared.ConstantRead.{ConstantRead}
-use Rattle.query_core.specs.declared.NodeRead.{NodeRead}
 use Rattle.query_core.specs.Postfix as Postfix
 use Rattle.query_core.specs.Held.{constant_of}
 
@@ -74,46 +73,21 @@ abbrev pub keeps : Bytes → Node → Bool
 keeps s n = keeps_joined s n.connective n.selector
 
 -- What the reading functions answer.
-abbrev pub comparator_read : Option Comparator → ComparatorRead
-comparator_read None = ComparatorRead.Nothing
-comparator_read (Some c) = ComparatorRead.Is c
-
-abbrev pub chosen : Bool → Constant → ConstantRead
-chosen true c = ConstantRead.Is c
-chosen false c = ConstantRead.Nothing
-
-abbrev pub constant_read_by : Bytes → ConstantRead → Option CoreConstant
-constant_read_by s ConstantRead.Nothing = None
-constant_read_by s (ConstantRead.Is c) = Some (constant_by s c)
-
-abbrev pub keeps_constant_read : Bytes → ConstantRead → Bool
-keeps_constant_read s ConstantRead.Nothing = true
-keeps_constant_read s (ConstantRead.Is c) = keeps_constant s c
-
 -- r is the slot's constant, where it has one, and keeps its rule.
-pub record ConstantReads (s : Bytes) (x : Slot) (r : ConstantRead) : Type 0 where
-  pub is : constant_of s x ≡ constant_read_by s r
-  pub keeps : keeps_constant_read s r ≡ true
+pub record ConstantReads (s : Bytes) (x : Slot) (r : Option Constant) : Type 0 where
+  pub is : constant_of s x ≡ option_map (constant_by s) r
+  pub keeps : found r (keeps_constant s) true ≡ true
 
-abbrev pub selected : Bool → Selector → NodeRead
-selected true x = NodeRead.Is (record { connective = Connective.Select; selector = x })
-selected false x = NodeRead.Nothing
+abbrev pub selected : Bool → Selector → Option Node
+selected fit x = then_some fit (record { connective = Connective.Select; selector = x })
 
-abbrev pub joining : Connective → NodeRead
-joining c = NodeRead.Is (record { connective = c; selector = Selector.Category (record { start = 0; len = 0 }) })
-
-abbrev pub read_by : Bytes → NodeRead → Option Postfix.Node
-read_by s NodeRead.Nothing = None
-read_by s (NodeRead.Is n) = Some (node_by s n)
-
-abbrev pub keeps_read : Bytes → NodeRead → Bool
-keeps_read s NodeRead.Nothing = true
-keeps_read s (NodeRead.Is n) = keeps s n
+abbrev pub joining : Connective → Option Node
+joining c = Some (record { connective = c; selector = Selector.Category (record { start = 0; len = 0 }) })
 
 -- r is the node o, where there is one, and keeps the rules.
-pub record ReadsNode (s : Bytes) (o : Option Postfix.Node) (r : NodeRead) : Type 0 where
-  pub is : o ≡ read_by s r
-  pub keeps : keeps_read s r ≡ true
+pub record ReadsNode (s : Bytes) (o : Option Postfix.Node) (r : Option Node) : Type 0 where
+  pub is : o ≡ option_map (node_by s) r
+  pub keeps : found r (keeps s) true ≡ true
 
 -- A node that expects values of one kind.
 abbrev pub expects_kind : Postfix.Node → Bool

@@ -3,23 +3,19 @@ ghost use Rattle.std.specs.Prelude.{◌≡◌};
 ghost use Rattle.query_core.specs.Held.{slot_from};
 ghost use Rattle.query_core.specs.Reading.{selected};
 
-use crate::{Connective, Node, NodeRead, Selector, Slot};
+use crate::{Connective, Node, Selector, Slot};
 use buffer::{eight_at, two_at};
 use tables::get_or;
 use text::Span;
 
 // The node of a selector, where its name keeps its rule.
-pub fn selected_if(fit: bool, s: Selector) -> NodeRead
-    ensures { result ≡ selected fit s }
+pub fn selected_if(fit: bool, selector: Selector) -> Option<Node>
+    ensures { result ≡ selected fit selector }
 {
-    if fit {
-        NodeRead::Is(Node {
-            connective: Connective::Select,
-            selector: s,
-        })
-    } else {
-        NodeRead::Nothing
-    }
+    fit.then_some(Node {
+        connective: Connective::Select,
+        selector,
+    })
 }
 
 // The places of the two strings in a node's bytes.

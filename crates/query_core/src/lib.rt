@@ -76,24 +76,3 @@ pub struct Slot {
     pub second: Span,
     pub number: u64,
 }
-
-// A comparator that was read, or none.
-#[derive(Clone, Copy)]
-pub enum ComparatorRead {
-    Is(Comparator),
-    Nothing,
-}
-
-// A constant that was read, or none.
-#[derive(Clone, Copy)]
-pub enum ConstantRead {
-    Is(Constant),
-    Nothing,
-}
-
-// A node that was read, or none.
-#[derive(Clone, Copy)]
-pub enum NodeRead {
-    Is(Node),
-    Nothing,
-}

@@ -6,7 +6,7 @@ ghost use Rattle.query_core.specs.Held.{slot, slot_from, before, behind, link_fr
 ghost use Rattle.query_core.specs.Reading.{ReadsNode};
 
 use crate::fields::{first_of, second_of, selected_if};
-use crate::{NodeRead, Selector};
+use crate::{Node, Selector};
 use buffer::two_at;
 use language::{LAST_COMPARATOR, comparator_from as comparator_as_written};
 use names::{is_composed_name, is_composed_namespace, is_composed_property_name};
@@ -42,7 +42,7 @@ fn link_namespace(b: &[u8], n: u16) -> Span
 }
 
 // A link whose name and reference lie there.
-fn link_at(heap: &[u8], code: u8, name: Span, split: Split) -> NodeRead
+fn link_at(heap: &[u8], code: u8, name: Span, split: Split) -> Option<Node>
     ensures { ReadsNode heap.now (link_from code (part_of heap.now name) (split_of heap.now split)) result }
 {
     let c = comparator_as_written(code);
@@ -58,7 +58,7 @@ fn link_at(heap: &[u8], code: u8, name: Span, split: Split) -> NodeRead
 }
 
 // A link, the bytes of a slot of tag 8.
-pub fn link_from(heap: &[u8], b: &[u8]) -> NodeRead
+pub fn link_from(heap: &[u8], b: &[u8]) -> Option<Node>
     ensures { ReadsNode heap.now (node_of heap.now 8 (slot_from b.now)) result }
 {
     let code = get_or(b, 1, 0);

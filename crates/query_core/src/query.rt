@@ -4,7 +4,7 @@ ghost use Rattle.query_core.specs.Held.{held_query};
 ghost use Rattle.query_core.specs.Stack.{arity_by, is_some};
 
 use crate::reading::node_at;
-use crate::{Connective, Node, NodeRead, QUERY_BYTES, Selector, layout};
+use crate::{Connective, Node, QUERY_BYTES, Selector, layout};
 use buffer::two_at;
 
 // How many queries a node takes from the stack; each node leaves one.
@@ -38,10 +38,8 @@ pub fn is_query(h: &[u8]) -> bool
         return false;
     }
     let mut height: usize = 0;
-    let mut i: usize = 0;
-    while i < count {
-        let read = node_at(h, i);
-        let NodeRead::Is(node) = read else {
+    for i in 0..count {
+        let Some(node) = node_at(h, i) else {
             return false;
         };
         let taken = arity(node);
@@ -49,7 +47,6 @@ pub fn is_query(h: &[u8]) -> bool
             return false;
         }
         height = height - taken + 1;
-        i += 1;
     }
     height == 1
 }

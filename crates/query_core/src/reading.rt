@@ -2,13 +2,11 @@
 ghost use Rattle.std.specs.Prelude.{◌≡◌};
 ghost use Rattle.text.specs.Bytes.{part as part_from};
 ghost use Rattle.query_core.specs.Held.{slot, comparator_from, slot_from, slot_in, heap_in, node_of, node_in};
-ghost use Rattle.query_core.specs.Reading.{comparator_read, chosen, joining, ConstantReads, ReadsNode, expects_kind, TestsNode};
+ghost use Rattle.query_core.specs.Reading.{joining, ConstantReads, ReadsNode, expects_kind, TestsNode};
 
 use crate::fields::{first_of, second_of, selected_if, slot_from};
 use crate::links::link_from;
-use crate::{
-    ComparatorRead, Connective, Constant, ConstantRead, Node, NodeRead, Selector, Slot, layout,
-};
+use crate::{Connective, Constant, Node, Selector, Slot, layout};
 use language::Comparator;
 use names::{is_composed_name, is_composed_namespace, is_composed_property_name};
 use tables::get_or;
@@ -16,95 +14,75 @@ use text::{Span, part};
 use values::{KIND_COUNT, Kind, in_range, is_value, kind_from};
 
 // The comparator of a code.
-fn comparator_from(code: u8) -> ComparatorRead
-    ensures { result ≡ comparator_read (comparator_from code) }
+fn comparator_from(code: u8) -> Option<Comparator>
+    ensures { result ≡ comparator_from code }
 {
     match code {
-        layout::EQUAL => ComparatorRead::Is(Comparator::Equal),
-        layout::UNEQUAL => ComparatorRead::Is(Comparator::Unequal),
-        layout::GREATER => ComparatorRead::Is(Comparator::Greater),
-        layout::LESS => ComparatorRead::Is(Comparator::Less),
-        _ => ComparatorRead::Nothing,
-    }
-}
-
-// The constant, where it keeps its rule.
-fn chosen_if(fit: bool, c: Constant) -> ConstantRead
-    ensures { result ≡ chosen fit c }
-{
-    if fit {
-        ConstantRead::Is(c)
-    } else {
-        ConstantRead::Nothing
+        layout::EQUAL => Some(Comparator::Equal),
+        layout::UNEQUAL => Some(Comparator::Unequal),
+        layout::GREATER => Some(Comparator::Greater),
+        layout::LESS => Some(Comparator::Less),
+        _ => None,
     }
 }
 
 // The constant of a slot.
-fn constant_from(heap: &[u8], x: Slot) -> ConstantRead
+fn constant_from(heap: &[u8], x: Slot) -> Option<Constant>
     ensures { ConstantReads heap.now x result }
 {
     let kind = x.kind;
     if KIND_COUNT <= kind {
-        return ConstantRead::Nothing;
+        return None;
     }
     match kind_from(kind) {
-        Kind::Page => ConstantRead::Nothing,
+        Kind::Page => None,
         Kind::Scalar(k) => {
             let n = x.number;
             let fit = in_range(k, n);
-            chosen_if(fit, Constant::Scalar(k, n))
+            fit.then_some(Constant::Scalar(k, n))
         }
         Kind::String => {
             let p = x.second;
             let fit = is_value(part(heap, p.start, p.len));
-            chosen_if(fit, Constant::String(p))
+            fit.then_some(Constant::String(p))
         }
     }
 }
 
 // An article comparison, the bytes of a slot of tag 6.
-fn article_from(heap: &[u8], b: &[u8]) -> NodeRead
+fn article_from(heap: &[u8], b: &[u8]) -> Option<Node>
     ensures { ReadsNode heap.now (node_of heap.now 6 (slot_from b.now)) result }
 {
-    let read = comparator_from(get_or(b, 1, 0));
-    let ComparatorRead::Is(c) = read else {
-        return NodeRead::Nothing;
-    };
+    let c = comparator_from(get_or(b, 1, 0))?;
     let p = second_of(b);
     let fit = is_composed_name(part(heap, p.start, p.len));
     selected_if(fit, Selector::Article(c, p))
 }
 
 // A value comparison, a slot of tag 7.
-fn value_from(heap: &[u8], x: Slot) -> NodeRead
+fn value_from(heap: &[u8], x: Slot) -> Option<Node>
     ensures { ReadsNode heap.now (node_of heap.now 7 x) result }
 {
-    let read = comparator_from(x.comparator);
-    let ComparatorRead::Is(c) = read else {
-        return NodeRead::Nothing;
-    };
-    let constant = constant_from(heap, x);
-    let ConstantRead::Is(k) = constant else {
-        return NodeRead::Nothing;
-    };
+    let c = comparator_from(x.comparator)?;
+    let k = constant_from(heap, x)?;
     let p = x.first;
     let fit = is_composed_property_name(part(heap, p.start, p.len));
     selected_if(fit, Selector::Value(p, c, k))
 }
 
 // A connective's node.
-fn joined(connective: Connective) -> NodeRead
+fn joined(connective: Connective) -> Option<Node>
     ensures { result ≡ joining connective }
 {
     let p = Span { start: 0, len: 0 };
-    NodeRead::Is(Node {
+    Some(Node {
         connective,
         selector: Selector::Category(p),
     })
 }
 
 // The node of a slot by its tag; no more is read than the tag asks for.
-fn node_from(heap: &[u8], tag: u8, b: &[u8]) -> NodeRead
+fn node_from(heap: &[u8], tag: u8, b: &[u8]) -> Option<Node>
     ensures { ReadsNode heap.now (node_of heap.now tag (slot_from b.now)) result }
 {
     match tag {
@@ -141,7 +119,7 @@ fn node_from(heap: &[u8], tag: u8, b: &[u8]) -> NodeRead
         layout::ARTICLE => article_from(heap, b),
         layout::VALUE => value_from(heap, slot_from(b)),
         layout::LINK => link_from(heap, b),
-        _ => NodeRead::Nothing,
+        _ => None,
     }
 }
 
@@ -175,7 +153,7 @@ pub fn expects_kind_at(h: &[u8], i: usize) -> bool
 }
 
 // The node in a place.
-pub fn node_at(h: &[u8], i: usize) -> NodeRead
+pub fn node_at(h: &[u8], i: usize) -> Option<Node>
     ensures { ReadsNode (heap_in h.now) (node_in h.now i) result }
 {
     let heap = part(h, layout::HEAP, layout::HEAP_BYTES);

@@ -9,21 +9,20 @@ use Rattle.values.specs.declared.Kind.{Kind}
 use Rattle.values.specs.declared.Scalar.{Scalar}
 use Rattle.values.specs.Values.{scalar, map_option, read_scalar, read_constant}
 use Rattle.query_core.specs.declared.Constant.{Constant}
-use Rattle.query_core.specs.declared.ConstantRead.{ConstantRead}
 use Rattle.query_core.specs.Reading.{constant_read_by}
 use Rattle.query_core_emit.specs.Emission.{scalar_constant, constant_in}
 
 -- The ways to read a constant.
-abbrev told : Scalar → Option ℕ → ConstantRead
-told j (Some n) = ConstantRead.Is (Constant.Scalar j n)
-told j None = ConstantRead.Nothing
+abbrev told : Scalar → Option ℕ → Option Constant
+told j (Some n) = Some (Constant.Scalar j n)
+told j None = None
 
 module _ (s : Bytes) (p : Span) (k : Kind) where
-  pub page_none : k ≡ Kind.Page → ConstantRead.Nothing ≡ constant_in s p k
+  pub page_none : k ≡ Kind.Page → None ≡ constant_in s p k
   unfolding constant_in
   page_none f = rw f
 
-  pub string_in : k ≡ Kind.String → ConstantRead.Is (Constant.String p) ≡ constant_in s p k
+  pub string_in : k ≡ Kind.String → Some (Constant.String p) ≡ constant_in s p k
   unfolding constant_in
   string_in f = rw f
 
@@ -36,10 +35,10 @@ module _ (s : Bytes) (p : Span) (k : Kind) where
         go None = refl
         go (Some n) = refl
 
-    pub code_in : (n : ℕ) → r ≡ Some n → ConstantRead.Is (Constant.Scalar j n) ≡ constant_in s p k
+    pub code_in : (n : ℕ) → r ≡ Some n → Some (Constant.Scalar j n) ≡ constant_in s p k
     code_in n g = sym (ap (told j) g) ∙ told_in
 
-    pub code_none : r ≡ None → ConstantRead.Nothing ≡ constant_in s p k
+    pub code_none : r ≡ None → None ≡ constant_in s p k
     code_none g = sym (ap (told j) g) ∙ told_in
 
 pub ruleset constants = (page_none, string_in, code_in, code_none)

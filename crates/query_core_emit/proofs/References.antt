@@ -1,4 +1,5 @@
 -- The core queries of comparisons, references and values, put.
+use Rattle.std.specs.Prelude.{Option, Some, None}
 use mathlib.Core.Path.{◌≡◌, refl, sym, ap, ◌∙◌}
 use mathlib.Core.Bool.{Bool, true, false, cond, not}
 use mathlib.Core.List.{[], ◌∷◌}
@@ -21,7 +22,6 @@ use Rattle.language.specs.declared.SurfaceComparator.{SurfaceComparator}
 use Rattle.query_text_pieces.specs.Places.{SplitsAt}
 use Rattle.query_core.specs.declared.Selector.{Selector}
 use Rattle.query_core.specs.declared.Constant.{Constant}
-use Rattle.query_core.specs.declared.ConstantRead.{ConstantRead}
 use Rattle.query_core.specs.declared.Place.{Place}
 use Rattle.query_core.specs.Postfix.{Node, post}
 use Rattle.query_core.specs.Form.{no_span}
@@ -29,7 +29,6 @@ use Rattle.query_core.specs.Reading.{selector_by}
 use Rattle.query_core_emit.specs.Emission.{Adds, Emits, connective_node, selector_of, comparing, scope_of, constant_in}
 use Rattle.query_core_emit.specs.declared.Comparison.{Comparison}
 use Rattle.query_core_emit.specs.declared.Scope.{Scope}
-use Rattle.query_core_emit.specs.declared.Emitted.{Emitted}
 use Rattle.query_core_emit.proofs.Adding.{conjunction_adds, one_adds, either_adds}
 use Rattle.query_core_emit.proofs.Constants.{constant_is}
 
@@ -121,18 +120,18 @@ pub ruleset references = (any_adds, within_adds)
 
 -- A property's piece.
 module _ (s : Bytes) (x p : Span) (c : SurfaceComparator) (h : Bytes) (at : Place) where
-  abbrev Valued : Kind → Emitted → Bytes → Type 0
+  abbrev Valued : Kind → Option Place → Bytes → Type 0
   Valued k r h' = Emits (elaborate_value (part_of s x) c (part_of s p) k) h at r h'
 
-  abbrev Read : Kind → Emitted → Bytes → Type 0
+  abbrev Read : Kind → Option Place → Bytes → Type 0
   Read k r h' = Emits (map_option (elaborate_constant (part_of s x) c) (read_constant k (part_of s p))) h at r h'
 
   module _ (t : Bytes) (q : Bool) (e : t ≡ part_of s p) (f : q ≡ is_reference (reference t)) where
-    pub link_unfit : not q ≡ true → Valued Kind.Page Emitted.Unfit h
+    pub link_unfit : not q ≡ true → Valued Kind.Page None h
     unfolding Emits elaborate_value
     link_unfit g = rw (← e, ← f, not-true q g)
 
-    pub link_emits : (r : Split) (h₁ : Bytes) (p₁ : Place) → not q ≡ false → SplitsAt s p r → (is_reference (split_of s r) ≡ true → Adds (Node.link (part_of s x) c (composed_reference (split_of s r)) ∷ []) h at h₁ p₁) → Valued Kind.Page (Emitted.At p₁) h₁
+    pub link_emits : (r : Split) (h₁ : Bytes) (p₁ : Place) → not q ≡ false → SplitsAt s p r → (is_reference (split_of s r) ≡ true → Adds (Node.link (part_of s x) c (composed_reference (split_of s r)) ∷ []) h at h₁ p₁) → Valued Kind.Page (Some p₁) h₁
     unfolding Emits elaborate_value post
     link_emits r h₁ p₁ g d a =
         let yes : is_reference (reference (part_of s p)) ≡ true = rw (← e, ← f) (not-false q g) in
@@ -140,17 +139,17 @@ module _ (s : Bytes) (x p : Span) (c : SurfaceComparator) (h : Bytes) (at : Plac
         (Core.select (Core.link (part_of s x) c (composed_reference (reference (part_of s p)))), rw yes, there)
 
   -- a constant of a kind
-  module _ (kind : Kind) (r : ConstantRead) (e : r ≡ constant_in s p kind) where
-    pub constant_unfit : r ≡ ConstantRead.Nothing → Read kind Emitted.Unfit h
+  module _ (kind : Kind) (r : Option Constant) (e : r ≡ constant_in s p kind) where
+    pub constant_unfit : r ≡ None → Read kind None h
     unfolding Emits
     constant_unfit f = rw (constant_is s p kind, ← e, f)
 
-    pub constant_emits : (k : Constant) (h' : Bytes) (p' : Place) → r ≡ ConstantRead.Is k → Adds (post (compared (comparing s (Comparison.Value x k)) c)) h at h' p' → Read kind (Emitted.At p') h'
+    pub constant_emits : (k : Constant) (h' : Bytes) (p' : Place) → r ≡ Some k → Adds (post (compared (comparing s (Comparison.Value x k)) c)) h at h' p' → Read kind (Some p') h'
     unfolding Emits elaborate_constant
     constant_emits k h' p' f a = (compared (comparing s (Comparison.Value x k)) c, rw (constant_is s p kind, ← e, f), a)
 
   -- by the kind
-  module _ (k : Kind) (r : Emitted) (h' : Bytes) where
+  module _ (k : Kind) (r : Option Place) (h' : Bytes) where
     pub page_value : k ≡ Kind.Page → Valued Kind.Page r h' → Valued k r h'
     page_value e d = rw e d
 

@@ -1,11 +1,11 @@
 -- Working definitions: nodes put behind those that a held query has, and the core queries of references and values.
 use Rattle.std.specs.Prelude.{ℕ, ◌≡◌, Bool, true, false, cond, List, ◌++◌, Option, Some, None}
+use Rattle.std.specs.Option.{option_map}
 use Rattle.text.specs.Bytes.{Bytes}
 use Rattle.text.specs.Parts.{part_of}
 use Rattle.text.specs.declared.Span.{Span}
 use Rattle.values.specs.declared.Kind.{Kind}
 use Rattle.values.specs.declared.Split.{Split}
-use Rattle.values.specs.declared.Scalar.{Scalar}
 use Rattle.values.specs.Values.{read_scalar}
 use Rattle.language.specs.Comparators.{is_equal, in_any_namespace}
 use Rattle.language.specs.Core.{Core}
@@ -14,7 +14,6 @@ use Rattle.language.specs.declared.Comparator.{Comparator}
 use Rattle.language.specs.declared.SurfaceComparator.{SurfaceComparator}
 use Rattle.query_core.specs.declared.Selector.{Selector}
 use Rattle.query_core.specs.declared.Constant.{Constant}
-use Rattle.query_core.specs.declared.ConstantRead.{ConstantRead}
 use Rattle.query_core.specs.declared.Place.{Place}
 use Rattle.query_core.specs.Postfix.{Node, post}
 use Rattle.query_core.specs.Form.{no_span}
@@ -22,16 +21,15 @@ use Rattle.query_core.specs.Reading.{constant_by}
 use Rattle.query_core.specs.Writing.{Laid}
 use Rattle.query_core_emit.specs.declared.Comparison.{Comparison}
 use Rattle.query_core_emit.specs.declared.Scope.{Scope}
-use Rattle.query_core_emit.specs.declared.Emitted.{Emitted}
 
 -- A held query's buffer and the place behind its nodes, the same after nodes were put.
 pub record Adds (k : List Node) (h : Bytes) (p : Place) (h' : Bytes) (p' : Place) : Type 0 where
   pub laid : (l : List Node) → Laid h p l → Laid h' p' (l ++ k)
 
 -- What emission answers, where o is the core query that is meant, if there is one.
-unfoldable pub Emits : Option Core → Bytes → Place → Emitted → Bytes → Type 0
-Emits o h p Emitted.Unfit h' = o ≡ None
-Emits o h p (Emitted.At p') h' = (c : Core) × (o ≡ Some c) × Adds (post c) h p h' p'
+unfoldable pub Emits : Option Core → Bytes → Place → Option Place → Bytes → Type 0
+Emits o h p None h' = o ≡ None
+Emits o h p (Some p') h' = (c : Core) × (o ≡ Some c) × Adds (post c) h p h' p'
 
 -- The node of OR, and of AND.
 abbrev pub connective_node : Bool → Node
@@ -54,11 +52,7 @@ scope_of c r =
     (cond (is_equal c) (Scope.Within no_span) Scope.Any)
 
 -- The constant that the piece at p writes in a kind.
-abbrev pub scalar_constant : Scalar → Option ℕ → ConstantRead
-scalar_constant k None = ConstantRead.Nothing
-scalar_constant k (Some n) = ConstantRead.Is (Constant.Scalar k n)
-
-unfoldable pub constant_in : Bytes → Span → Kind → ConstantRead
-constant_in s p Kind.Page = ConstantRead.Nothing
-constant_in s p (Kind.Scalar k) = scalar_constant k (read_scalar k (part_of s p))
-constant_in s p Kind.String = ConstantRead.Is (Constant.String p)
+unfoldable pub constant_in : Bytes → Span → Kind → Option Constant
+constant_in s p Kind.Page = None
+constant_in s p (Kind.Scalar k) = option_map (Constant.Scalar k) (read_scalar k (part_of s p))
+constant_in s p Kind.String = Some (Constant.String p)

@@ -23,19 +23,12 @@ pub enum Scope {
     Within(Span),
 }
 
-// The place behind the nodes that were put, or that a piece is unfit (18).
-#[derive(Clone, Copy)]
-pub enum Emitted {
-    At(Place),
-    Unfit,
-}
-
 // The same answer, its parts read one by one: right behind the call that answers, its bytes are not copied as fast.
-pub fn again(e: Emitted) -> Emitted
-    ensures { result ≡ e }
+pub fn again(emitted: Option<Place>) -> Option<Place>
+    ensures { result ≡ emitted }
 {
-    match e {
-        Emitted::At(place) => Emitted::At(place),
-        Emitted::Unfit => Emitted::Unfit,
+    match emitted {
+        Some(place) => Some(place),
+        None => None,
     }
 }

@@ -12,10 +12,10 @@ ghost use Rattle.query_core_emit.specs.declared.Comparison.TheVariants.{Article}
 ghost use Rattle.query_core_emit.specs.Emission.{comparing, selector_of, scope_of, Adds, Emits, connective_node};
 
 use crate::terms::constant_of;
-use crate::{Comparison, Emitted, Scope};
+use crate::{Comparison, Scope};
 use language::{Comparator, SurfaceComparator, in_any_namespace, is_equal, or_equal, strict};
 use names::put_composed;
-use query_core::{Connective, ConstantRead, Node, Place, Selector, put_connective, put_node};
+use query_core::{Connective, Node, Place, Selector, put_connective, put_node};
 use query_text_pieces::split_at;
 use text::{Span, part};
 use values::{Kind, Split, is_reference};
@@ -178,14 +178,14 @@ fn put_link(
     name: Span,
     c: SurfaceComparator,
     p: Span,
-) -> Emitted
+) -> Option<Place>
     ensures { Emits (elaborate_value (part_of s.now name) c (part_of s.now p) Page) held.old at result held.new }
 {
     if !is_reference(part(s, p.start, p.len)) {
-        return Emitted::Unfit;
+        return None;
     }
     let split = split_at(s, p);
-    Emitted::At(put_typed(s, held, at, name, c, split))
+    Some(put_typed(s, held, at, name, c, split))
 }
 
 // A comparison with the constant that the piece at p writes.
@@ -197,15 +197,11 @@ fn put_constant(
     c: SurfaceComparator,
     p: Span,
     kind: Kind,
-) -> Emitted
+) -> Option<Place>
     ensures { Emits (map_option (elaborate_constant (part_of s.now name) c) (read_constant kind (part_of s.now p))) held.old at result held.new }
 {
-    let read = constant_of(s, p, kind);
-    let ConstantRead::Is(k) = read else {
-        return Emitted::Unfit;
-    };
-    let one = put_compared(s, held, at, Comparison::Value(name, k), c);
-    Emitted::At(one)
+    let k = constant_of(s, p, kind)?;
+    Some(put_compared(s, held, at, Comparison::Value(name, k), c))
 }
 
 // A property's piece, by the property's kind.
@@ -217,7 +213,7 @@ pub fn put_value(
     c: SurfaceComparator,
     p: Span,
     kind: Kind,
-) -> Emitted
+) -> Option<Place>
     ensures { Emits (elaborate_value (part_of s.now name) c (part_of s.now p) kind) held.old at result held.new }
 {
     match kind {

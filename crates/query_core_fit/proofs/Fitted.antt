@@ -27,7 +27,6 @@ use Rattle.query_core.proofs.Postfix.{length_post}
 use Rattle.query_core.proofs.Counts.{few_strings}
 use Rattle.query_core.proofs.Laying.{laid_none}
 use Rattle.query_core_emit.specs.Emission.{Emits}
-use Rattle.query_core_emit.specs.declared.Emitted.{Emitted}
 use Rattle.query_tree_spelling.specs.Spelled.{is_spelled}
 use Rattle.query_tree.specs.Nodes.{tree}
 use Rattle.query_tree.specs.Form.{node_count, node_in, nodes_in}
@@ -63,7 +62,7 @@ module _ (t g : Bytes) (n w : ℕ) (u : Bool) (there : w ≡ two_at t 0) (wide :
         bytes = λ q c e s z a. absurd (let y : refused 17 ≡ accepted c = sym (let b : fit Γ q ≡ refused 17 = rw (sym (named q e) ∙ f) in b) ∙ a in let x : ◌≡◌ {A = ℕ} 0 1 = cc in omega arith);
       }
 
-  module _ (no : u ≡ false) (h h₁ : Bytes) (v : Emitted) (put : Fits tree (core_of_query (kinds_of (register_in g))) (nodes_in t) n h start v h₁) where
+  module _ (no : u ≡ false) (h h₁ : Bytes) (v : Option Place) (put : Fits tree (core_of_query (kinds_of (register_in g))) (nodes_in t) n h start v h₁) where
     declared_is : (q : Query) → nodes_in t ≡ tree q → fit Γ q ≡ elaborated (elaborate q Γ)
     unfolding fit
     declared_is q e = rw (sym (named q e) ∙ no)
@@ -73,7 +72,7 @@ module _ (t g : Bytes) (n w : ℕ) (u : Bool) (there : w ≡ two_at t 0) (wide :
     emitted q e =
         put.is [] [] q (e ∙ sym (append-nil (tree q))) (counted ∙ sym (length_tabulate (node_count t) (node_in t)) ∙ ap length e ∙ (let z : length (tree q) ≡ 0 + length (tree q) = omega arith in z))
 
-    pub fit_unfit : v ≡ Emitted.Unfit → FitsTree t (kinds_of (register_in g)) h Fit.Unfit h₁
+    pub fit_unfit : v ≡ None → FitsTree t (kinds_of (register_in g)) h Fit.Unfit h₁
     unfolding Emits
     fit_unfit f =
         record {
@@ -82,9 +81,9 @@ module _ (t g : Bytes) (n w : ℕ) (u : Bool) (there : w ≡ two_at t 0) (wide :
         }
       where
         none_there : (q : Query) → nodes_in t ≡ tree q → elaborate q Γ ≡ None
-        none_there q e = subst (λ (x : Emitted). Emits (elaborate q Γ) h start x h₁) f (emitted q e)
+        none_there q e = subst (λ (x : Option Place). Emits (elaborate q Γ) h start x h₁) f (emitted q e)
 
-    module _ (p : Place) (f : v ≡ Emitted.At p) where
+    module _ (p : Place) (f : v ≡ Some p) where
       -- the core query whose nodes are laid
       record CoreLaid (q : Query) : Type 0 where
         core : Core
@@ -95,7 +94,7 @@ module _ (t g : Bytes) (n w : ℕ) (u : Bool) (there : w ≡ two_at t 0) (wide :
       laid_core : (q : Query) → nodes_in t ≡ tree q → h ≡ zeros query_size → CoreLaid q
       unfolding Emits
       laid_core q e z =
-          let d = subst (λ (x : Emitted). Emits (elaborate q Γ) h start x h₁) f (emitted q e) in
+          let d = subst (λ (x : Option Place). Emits (elaborate q Γ) h start x h₁) f (emitted q e) in
           let l : Laid h₁ p (post d.0) = d.2.laid [] (subst (λ (x : Bytes). Laid x start []) (sym z) laid_none) in
           record { core = d.0; says = d.1; laid = l; count = l.count ∙ ap (min 257) (length_post d.0) }
 

@@ -15,7 +15,6 @@ use Rattle.query_core.specs.declared.Place.{Place}
 use Rattle.query_core.specs.Postfix as Postfix
 use Rattle.query_core.specs.Postfix.{post}
 use Rattle.query_core_emit.specs.Emission.{Adds, Emits, connective_node}
-use Rattle.query_core_emit.specs.declared.Emitted.{Emitted}
 use Rattle.query_core_emit.proofs.Adding.{adds_then, disjunction_adds, conjunction_adds}
 use Rattle.query_tree.specs.Nodes.{Node}
 use Rattle.query_core_fit.specs.Fitting.{join_core, Fits, FitsTwo, Wraps}
@@ -32,7 +31,7 @@ joined_none k (Some c) = refl
 
 module _ {A : Type 0} (t : A → List Node) (e : A → Option Core) (or : Bool) (l : List Node) (n i j : ℕ) (h : Bytes) (p : Place) where
   -- there are not as many nodes
-  pub two_short : j < n → FitsTwo t e or l n j h p Emitted.Unfit h
+  pub two_short : j < n → FitsTwo t e or l n j h p None h
   two_short s = record { is = λ k m a b f g d. absurd (omega (arith, s, g, d)) }
 
   module _ (at : i + n ≡ j) where
@@ -46,15 +45,15 @@ module _ {A : Type 0} (t : A → List Node) (e : A → Option Core) (or : Bool) 
     second_ends : (k : List Node) (a b : A) → j ≡ length k + (length (t a) + length (t b)) → j ≡ length (k ++ t a) + length (t b)
     second_ends k a b d = omega (arith, d, length-append k (t a))
 
-    pub two_first : (h₁ : Bytes) → Fits t e l i h p Emitted.Unfit h₁ → FitsTwo t e or l n j h p Emitted.Unfit h₁
+    pub two_first : (h₁ : Bytes) → Fits t e l i h p None h₁ → FitsTwo t e or l n j h p None h₁
     unfolding Emits joined
     two_first h₁ x = record { is = λ k m a b f g d. let z : e a ≡ None = x.is k (t b ++ m) a f (first_ends k m a b g d) in rw z }
 
-    pub two_second : (h₁ h₂ : Bytes) (p₁ : Place) → Fits t e l i h p (Emitted.At p₁) h₁ → Fits t e l j h₁ p₁ Emitted.Unfit h₂ → FitsTwo t e or l n j h p Emitted.Unfit h₂
+    pub two_second : (h₁ h₂ : Bytes) (p₁ : Place) → Fits t e l i h p (Some p₁) h₁ → Fits t e l j h₁ p₁ None h₂ → FitsTwo t e or l n j h p None h₂
     unfolding Emits
     two_second h₁ h₂ p₁ x y = record { is = λ k m a b f g d. let z : e b ≡ None = y.is (k ++ t a) m b (second_there k m a b f) (second_ends k a b d) in rw z (joined_none (join_core or) (e a)) }
 
-    pub two_both : (h₁ h₂ h₃ : Bytes) (p₁ p₂ p₃ : Place) → Fits t e l i h p (Emitted.At p₁) h₁ → Fits t e l j h₁ p₁ (Emitted.At p₂) h₂ → Adds (connective_node or ∷ []) h₂ p₂ h₃ p₃ → FitsTwo t e or l n j h p (Emitted.At p₃) h₃
+    pub two_both : (h₁ h₂ h₃ : Bytes) (p₁ p₂ p₃ : Place) → Fits t e l i h p (Some p₁) h₁ → Fits t e l j h₁ p₁ (Some p₂) h₂ → Adds (connective_node or ∷ []) h₂ p₂ h₃ p₃ → FitsTwo t e or l n j h p (Some p₃) h₃
     unfolding Emits joined
     two_both h₁ h₂ h₃ p₁ p₂ p₃ x y z =
         record {
@@ -74,14 +73,14 @@ inside_none x (Some (Kind.Scalar j)) = refl
 inside_none x (Some Kind.String) = refl
 
 module _ {A : Type 0} (t : A → List Node) (e : A → Option Core) (l : List Node) (i : ℕ) (x : Bytes) (k : Option Kind) (h h₁ : Bytes) (p : Place) where
-  pub wrap_unfit : Fits t e l i h p Emitted.Unfit h₁ → Fits t (λ a. inside x k (e a)) l i h p Emitted.Unfit h₁
+  pub wrap_unfit : Fits t e l i h p None h₁ → Fits t (λ a. inside x k (e a)) l i h p None h₁
   unfolding Emits
   wrap_unfit d = record { is = λ f m a g n. let z : e a ≡ None = d.is f m a g n in rw z (inside_none x k) }
 
-  pub wrap_at : (r : Emitted) (p₁ : Place) (h₂ : Bytes) → Fits t e l i h p (Emitted.At p₁) h₁ → Wraps x k h₁ p₁ r h₂ → Fits t (λ a. inside x k (e a)) l i h p r h₂
+  pub wrap_at : (r : Option Place) (p₁ : Place) (h₂ : Bytes) → Fits t e l i h p (Some p₁) h₁ → Wraps x k h₁ p₁ r h₂ → Fits t (λ a. inside x k (e a)) l i h p r h₂
   unfolding Emits inside post
-  wrap_at Emitted.Unfit p₁ h₂ d w = record { is = λ f m a g n. w (e a) }
-  wrap_at (Emitted.At p₂) p₁ h₂ d w =
+  wrap_at None p₁ h₂ d w = record { is = λ f m a g n. w (e a) }
+  wrap_at (Some p₂) p₁ h₂ d w =
       record {
         is =
             λ f m a g n.

@@ -1,4 +1,5 @@
 -- A part is fitted by its last node.
+use Rattle.std.specs.Prelude.{Option}
 use Prim.Native.Nat.{ℕ, suc, ◌+◌}
 use mathlib.Core.Path.{◌≡◌, refl, sym, subst, ◌∙◌}
 use mathlib.Core.List.{List, [], ◌∷◌, ◌++◌}
@@ -9,13 +10,12 @@ use Rattle.language.specs.Surface.{Chain, single, chain, Categories, Identifiers
 use Rattle.language.specs.Elaboration.{elaborate_categories, elaborate_identifiers, joined, along, elaborate_in, elaborate}
 use Rattle.query_core.specs.declared.Place.{Place}
 use Rattle.query_core_emit.specs.Emission.{Emits}
-use Rattle.query_core_emit.specs.declared.Emitted.{Emitted}
 use Rattle.query_tree.specs.Nodes.{Node, tree_categories, tree_identifiers, tree_chain, tree_in, tree}
 use Rattle.query_tree.specs.Form.{node_in, nodes_in}
 use Rattle.query_core_fit.specs.Fitting.{Fits, core_of_query, in_core, chain_tree, chain_core, AtNode, InNode, ChainNode}
 use Rattle.query_core_fit.proofs.Places.{Last, last_there, sides_there, sides_number}
 
-module _ (t : Bytes) (Γ : Typing) (x : Node) (i j : ℕ) (is : x ≡ node_in t j) (next : i ≡ suc j) (h : Bytes) (p : Place) (r : Emitted) (h' : Bytes) where
+module _ (t : Bytes) (Γ : Typing) (x : Node) (i j : ℕ) (is : x ≡ node_in t j) (next : i ≡ suc j) (h : Bytes) (p : Place) (r : Option Place) (h' : Bytes) where
   -- what is known of the node that was read, for the last node of a part
   at_last : (k f : List Node) (y : Node) (m : List Node) → Last t k f y m j → AtNode Γ (nodes_in t) x j h p r h' → AtNode Γ (nodes_in t) y j h p r h'
   at_last k f y m d a = subst (λ (z : Node). AtNode Γ (nodes_in t) z j h p r h') (is ∙ d.node) a

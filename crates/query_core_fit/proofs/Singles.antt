@@ -21,7 +21,6 @@ use Rattle.query_core.specs.Postfix.{post}
 use Rattle.query_core.specs.Reading.{selector_by}
 use Rattle.register_form_view.specs.View.{kind_of}
 use Rattle.query_core_emit.specs.Emission.{Adds, Emits}
-use Rattle.query_core_emit.specs.declared.Emitted.{Emitted}
 use Rattle.query_tree.specs.declared.TreeNode.{TreeNode}
 use Rattle.query_tree.specs.Reading.{node_by}
 use Rattle.query_core_fit.specs.declared.Step.{Step}
@@ -36,30 +35,30 @@ kind_there g s t x r e f = f ∙ ap (kinds_of (register_in g)) e
 
 -- A subquery's node.
 module _ (x : Bytes) (kind : Option Kind) (h : Bytes) (p : Place) where
-  pub wraps_nothing : kind ≡ None → Wraps x (kind) h p Emitted.Unfit h
+  pub wraps_nothing : kind ≡ None → Wraps x (kind) h p None h
   unfolding inside
   wraps_nothing e o = rw e
 
-  pub wraps_page : (k : Kind) (h' : Bytes) (p' : Place) → kind ≡ Some k → k ≡ Kind.Page → Adds (Rattle.query_core.specs.Postfix.subquery x ∷ []) h p h' p' → Wraps x (kind) h p (Emitted.At p') h'
+  pub wraps_page : (k : Kind) (h' : Bytes) (p' : Place) → kind ≡ Some k → k ≡ Kind.Page → Adds (Rattle.query_core.specs.Postfix.subquery x ∷ []) h p h' p' → Wraps x (kind) h p (Some p') h'
   wraps_page k h' p' e f a = (rw (e, f), a)
 
   module _ (k : Kind) (e : kind ≡ Some k) where
-    pub wraps_scalar : (j : Scalar) → k ≡ Kind.Scalar j → Wraps x (kind) h p Emitted.Unfit h
+    pub wraps_scalar : (j : Scalar) → k ≡ Kind.Scalar j → Wraps x (kind) h p None h
     unfolding inside
     wraps_scalar j f o = rw (e, f)
 
-    pub wraps_string : k ≡ Kind.String → Wraps x (kind) h p Emitted.Unfit h
+    pub wraps_string : k ≡ Kind.String → Wraps x (kind) h p None h
     unfolding inside
     wraps_string f o = rw (e, f)
 
 pub ruleset wrapping = (wraps_nothing, wraps_page, wraps_scalar, wraps_string)
 
 -- A piece.
-module _ (x v : Bytes) (c : SurfaceComparator) (kind : Option Kind) (h : Bytes) (p : Place) (r : Emitted) (h' : Bytes) where
+module _ (x v : Bytes) (c : SurfaceComparator) (kind : Option Kind) (h : Bytes) (p : Place) (r : Option Place) (h' : Bytes) where
   pub piece_kind : (k : Kind) → kind ≡ Some k → Emits (elaborate_value x c v k) h p r h' → Emits (piece_core x c v (kind)) h p r h'
   piece_kind k e d = rw e d
 
-pub piece_none : (x v : Bytes) (c : SurfaceComparator) (kind : Option Kind) (h : Bytes) (p : Place) → kind ≡ None → Emits (piece_core x c v (kind)) h p Emitted.Unfit h
+pub piece_none : (x v : Bytes) (c : SurfaceComparator) (kind : Option Kind) (h : Bytes) (p : Place) → kind ≡ None → Emits (piece_core x c v (kind)) h p None h
 unfolding Emits
 piece_none x v c kind h p e = rw e
 
@@ -68,31 +67,31 @@ pub ruleset pieces = (piece_kind, piece_none)
 -- A node alone.
 module _ (s : Bytes) (node : TreeNode) (h : Bytes) (p : Place) where
   module _ (h' : Bytes) (p' : Place) where
-    pub leaf_category : (x : Span) → node ≡ TreeNode.Category x → Adds (selector_by s (Selector.Category x) ∷ []) h p h' p' → LeafAt (node_by s node) h p (Emitted.At p') h'
+    pub leaf_category : (x : Span) → node ≡ TreeNode.Category x → Adds (selector_by s (Selector.Category x) ∷ []) h p h' p' → LeafAt (node_by s node) h p (Some p') h'
     unfolding Emits post
     leaf_category x e a = rw e (Core.select (Core.category (part_of s x)), refl, a)
 
-    pub leaf_namespace : (x : Span) → node ≡ TreeNode.Namespace x → Adds (selector_by s (Selector.Namespace x) ∷ []) h p h' p' → LeafAt (node_by s node) h p (Emitted.At p') h'
+    pub leaf_namespace : (x : Span) → node ≡ TreeNode.Namespace x → Adds (selector_by s (Selector.Namespace x) ∷ []) h p h' p' → LeafAt (node_by s node) h p (Some p') h'
     unfolding Emits post
     leaf_namespace x e a = rw e (Core.select (Core.namespace (part_of s x)), refl, a)
 
-    pub leaf_bare : (c : SurfaceComparator) (n x : Span) → node ≡ TreeNode.Bare c x → Adds (post (elaborate_reference c (split_of s (record { qualified = false; namespace = n; article = x })))) h p h' p' → LeafAt (node_by s node) h p (Emitted.At p') h'
+    pub leaf_bare : (c : SurfaceComparator) (n x : Span) → node ≡ TreeNode.Bare c x → Adds (post (elaborate_reference c (split_of s (record { qualified = false; namespace = n; article = x })))) h p h' p' → LeafAt (node_by s node) h p (Some p') h'
     unfolding Emits
     leaf_bare c n x e a = rw e (elaborate_reference c (split_of s (record { qualified = false; namespace = n; article = x })), refl, a)
 
-    pub leaf_qualified : (c : SurfaceComparator) (n x : Span) → node ≡ TreeNode.Qualified c n x → Adds (post (elaborate_reference c (split_of s (record { qualified = true; namespace = n; article = x })))) h p h' p' → LeafAt (node_by s node) h p (Emitted.At p') h'
+    pub leaf_qualified : (c : SurfaceComparator) (n x : Span) → node ≡ TreeNode.Qualified c n x → Adds (post (elaborate_reference c (split_of s (record { qualified = true; namespace = n; article = x })))) h p h' p' → LeafAt (node_by s node) h p (Some p') h'
     unfolding Emits
     leaf_qualified c n x e a = rw e (elaborate_reference c (split_of s (record { qualified = true; namespace = n; article = x })), refl, a)
 
-    pub in_existence : (x : Span) (k : Option Kind) → node ≡ TreeNode.Existence → Adds (selector_by s (Selector.Existence x) ∷ []) h p h' p' → LeafIn (part_of s x) k (node_by s node) h p (Emitted.At p') h'
+    pub in_existence : (x : Span) (k : Option Kind) → node ≡ TreeNode.Existence → Adds (selector_by s (Selector.Existence x) ∷ []) h p h' p' → LeafIn (part_of s x) k (node_by s node) h p (Some p') h'
     unfolding Emits post
     in_existence x k e a = rw e (Core.select (Core.existence (part_of s x)), refl, a)
 
-  pub in_value : (x : Bytes) (k : Option Kind) (c : SurfaceComparator) (y : Span) (r : Emitted) (h' : Bytes) → node ≡ TreeNode.Value c y → Emits (piece_core x c (part_of s y) k) h p r h' → LeafIn x k (node_by s node) h p r h'
+  pub in_value : (x : Bytes) (k : Option Kind) (c : SurfaceComparator) (y : Span) (r : Option Place) (h' : Bytes) → node ≡ TreeNode.Value c y → Emits (piece_core x c (part_of s y) k) h p r h' → LeafIn x k (node_by s node) h p r h'
   in_value x k c y r h' e d = rw e d
 
   -- any other
-  module _ (t : TreeNode) (e : node ≡ t) (r : Emitted) (h' : Bytes) where
+  module _ (t : TreeNode) (e : node ≡ t) (r : Option Place) (h' : Bytes) where
     pub leaf_other : LeafAt (node_by s t) h p r h' → LeafAt (node_by s node) h p r h'
     leaf_other d = rw e d
 

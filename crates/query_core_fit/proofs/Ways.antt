@@ -1,5 +1,5 @@
 -- What the functions that fit parts answer, by what they called.
-use Rattle.std.specs.Prelude.{Option}
+use Rattle.std.specs.Prelude.{Option, Some, None}
 use Prim.Native.Nat.{ℕ, suc, ◌+◌, ◌-◌, ◌≤◌, ◌<◌}
 use mathlib.Core.Path.{◌≡◌, sym, subst, ◌∙◌}
 use mathlib.Core.Bool.{Bool}
@@ -17,7 +17,6 @@ use Rattle.query_core.specs.declared.Place.{Place}
 use Rattle.register_form.specs.Form.{register_in}
 use Rattle.register_form_view.specs.View.{kind_of}
 use Rattle.query_core_emit.specs.Emission.{Adds, connective_node}
-use Rattle.query_core_emit.specs.declared.Emitted.{Emitted}
 use Rattle.query_tree.specs.Nodes.{Node, tree_categories, tree_identifiers, tree_chain, tree_in, tree}
 use Rattle.query_tree.specs.declared.TreeNode.{TreeNode}
 use Rattle.query_tree.specs.Form.{strings_in, node_in, nodes_in}
@@ -55,7 +54,7 @@ in_some (Alternatives.subquery q) = behind_some (tree q) Node.subquery
 in_some (Alternatives.either a b) = behind_some (tree_in a ++ tree_in b) (Node.bar (length (tree_in b)))
 
 module _ {A : Type 0} (t : A → List Node) (e : A → Option Core) (some_node : (a : A) → 1 ≤ length (t a)) where
-  none_there : (l : List Node) (i : ℕ) (h : Bytes) (p : Place) → i ≡ 0 → Fits t e l i h p Emitted.Unfit h
+  none_there : (l : List Node) (i : ℕ) (h : Bytes) (p : Place) → i ≡ 0 → Fits t e l i h p None h
   none_there l i h p z = record { is = λ k m a f n. absurd (omega (arith, n, z, some_node a)) }
 
 -- t are the bytes of the tree, g those of the register.
@@ -64,19 +63,19 @@ module _ (t g : Bytes) where
   Γ = kinds_of (register_in g)
 
   module _ (i : ℕ) (h : Bytes) (p : Place) (z : i ≡ 0) where
-    pub query_none : Fits tree (core_of_query (kinds_of (register_in g))) (nodes_in t) i h p Emitted.Unfit h
+    pub query_none : Fits tree (core_of_query (kinds_of (register_in g))) (nodes_in t) i h p None h
     query_none = none_there tree (core_of_query Γ) query_some (nodes_in t) i h p z
 
-    pub chain_none : Fits (chain_tree (kinds_of (register_in g))) (chain_core (kinds_of (register_in g))) (nodes_in t) i h p Emitted.Unfit h
+    pub chain_none : Fits (chain_tree (kinds_of (register_in g))) (chain_core (kinds_of (register_in g))) (nodes_in t) i h p None h
     chain_none = none_there (chain_tree Γ) (chain_core Γ) (λ c. chain_some c.0 (tree_in c.1)) (nodes_in t) i h p z
 
-    pub in_none : (x : Span) (kind : Option Kind) → FitsIn (strings_in t) (kinds_of (register_in g)) (nodes_in t) x kind i h p Emitted.Unfit h
+    pub in_none : (x : Span) (kind : Option Kind) → FitsIn (strings_in t) (kinds_of (register_in g)) (nodes_in t) x kind i h p None h
     unfolding FitsIn
     in_none x kind known = none_there tree_in (in_core Γ (part_of (strings_in t) x)) in_some (nodes_in t) i h p z
 
-  module _ (node : TreeNode) (step : Step) (i : ℕ) (Some : i ≡ 0 → ⊥) (is : node_by (strings_in t) node ≡ node_in t (i - 1)) (asks : step ≡ step_of node) (h : Bytes) (p : Place) (r : Emitted) (h' : Bytes) where
+  module _ (node : TreeNode) (step : Step) (i : ℕ) (nonzero : i ≡ 0 → ⊥) (is : node_by (strings_in t) node ≡ node_in t (i - 1)) (asks : step ≡ step_of node) (h : Bytes) (p : Place) (r : Option Place) (h' : Bytes) where
     next : i ≡ suc (i - 1)
-    next = omega (arith, Some)
+    next = omega (arith, nonzero)
 
     next_fits : {A : Type 0} (f : A → List Node) (e : A → Option Core) → Fits f e (nodes_in t) i h p r h' → Fits f e (nodes_in t) (suc (i - 1)) h p r h'
     next_fits f e d = subst (λ (n : ℕ). Fits f e (nodes_in t) n h p r h') next d
@@ -192,36 +191,36 @@ module _ (t g : Bytes) where
         in_leaf s e f d known = in_by Step.Leaf e (subst (λ k. LeafIn (part_of (strings_in t) x) k (node_by (strings_in t) node) h p r h') known (rw f at d))
 
   -- A chain's last name, and one that leads on.
-  module _ (node : TreeNode) (step : Step) (i : ℕ) (Some : i ≡ 0 → ⊥) (is : node_by (strings_in t) node ≡ node_in t (i - 1)) (asks : step ≡ step_of node) (x : Span) (kind : Option Kind) (s : Bytes) (f : s ≡ part t 4088 1024) (known : kind ≡ kinds_of (register_in g) (part_of s x)) (h : Bytes) (p : Place) where
+  module _ (node : TreeNode) (step : Step) (i : ℕ) (nonzero : i ≡ 0 → ⊥) (is : node_by (strings_in t) node ≡ node_in t (i - 1)) (asks : step ≡ step_of node) (x : Span) (kind : Option Kind) (s : Bytes) (f : s ≡ part t 4088 1024) (known : kind ≡ kinds_of (register_in g) (part_of s x)) (h : Bytes) (p : Place) where
     here : kind ≡ Γ (part_of (strings_in t) x)
     here = rw f at known
 
-    pub chain_property : (r : Emitted) (h' : Bytes) → step ≡ Step.Property x → FitsIn (strings_in t) (kinds_of (register_in g)) (nodes_in t) x kind (i - 1) h p r h' → Fits (chain_tree (kinds_of (register_in g))) (chain_core (kinds_of (register_in g))) (nodes_in t) i h p r h'
+    pub chain_property : (r : Option Place) (h' : Bytes) → step ≡ Step.Property x → FitsIn (strings_in t) (kinds_of (register_in g)) (nodes_in t) x kind (i - 1) h p r h' → Fits (chain_tree (kinds_of (register_in g))) (chain_core (kinds_of (register_in g))) (nodes_in t) i h p r h'
     unfolding FitsIn
-    chain_property r h' e d = chain_by node step i Some is asks h p r h' (Step.Property x) e (d here)
+    chain_property r h' e d = chain_by node step i nonzero is asks h p r h' (Step.Property x) e (d here)
 
-    pub chain_link : (r v : Emitted) (p₁ : Place) (h₁ h' : Bytes) → step ≡ Step.Link x → Fits (chain_tree (kinds_of (register_in g))) (chain_core (kinds_of (register_in g))) (nodes_in t) (i - 1) h p v h₁ → v ≡ Emitted.At p₁ → Wraps (part_of s x) (kind) h₁ p₁ r h' → Fits (chain_tree (kinds_of (register_in g))) (chain_core (kinds_of (register_in g))) (nodes_in t) i h p r h'
+    pub chain_link : (r v : Option Place) (p₁ : Place) (h₁ h' : Bytes) → step ≡ Step.Link x → Fits (chain_tree (kinds_of (register_in g))) (chain_core (kinds_of (register_in g))) (nodes_in t) (i - 1) h p v h₁ → v ≡ Some p₁ → Wraps (part_of s x) (kind) h₁ p₁ r h' → Fits (chain_tree (kinds_of (register_in g))) (chain_core (kinds_of (register_in g))) (nodes_in t) i h p r h'
     chain_link r v p₁ h₁ h' e d u w =
-        chain_by node step i Some is asks h p r h' (Step.Link x) e
+        chain_by node step i nonzero is asks h p r h' (Step.Link x) e
         (wrap_at (chain_tree Γ) (chain_core Γ) (nodes_in t) (i - 1) (part_of (strings_in t) x) (Γ (part_of (strings_in t) x)) h h₁ p r p₁ h' (rw u at d) (subst (λ k. Wraps (part_of (strings_in t) x) k h₁ p₁ r h') here (rw f at w)))
 
-    pub chain_unfit : (v : Emitted) (h₁ : Bytes) → step ≡ Step.Link x → Fits (chain_tree (kinds_of (register_in g))) (chain_core (kinds_of (register_in g))) (nodes_in t) (i - 1) h p v h₁ → v ≡ Emitted.Unfit → Fits (chain_tree (kinds_of (register_in g))) (chain_core (kinds_of (register_in g))) (nodes_in t) i h p Emitted.Unfit h₁
+    pub chain_unfit : (v : Option Place) (h₁ : Bytes) → step ≡ Step.Link x → Fits (chain_tree (kinds_of (register_in g))) (chain_core (kinds_of (register_in g))) (nodes_in t) (i - 1) h p v h₁ → v ≡ None → Fits (chain_tree (kinds_of (register_in g))) (chain_core (kinds_of (register_in g))) (nodes_in t) i h p None h₁
     chain_unfit v h₁ e d u =
-        chain_by node step i Some is asks h p Emitted.Unfit h₁ (Step.Link x) e
+        chain_by node step i nonzero is asks h p None h₁ (Step.Link x) e
         (wrap_unfit (chain_tree Γ) (chain_core Γ) (nodes_in t) (i - 1) (part_of (strings_in t) x) (Γ (part_of (strings_in t) x)) h h₁ p (rw u at d))
 
   -- A query inside a property.
-  module _ (node : TreeNode) (step : Step) (i : ℕ) (Some : i ≡ 0 → ⊥) (is : node_by (strings_in t) node ≡ node_in t (i - 1)) (asks : step ≡ step_of node) (x : Span) (kind : Option Kind) (h : Bytes) (p : Place) (e : step ≡ Step.Subquery) where
-    pub in_subquery : (r v : Emitted) (p₁ : Place) (h₁ h' s : Bytes) → s ≡ part t 4088 1024 → Fits tree (core_of_query (kinds_of (register_in g))) (nodes_in t) (i - 1) h p v h₁ → v ≡ Emitted.At p₁ → Wraps (part_of s x) (kind) h₁ p₁ r h' → FitsIn (strings_in t) (kinds_of (register_in g)) (nodes_in t) x kind i h p r h'
+  module _ (node : TreeNode) (step : Step) (i : ℕ) (nonzero : i ≡ 0 → ⊥) (is : node_by (strings_in t) node ≡ node_in t (i - 1)) (asks : step ≡ step_of node) (x : Span) (kind : Option Kind) (h : Bytes) (p : Place) (e : step ≡ Step.Subquery) where
+    pub in_subquery : (r v : Option Place) (p₁ : Place) (h₁ h' s : Bytes) → s ≡ part t 4088 1024 → Fits tree (core_of_query (kinds_of (register_in g))) (nodes_in t) (i - 1) h p v h₁ → v ≡ Some p₁ → Wraps (part_of s x) (kind) h₁ p₁ r h' → FitsIn (strings_in t) (kinds_of (register_in g)) (nodes_in t) x kind i h p r h'
     unfolding FitsIn
     in_subquery r v p₁ h₁ h' s f d u w known =
-        in_by node step i Some is asks h p r h' x Step.Subquery e
+        in_by node step i nonzero is asks h p r h' x Step.Subquery e
         (wrap_at tree (core_of_query Γ) (nodes_in t) (i - 1) (part_of (strings_in t) x) (Γ (part_of (strings_in t) x)) h h₁ p r p₁ h' (rw u at d) (subst (λ k. Wraps (part_of (strings_in t) x) k h₁ p₁ r h') known (rw f at w)))
 
-    pub in_unfit : (v : Emitted) (h₁ : Bytes) → Fits tree (core_of_query (kinds_of (register_in g))) (nodes_in t) (i - 1) h p v h₁ → v ≡ Emitted.Unfit → FitsIn (strings_in t) (kinds_of (register_in g)) (nodes_in t) x kind i h p Emitted.Unfit h₁
+    pub in_unfit : (v : Option Place) (h₁ : Bytes) → Fits tree (core_of_query (kinds_of (register_in g))) (nodes_in t) (i - 1) h p v h₁ → v ≡ None → FitsIn (strings_in t) (kinds_of (register_in g)) (nodes_in t) x kind i h p None h₁
     unfolding FitsIn
     in_unfit v h₁ d u known =
-        in_by node step i Some is asks h p Emitted.Unfit h₁ x Step.Subquery e
+        in_by node step i nonzero is asks h p None h₁ x Step.Subquery e
         (wrap_unfit tree (core_of_query Γ) (nodes_in t) (i - 1) (part_of (strings_in t) x) (Γ (part_of (strings_in t) x)) h h₁ p (rw u at d))
 
   -- Two sides, n nodes in the second, and what joins them.
@@ -229,50 +228,50 @@ module _ (t g : Bytes) where
     whole : (j - n) + n ≡ j
     whole = omega (arith, enough)
 
-    sides_first : (v : Emitted) (h₁ : Bytes) → Fits f e (nodes_in t) (j - n) h p v h₁ → v ≡ Emitted.Unfit → FitsTwo f e or (nodes_in t) n j h p Emitted.Unfit h₁
+    sides_first : (v : Option Place) (h₁ : Bytes) → Fits f e (nodes_in t) (j - n) h p v h₁ → v ≡ None → FitsTwo f e or (nodes_in t) n j h p None h₁
     sides_first v h₁ a u = two_first f e or (nodes_in t) n (j - n) j h p whole h₁ (rw u at a)
 
-    sides_second : (v w : Emitted) (h₁ h₂ : Bytes) (p₁ : Place) → Fits f e (nodes_in t) (j - n) h p v h₁ → v ≡ Emitted.At p₁ → Fits f e (nodes_in t) j h₁ p₁ w h₂ → w ≡ Emitted.Unfit → FitsTwo f e or (nodes_in t) n j h p Emitted.Unfit h₂
+    sides_second : (v w : Option Place) (h₁ h₂ : Bytes) (p₁ : Place) → Fits f e (nodes_in t) (j - n) h p v h₁ → v ≡ Some p₁ → Fits f e (nodes_in t) j h₁ p₁ w h₂ → w ≡ None → FitsTwo f e or (nodes_in t) n j h p None h₂
     sides_second v w h₁ h₂ p₁ a u b y = two_second f e or (nodes_in t) n (j - n) j h p whole h₁ h₂ p₁ (rw u at a) (rw y at b)
 
-    sides_both : (v w : Emitted) (h₁ h₂ h₃ : Bytes) (p₁ p₂ p₃ : Place) → Fits f e (nodes_in t) (j - n) h p v h₁ → v ≡ Emitted.At p₁ → Fits f e (nodes_in t) j h₁ p₁ w h₂ → w ≡ Emitted.At p₂ → Adds (connective_node or ∷ []) h₂ p₂ h₃ p₃ → FitsTwo f e or (nodes_in t) n j h p (Emitted.At p₃) h₃
+    sides_both : (v w : Option Place) (h₁ h₂ h₃ : Bytes) (p₁ p₂ p₃ : Place) → Fits f e (nodes_in t) (j - n) h p v h₁ → v ≡ Some p₁ → Fits f e (nodes_in t) j h₁ p₁ w h₂ → w ≡ Some p₂ → Adds (connective_node or ∷ []) h₂ p₂ h₃ p₃ → FitsTwo f e or (nodes_in t) n j h p (Some p₃) h₃
     sides_both v w h₁ h₂ h₃ p₁ p₂ p₃ a u b y d = two_both f e or (nodes_in t) n (j - n) j h p whole h₁ h₂ h₃ p₁ p₂ p₃ (rw u at a) (rw y at b) d
 
-  module _ (node : TreeNode) (step : Step) (i : ℕ) (Some : i ≡ 0 → ⊥) (is : node_by (strings_in t) node ≡ node_in t (i - 1)) (asks : step ≡ step_of node) (n : ℕ) (or : Bool) (e : step ≡ Step.Two n or) (h : Bytes) (p : Place) where
-    abbrev at_two : (r : Emitted) (h' : Bytes) → FitsTwo tree (core_of_query Γ) or (nodes_in t) n (i - 1) h p r h' → Fits tree (core_of_query Γ) (nodes_in t) i h p r h'
-    at_two r h' d = by_step_lem node step i Some is asks h p r h' (Step.Two n or) e d
+  module _ (node : TreeNode) (step : Step) (i : ℕ) (nonzero : i ≡ 0 → ⊥) (is : node_by (strings_in t) node ≡ node_in t (i - 1)) (asks : step ≡ step_of node) (n : ℕ) (or : Bool) (e : step ≡ Step.Two n or) (h : Bytes) (p : Place) where
+    abbrev at_two : (r : Option Place) (h' : Bytes) → FitsTwo tree (core_of_query Γ) or (nodes_in t) n (i - 1) h p r h' → Fits tree (core_of_query Γ) (nodes_in t) i h p r h'
+    at_two r h' d = by_step_lem node step i nonzero is asks h p r h' (Step.Two n or) e d
 
-    abbrev in_two : (x : Span) (r : Emitted) (h' : Bytes) → FitsTwo tree_in (in_core Γ (part_of (strings_in t) x)) or (nodes_in t) n (i - 1) h p r h' → Fits tree_in (in_core Γ (part_of (strings_in t) x)) (nodes_in t) i h p r h'
-    in_two x r h' d = in_by node step i Some is asks h p r h' x (Step.Two n or) e d
+    abbrev in_two : (x : Span) (r : Option Place) (h' : Bytes) → FitsTwo tree_in (in_core Γ (part_of (strings_in t) x)) or (nodes_in t) n (i - 1) h p r h' → Fits tree_in (in_core Γ (part_of (strings_in t) x)) (nodes_in t) i h p r h'
+    in_two x r h' d = in_by node step i nonzero is asks h p r h' x (Step.Two n or) e d
 
-    pub query_short : i - 1 < n → Fits tree (core_of_query (kinds_of (register_in g))) (nodes_in t) i h p Emitted.Unfit h
-    query_short l = at_two Emitted.Unfit h (two_short tree (core_of_query Γ) or (nodes_in t) n 0 (i - 1) h p l)
+    pub query_short : i - 1 < n → Fits tree (core_of_query (kinds_of (register_in g))) (nodes_in t) i h p None h
+    query_short l = at_two None h (two_short tree (core_of_query Γ) or (nodes_in t) n 0 (i - 1) h p l)
 
-    pub in_short : (x : Span) (kind : Option Kind) → i - 1 < n → FitsIn (strings_in t) (kinds_of (register_in g)) (nodes_in t) x kind i h p Emitted.Unfit h
+    pub in_short : (x : Span) (kind : Option Kind) → i - 1 < n → FitsIn (strings_in t) (kinds_of (register_in g)) (nodes_in t) x kind i h p None h
     unfolding FitsIn
-    in_short x kind l known = in_two x Emitted.Unfit h (two_short tree_in (in_core Γ (part_of (strings_in t) x)) or (nodes_in t) n 0 (i - 1) h p l)
+    in_short x kind l known = in_two x None h (two_short tree_in (in_core Γ (part_of (strings_in t) x)) or (nodes_in t) n 0 (i - 1) h p l)
 
     module _ (enough : n ≤ i - 1) where
-      pub query_first : (v : Emitted) (h₁ : Bytes) → Fits tree (core_of_query (kinds_of (register_in g))) (nodes_in t) (i - 1 - n) h p v h₁ → v ≡ Emitted.Unfit → Fits tree (core_of_query (kinds_of (register_in g))) (nodes_in t) i h p Emitted.Unfit h₁
-      query_first v h₁ a u = at_two Emitted.Unfit h₁ (sides_first tree (core_of_query Γ) or n (i - 1) enough h p v h₁ a u)
+      pub query_first : (v : Option Place) (h₁ : Bytes) → Fits tree (core_of_query (kinds_of (register_in g))) (nodes_in t) (i - 1 - n) h p v h₁ → v ≡ None → Fits tree (core_of_query (kinds_of (register_in g))) (nodes_in t) i h p None h₁
+      query_first v h₁ a u = at_two None h₁ (sides_first tree (core_of_query Γ) or n (i - 1) enough h p v h₁ a u)
 
-      pub query_second : (v w : Emitted) (h₁ h₂ : Bytes) (p₁ : Place) → Fits tree (core_of_query (kinds_of (register_in g))) (nodes_in t) (i - 1 - n) h p v h₁ → v ≡ Emitted.At p₁ → Fits tree (core_of_query (kinds_of (register_in g))) (nodes_in t) (i - 1) h₁ p₁ w h₂ → w ≡ Emitted.Unfit → Fits tree (core_of_query (kinds_of (register_in g))) (nodes_in t) i h p Emitted.Unfit h₂
-      query_second v w h₁ h₂ p₁ a u b y = at_two Emitted.Unfit h₂ (sides_second tree (core_of_query Γ) or n (i - 1) enough h p v w h₁ h₂ p₁ a u b y)
+      pub query_second : (v w : Option Place) (h₁ h₂ : Bytes) (p₁ : Place) → Fits tree (core_of_query (kinds_of (register_in g))) (nodes_in t) (i - 1 - n) h p v h₁ → v ≡ Some p₁ → Fits tree (core_of_query (kinds_of (register_in g))) (nodes_in t) (i - 1) h₁ p₁ w h₂ → w ≡ None → Fits tree (core_of_query (kinds_of (register_in g))) (nodes_in t) i h p None h₂
+      query_second v w h₁ h₂ p₁ a u b y = at_two None h₂ (sides_second tree (core_of_query Γ) or n (i - 1) enough h p v w h₁ h₂ p₁ a u b y)
 
-      pub query_both : (v w : Emitted) (h₁ h₂ h₃ : Bytes) (p₁ p₂ p₃ : Place) → Fits tree (core_of_query (kinds_of (register_in g))) (nodes_in t) (i - 1 - n) h p v h₁ → v ≡ Emitted.At p₁ → Fits tree (core_of_query (kinds_of (register_in g))) (nodes_in t) (i - 1) h₁ p₁ w h₂ → w ≡ Emitted.At p₂ → Adds (connective_node or ∷ []) h₂ p₂ h₃ p₃ → Fits tree (core_of_query (kinds_of (register_in g))) (nodes_in t) i h p (Emitted.At p₃) h₃
-      query_both v w h₁ h₂ h₃ p₁ p₂ p₃ a u b y d = at_two (Emitted.At p₃) h₃ (sides_both tree (core_of_query Γ) or n (i - 1) enough h p v w h₁ h₂ h₃ p₁ p₂ p₃ a u b y d)
+      pub query_both : (v w : Option Place) (h₁ h₂ h₃ : Bytes) (p₁ p₂ p₃ : Place) → Fits tree (core_of_query (kinds_of (register_in g))) (nodes_in t) (i - 1 - n) h p v h₁ → v ≡ Some p₁ → Fits tree (core_of_query (kinds_of (register_in g))) (nodes_in t) (i - 1) h₁ p₁ w h₂ → w ≡ Some p₂ → Adds (connective_node or ∷ []) h₂ p₂ h₃ p₃ → Fits tree (core_of_query (kinds_of (register_in g))) (nodes_in t) i h p (Some p₃) h₃
+      query_both v w h₁ h₂ h₃ p₁ p₂ p₃ a u b y d = at_two (Some p₃) h₃ (sides_both tree (core_of_query Γ) or n (i - 1) enough h p v w h₁ h₂ h₃ p₁ p₂ p₃ a u b y d)
 
       module _ (x : Span) (kind : Option Kind) where
-        pub in_first : (v : Emitted) (h₁ : Bytes) → FitsIn (strings_in t) (kinds_of (register_in g)) (nodes_in t) x kind (i - 1 - n) h p v h₁ → v ≡ Emitted.Unfit → FitsIn (strings_in t) (kinds_of (register_in g)) (nodes_in t) x kind i h p Emitted.Unfit h₁
+        pub in_first : (v : Option Place) (h₁ : Bytes) → FitsIn (strings_in t) (kinds_of (register_in g)) (nodes_in t) x kind (i - 1 - n) h p v h₁ → v ≡ None → FitsIn (strings_in t) (kinds_of (register_in g)) (nodes_in t) x kind i h p None h₁
         unfolding FitsIn
-        in_first v h₁ a u known = in_two x Emitted.Unfit h₁ (sides_first tree_in (in_core Γ (part_of (strings_in t) x)) or n (i - 1) enough h p v h₁ (a known) u)
+        in_first v h₁ a u known = in_two x None h₁ (sides_first tree_in (in_core Γ (part_of (strings_in t) x)) or n (i - 1) enough h p v h₁ (a known) u)
 
-        pub in_second : (v w : Emitted) (h₁ h₂ : Bytes) (p₁ : Place) → FitsIn (strings_in t) (kinds_of (register_in g)) (nodes_in t) x kind (i - 1 - n) h p v h₁ → v ≡ Emitted.At p₁ → FitsIn (strings_in t) (kinds_of (register_in g)) (nodes_in t) x kind (i - 1) h₁ p₁ w h₂ → w ≡ Emitted.Unfit → FitsIn (strings_in t) (kinds_of (register_in g)) (nodes_in t) x kind i h p Emitted.Unfit h₂
+        pub in_second : (v w : Option Place) (h₁ h₂ : Bytes) (p₁ : Place) → FitsIn (strings_in t) (kinds_of (register_in g)) (nodes_in t) x kind (i - 1 - n) h p v h₁ → v ≡ Some p₁ → FitsIn (strings_in t) (kinds_of (register_in g)) (nodes_in t) x kind (i - 1) h₁ p₁ w h₂ → w ≡ None → FitsIn (strings_in t) (kinds_of (register_in g)) (nodes_in t) x kind i h p None h₂
         unfolding FitsIn
-        in_second v w h₁ h₂ p₁ a u b y known = in_two x Emitted.Unfit h₂ (sides_second tree_in (in_core Γ (part_of (strings_in t) x)) or n (i - 1) enough h p v w h₁ h₂ p₁ (a known) u (b known) y)
+        in_second v w h₁ h₂ p₁ a u b y known = in_two x None h₂ (sides_second tree_in (in_core Γ (part_of (strings_in t) x)) or n (i - 1) enough h p v w h₁ h₂ p₁ (a known) u (b known) y)
 
-        pub in_both : (v w : Emitted) (h₁ h₂ h₃ : Bytes) (p₁ p₂ p₃ : Place) → FitsIn (strings_in t) (kinds_of (register_in g)) (nodes_in t) x kind (i - 1 - n) h p v h₁ → v ≡ Emitted.At p₁ → FitsIn (strings_in t) (kinds_of (register_in g)) (nodes_in t) x kind (i - 1) h₁ p₁ w h₂ → w ≡ Emitted.At p₂ → Adds (connective_node or ∷ []) h₂ p₂ h₃ p₃ → FitsIn (strings_in t) (kinds_of (register_in g)) (nodes_in t) x kind i h p (Emitted.At p₃) h₃
+        pub in_both : (v w : Option Place) (h₁ h₂ h₃ : Bytes) (p₁ p₂ p₃ : Place) → FitsIn (strings_in t) (kinds_of (register_in g)) (nodes_in t) x kind (i - 1 - n) h p v h₁ → v ≡ Some p₁ → FitsIn (strings_in t) (kinds_of (register_in g)) (nodes_in t) x kind (i - 1) h₁ p₁ w h₂ → w ≡ Some p₂ → Adds (connective_node or ∷ []) h₂ p₂ h₃ p₃ → FitsIn (strings_in t) (kinds_of (register_in g)) (nodes_in t) x kind i h p (Some p₃) h₃
         unfolding FitsIn
-        in_both v w h₁ h₂ h₃ p₁ p₂ p₃ a u b y d known = in_two x (Emitted.At p₃) h₃ (sides_both tree_in (in_core Γ (part_of (strings_in t) x)) or n (i - 1) enough h p v w h₁ h₂ h₃ p₁ p₂ p₃ (a known) u (b known) y d)
+        in_both v w h₁ h₂ h₃ p₁ p₂ p₃ a u b y d known = in_two x (Some p₃) h₃ (sides_both tree_in (in_core Γ (part_of (strings_in t) x)) or n (i - 1) enough h p v w h₁ h₂ h₃ p₁ p₂ p₃ (a known) u (b known) y d)
 
 pub ruleset descends = (query_none, chain_none, in_none, query_subquery, query_property, query_link, query_leaf, chain_two, chain_subquery, chain_leaf, in_property, in_link, in_leaf, chain_property, chain_link, chain_unfit, in_subquery, in_unfit, query_short, query_first, query_second, query_both, in_short, in_first, in_second, in_both)

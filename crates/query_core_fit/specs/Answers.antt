@@ -1,8 +1,11 @@
 -- What fitting answers, in 01's numbers.
-use Rattle.std.specs.Prelude.{ℕ, ◌≡◌, true}
+use Rattle.std.specs.Prelude.{◌≡◌, true, Result}
 use Rattle.text.specs.Bytes.{Bytes}
 use Rattle.buffer.specs.Numbers.{zeros}
-use Rattle.language.specs.Answer.{accepted, number_of}
+use Rattle.language.specs.Answer.{accepted}
+use Rattle.language.specs.Answer as Answer
+use Rattle.language.specs.Refusals.{number_of}
+use Rattle.language.specs.declared.refusals.Refusal.{Refusal}
 use Rattle.language.specs.Register.{Typing}
 use Rattle.language.specs.Surface.{Query}
 use Rattle.language.specs.Core.{Core}
@@ -12,16 +15,8 @@ use Rattle.query_core.specs.Form.{query_of}
 use Rattle.query_tree_spelling.specs.Spelled.{is_spelled}
 use Rattle.query_tree.specs.Nodes.{tree}
 use Rattle.query_tree.specs.Form.{nodes_in}
-use Rattle.query_core_fit.specs.declared.Fit.{Fit}
-
--- 17, a property not declared, 18 a piece unfit for its kind, 19 more than 256 nodes.
-abbrev pub fit_number : Fit → ℕ
-fit_number Fit.Accepted = 0
-fit_number Fit.Undeclared = 17
-fit_number Fit.Unfit = 18
-fit_number Fit.TooMany = 19
 
 -- t are the bytes of a tree whose query keeps the rules, h a held query's buffer of zeros, h' the buffer afterwards.
-pub record FitsTree (t : Bytes) (Γ : Typing) (h : Bytes) (r : Fit) (h' : Bytes) : Type 0 where
-  pub number : (q : Query) → nodes_in t ≡ tree q → is_spelled q ≡ true → h ≡ zeros query_size → fit_number r ≡ number_of (fit Γ q)
+pub record FitsTree (t : Bytes) (Γ : Typing) (h : Bytes) (r : Result Unit Refusal) (h' : Bytes) : Type 0 where
+  pub number : (q : Query) → nodes_in t ≡ tree q → is_spelled q ≡ true → h ≡ zeros query_size → number_of r ≡ Answer.number_of (fit Γ q)
   pub bytes : (q : Query) (c : Core) → nodes_in t ≡ tree q → is_spelled q ≡ true → h ≡ zeros query_size → fit Γ q ≡ accepted c → h' ≡ query_of c

@@ -1,6 +1,7 @@
 -- Working definitions: what fitting a part of a tree answers. l are the nodes of the tree, Γ the kinds of the register's properties; names
 -- and pieces lie in s.
 use Rattle.std.specs.Prelude.{ℕ, suc, ◌+◌, ◌≡◌, Bool, true, false, List, [], ◌∷◌, ◌++◌, length, Option, Some, None}
+use Rattle.std.specs.Option.{is_none}
 use Rattle.text.specs.Bytes.{Bytes}
 use Rattle.text.specs.Parts.{part_of}
 use Rattle.text.specs.declared.Span.{Span}
@@ -15,10 +16,8 @@ use Rattle.language.specs.Elaboration.{elaborate_reference, elaborate_value, ins
 use Rattle.query_core.specs.declared.Place.{Place}
 use Rattle.query_core.specs.Postfix as Postfix
 use Rattle.query_core_emit.specs.Emission.{Adds, Emits}
-use Rattle.query_core_emit.specs.declared.Emitted.{Emitted}
 use Rattle.query_tree.specs.Nodes.{Node, tree_chain, tree_in, tree}
 use Rattle.query_tree.specs.declared.TreeNode.{TreeNode}
-use Rattle.register_form_view.specs.View.{kind_of}
 use Rattle.query_core_fit.specs.declared.Step.{Step}
 
 -- What a node asks for.
@@ -36,11 +35,7 @@ step_of TreeNode.Subquery = Step.Subquery
 step_of (TreeNode.Property p) = Step.Property p
 step_of (TreeNode.Link p) = Step.Link p
 
--- 17, of a kind that was looked for, and of one node.
-abbrev pub lacks_kind : Option Kind → Bool
-lacks_kind None = true
-lacks_kind (Some k) = false
-
+-- 17, of one node.
 abbrev pub node_undeclared : Typing → Node → Bool
 node_undeclared Γ (Node.and n) = false
 node_undeclared Γ (Node.or n) = false
@@ -51,8 +46,8 @@ node_undeclared Γ (Node.reference c r) = false
 node_undeclared Γ Node.existence = false
 node_undeclared Γ (Node.value c v) = false
 node_undeclared Γ Node.subquery = false
-node_undeclared Γ (Node.property x) = lacks_kind (Γ x)
-node_undeclared Γ (Node.link x) = lacks_kind (Γ x)
+node_undeclared Γ (Node.property x) = is_none (Γ x)
+node_undeclared Γ (Node.link x) = is_none (Γ x)
 
 -- OR or AND of two core queries.
 abbrev pub join_core : Bool → Core → Core → Core
@@ -60,24 +55,24 @@ join_core true = Core.disjunction
 join_core false = Core.conjunction
 
 -- The nodes before node i end with those of a part: t tells the nodes of a part, e its core query.
-pub record Fits {A : Type 0} (t : A → List Node) (e : A → Option Core) (l : List Node) (i : ℕ) (h : Bytes) (p : Place) (r : Emitted) (h' : Bytes) : Type 0 where
+pub record Fits {A : Type 0} (t : A → List Node) (e : A → Option Core) (l : List Node) (i : ℕ) (h : Bytes) (p : Place) (r : Option Place) (h' : Bytes) : Type 0 where
   pub is : (k m : List Node) (a : A) → l ≡ k ++ (t a ++ m) → i ≡ length k + length (t a) → Emits (e a) h p r h'
 
 -- They end with those of two parts, n in the second.
-pub record FitsTwo {A : Type 0} (t : A → List Node) (e : A → Option Core) (or : Bool) (l : List Node) (n i : ℕ) (h : Bytes) (p : Place) (r : Emitted) (h' : Bytes) : Type 0 where
+pub record FitsTwo {A : Type 0} (t : A → List Node) (e : A → Option Core) (or : Bool) (l : List Node) (n i : ℕ) (h : Bytes) (p : Place) (r : Option Place) (h' : Bytes) : Type 0 where
   pub is : (k m : List Node) (a b : A) → l ≡ k ++ (t a ++ (t b ++ m)) → n ≡ length (t b) → i ≡ length k + (length (t a) + length (t b)) → Emits (joined (join_core or) (e a) (e b)) h p r h'
 
 -- A subquery's node is put where the property's kind is page.
-abbrev pub Wraps : Bytes → Option Kind → Bytes → Place → Emitted → Bytes → Type 0
-Wraps x k h p Emitted.Unfit h' = (o : Option Core) → inside x k o ≡ None
-Wraps x k h p (Emitted.At p') h' = (k ≡ Some Kind.Page) × Adds (Postfix.subquery x ∷ []) h p h' p'
+abbrev pub Wraps : Bytes → Option Kind → Bytes → Place → Option Place → Bytes → Type 0
+Wraps x k h p None h' = (o : Option Core) → inside x k o ≡ None
+Wraps x k h p (Some p') h' = (k ≡ Some Kind.Page) × Adds (Postfix.subquery x ∷ []) h p h' p'
 
 -- A piece under the property x, by its kind.
 abbrev pub piece_core : Bytes → SurfaceComparator → Bytes → Option Kind → Option Core
 piece_core x c v k = k >>= elaborate_value x c v
 
 -- A node alone that is a query, and one that is an alternative of the property x with a kind; other nodes ask for nothing here.
-abbrev pub LeafAt : Node → Bytes → Place → Emitted → Bytes → Type 0
+abbrev pub LeafAt : Node → Bytes → Place → Option Place → Bytes → Type 0
 LeafAt (Node.and n) h p r h' = Unit {0}
 LeafAt (Node.or n) h p r h' = Unit {0}
 LeafAt (Node.bar n) h p r h' = Unit {0}
@@ -90,7 +85,7 @@ LeafAt Node.subquery h p r h' = Unit {0}
 LeafAt (Node.property x) h p r h' = Unit {0}
 LeafAt (Node.link x) h p r h' = Unit {0}
 
-abbrev pub LeafIn : Bytes → Option Kind → Node → Bytes → Place → Emitted → Bytes → Type 0
+abbrev pub LeafIn : Bytes → Option Kind → Node → Bytes → Place → Option Place → Bytes → Type 0
 LeafIn x k (Node.and n) h p r h' = Unit {0}
 LeafIn x k (Node.or n) h p r h' = Unit {0}
 LeafIn x k (Node.bar n) h p r h' = Unit {0}
@@ -119,7 +114,7 @@ module _ (Γ : Typing) where
 
   -- A part ends with a node, the node numbered i, by what the node is.
   module _ (l : List Node) where
-    abbrev pub AtNode : Node → ℕ → Bytes → Place → Emitted → Bytes → Type 0
+    abbrev pub AtNode : Node → ℕ → Bytes → Place → Option Place → Bytes → Type 0
     AtNode (Node.and n) i h p r h' = FitsTwo tree core_of_query false l n i h p r h'
     AtNode (Node.or n) i h p r h' = FitsTwo tree core_of_query true l n i h p r h'
     AtNode (Node.bar n) i h p r h' = FitsTwo tree core_of_query true l n i h p r h'
@@ -133,7 +128,7 @@ module _ (Γ : Typing) where
     AtNode (Node.link x) i h p r h' = Fits chain_tree chain_core l (suc i) h p r h'
 
     -- alternatives, under the property x
-    abbrev pub InNode : Bytes → Node → ℕ → Bytes → Place → Emitted → Bytes → Type 0
+    abbrev pub InNode : Bytes → Node → ℕ → Bytes → Place → Option Place → Bytes → Type 0
     InNode x (Node.and n) i h p r h' = Unit {0}
     InNode x (Node.or n) i h p r h' = Unit {0}
     InNode x (Node.bar n) i h p r h' = FitsTwo tree_in (in_core x) true l n i h p r h'
@@ -147,7 +142,7 @@ module _ (Γ : Typing) where
     InNode x (Node.link y) i h p r h' = Unit {0}
 
     -- a chain
-    abbrev pub ChainNode : Node → ℕ → Bytes → Place → Emitted → Bytes → Type 0
+    abbrev pub ChainNode : Node → ℕ → Bytes → Place → Option Place → Bytes → Type 0
     ChainNode (Node.and n) i h p r h' = Unit {0}
     ChainNode (Node.or n) i h p r h' = Unit {0}
     ChainNode (Node.bar n) i h p r h' = Unit {0}
@@ -161,5 +156,5 @@ module _ (Γ : Typing) where
     ChainNode (Node.link x) i h p r h' = Fits chain_tree (λ c. inside x (Γ x) (chain_core c)) l i h p r h'
 
 -- The nodes before node i end with those of the alternatives of the property whose name lies at x; k is its kind.
-unfoldable pub FitsIn : Bytes → Typing → List Node → Span → Option Kind → ℕ → Bytes → Place → Emitted → Bytes → Type 0
+unfoldable pub FitsIn : Bytes → Typing → List Node → Span → Option Kind → ℕ → Bytes → Place → Option Place → Bytes → Type 0
 FitsIn s Γ l x k i h p r h' = k ≡ Γ (part_of s x) → Fits tree_in (in_core Γ (part_of s x)) l i h p r h'

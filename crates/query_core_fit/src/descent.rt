@@ -10,7 +10,7 @@ use crate::Step;
 use crate::leaves::{kind_at, put_leaf, put_leaf_in, put_subquery, step_of};
 use query_core::Place;
 use query_core_emit::writing::put_join;
-use query_core_emit::{Emitted, again};
+use query_core_emit::again;
 use query_tree::layout;
 use query_tree::reading::node_at;
 use text::{Span, part};
@@ -18,28 +18,24 @@ use values::Kind;
 
 // A query.
 #[cycle(fit_chain_fit_in_fit_query)]
-pub fn fit_query(tree: &[u8], i: usize, register: &[u8], held: &mut [u8], at: Place) -> Emitted
+pub fn fit_query(tree: &[u8], i: usize, register: &[u8], held: &mut [u8], at: Place) -> Option<Place>
     ensures { Fits tree_of (core_of_query (kinds_of (register_in register.now))) (nodes_in tree.now) i held.old at result held.new }
 {
     if i == 0 {
-        return Emitted::Unfit;
+        return None;
     }
     let last = i - 1;
     let node = node_at(tree, last);
     match step_of(node) {
         Step::Two(n, or) => {
             if last < n {
-                return Emitted::Unfit;
+                return None;
             }
-            match fit_query(tree, last - n, register, held, at) {
-                Emitted::At(first) => match fit_query(tree, last, register, held, first) {
-                    Emitted::At(second) => Emitted::At(put_join(held, second, or)),
-                    Emitted::Unfit => Emitted::Unfit,
-                },
-                Emitted::Unfit => Emitted::Unfit,
-            }
+            let first = fit_query(tree, last - n, register, held, at)?;
+            let second = fit_query(tree, last, register, held, first)?;
+            Some(put_join(held, second, or))
         }
-        Step::Subquery => Emitted::Unfit,
+        Step::Subquery => None,
         Step::Property(_) => again(fit_chain(tree, i, register, held, at)),
         Step::Link(_) => again(fit_chain(tree, i, register, held, at)),
         Step::Leaf => again(put_leaf(
@@ -53,29 +49,27 @@ pub fn fit_query(tree: &[u8], i: usize, register: &[u8], held: &mut [u8], at: Pl
 
 // A chain: what its first name leads to is the chain with one name less, inside one subquery; the last name has the alternatives.
 #[cycle(fit_chain_fit_in_fit_query)]
-fn fit_chain(tree: &[u8], i: usize, register: &[u8], held: &mut [u8], at: Place) -> Emitted
+fn fit_chain(tree: &[u8], i: usize, register: &[u8], held: &mut [u8], at: Place) -> Option<Place>
     ensures { Fits (chain_tree (kinds_of (register_in register.now))) (chain_core (kinds_of (register_in register.now))) (nodes_in tree.now) i held.old at result held.new }
 {
     if i == 0 {
-        return Emitted::Unfit;
+        return None;
     }
     let last = i - 1;
     let s = part(tree, layout::STRINGS, layout::STRING_BYTES);
     match step_of(node_at(tree, last)) {
-        Step::Two(_, _) => Emitted::Unfit,
-        Step::Subquery => Emitted::Unfit,
+        Step::Two(_, _) => None,
+        Step::Subquery => None,
         Step::Property(x) => {
             let kind = kind_at(s, x, register);
             fit_in(tree, last, x, kind, register, held, at)
         }
         Step::Link(x) => {
             let kind = kind_at(s, x, register);
-            match fit_chain(tree, last, register, held, at) {
-                Emitted::At(rest) => put_subquery(s, held, rest, x, kind),
-                Emitted::Unfit => Emitted::Unfit,
-            }
+            let rest = fit_chain(tree, last, register, held, at)?;
+            put_subquery(s, held, rest, x, kind)
         }
-        Step::Leaf => Emitted::Unfit,
+        Step::Leaf => None,
     }
 }
 
@@ -89,11 +83,11 @@ fn fit_in(
     register: &[u8],
     held: &mut [u8],
     at: Place,
-) -> Emitted
+) -> Option<Place>
     ensures { FitsIn (strings_in tree.now) (kinds_of (register_in register.now)) (nodes_in tree.now) x kind i held.old at result held.new }
 {
     if i == 0 {
-        return Emitted::Unfit;
+        return None;
     }
     let last = i - 1;
     let s = part(tree, layout::STRINGS, layout::STRING_BYTES);
@@ -101,22 +95,18 @@ fn fit_in(
     match step_of(node) {
         Step::Two(n, or) => {
             if last < n {
-                return Emitted::Unfit;
+                return None;
             }
-            match fit_in(tree, last - n, x, kind, register, held, at) {
-                Emitted::At(first) => match fit_in(tree, last, x, kind, register, held, first) {
-                    Emitted::At(second) => Emitted::At(put_join(held, second, or)),
-                    Emitted::Unfit => Emitted::Unfit,
-                },
-                Emitted::Unfit => Emitted::Unfit,
-            }
+            let first = fit_in(tree, last - n, x, kind, register, held, at)?;
+            let second = fit_in(tree, last, x, kind, register, held, first)?;
+            Some(put_join(held, second, or))
         }
-        Step::Subquery => match fit_query(tree, last, register, held, at) {
-            Emitted::At(inner) => put_subquery(s, held, inner, x, kind),
-            Emitted::Unfit => Emitted::Unfit,
-        },
-        Step::Property(_) => Emitted::Unfit,
-        Step::Link(_) => Emitted::Unfit,
+        Step::Subquery => {
+            let inner = fit_query(tree, last, register, held, at)?;
+            put_subquery(s, held, inner, x, kind)
+        }
+        Step::Property(_) => None,
+        Step::Link(_) => None,
         Step::Leaf => put_leaf_in(s, held, at, node, x, kind),
     }
 }

@@ -10,7 +10,6 @@ ghost use Rattle.query_core_fit.specs.Fitting.{step_of, piece_core, LeafAt, Leaf
 use crate::Step;
 use language::SurfaceComparator;
 use query_core::{Place, Selector};
-use query_core_emit::Emitted;
 use query_core_emit::writing::{put_reference, put_select, put_value};
 use query_tree::TreeNode;
 use register_form_view::kind_of;
@@ -45,16 +44,13 @@ pub fn kind_at(s: &[u8], x: Span, register: &[u8]) -> Option<Kind>
 }
 
 // The node of a subquery: a page property's.
-pub fn put_subquery(s: &[u8], held: &mut [u8], at: Place, x: Span, kind: Option<Kind>) -> Emitted
-    ensures { Wraps (part_of s.now x) (kind) held.old at result held.new }
+pub fn put_subquery(s: &[u8], held: &mut [u8], at: Place, x: Span, kind: Option<Kind>) -> Option<Place>
+    ensures { Wraps (part_of s.now x) kind held.old at result held.new }
 {
-    let Some(k) = kind else {
-        return Emitted::Unfit;
-    };
-    match k {
-        Kind::Page => Emitted::At(put_select(s, s, held, at, Selector::Subquery(x))),
-        Kind::Scalar(_) => Emitted::Unfit,
-        Kind::String => Emitted::Unfit,
+    match kind? {
+        Kind::Page => Some(put_select(s, s, held, at, Selector::Subquery(x))),
+        Kind::Scalar(_) => None,
+        Kind::String => None,
     }
 }
 
@@ -67,30 +63,27 @@ fn put_piece(
     c: SurfaceComparator,
     p: Span,
     kind: Option<Kind>,
-) -> Emitted
-    ensures { Emits (piece_core (part_of s.now x) c (part_of s.now p) (kind)) held.old at result held.new }
+) -> Option<Place>
+    ensures { Emits (piece_core (part_of s.now x) c (part_of s.now p) kind) held.old at result held.new }
 {
-    match kind {
-        Some(k) => put_value(s, held, at, x, c, p, k),
-        None => Emitted::Unfit,
-    }
+    put_value(s, held, at, x, c, p, kind?)
 }
 
 // A node that asks for nothing and is a query.
-pub fn put_leaf(s: &[u8], held: &mut [u8], at: Place, node: TreeNode) -> Emitted
+pub fn put_leaf(s: &[u8], held: &mut [u8], at: Place, node: TreeNode) -> Option<Place>
     ensures { LeafAt (node_by s.now node) held.old at result held.new }
 {
     let none = Span { start: 0, len: 0 };
     match node {
-        TreeNode::Category(x) => Emitted::At(put_select(s, s, held, at, Selector::Category(x))),
-        TreeNode::Namespace(n) => Emitted::At(put_select(s, s, held, at, Selector::Namespace(n))),
+        TreeNode::Category(x) => Some(put_select(s, s, held, at, Selector::Category(x))),
+        TreeNode::Namespace(n) => Some(put_select(s, s, held, at, Selector::Namespace(n))),
         TreeNode::Bare(c, article) => {
             let split = Split {
                 qualified: false,
                 namespace: none,
                 article,
             };
-            Emitted::At(put_reference(s, held, at, c, split))
+            Some(put_reference(s, held, at, c, split))
         }
         TreeNode::Qualified(c, namespace, article) => {
             let split = Split {
@@ -98,16 +91,16 @@ pub fn put_leaf(s: &[u8], held: &mut [u8], at: Place, node: TreeNode) -> Emitted
                 namespace,
                 article,
             };
-            Emitted::At(put_reference(s, held, at, c, split))
+            Some(put_reference(s, held, at, c, split))
         }
-        TreeNode::And(_) => Emitted::Unfit,
-        TreeNode::Or(_) => Emitted::Unfit,
-        TreeNode::Bar(_) => Emitted::Unfit,
-        TreeNode::Existence => Emitted::Unfit,
-        TreeNode::Value(_, _) => Emitted::Unfit,
-        TreeNode::Subquery => Emitted::Unfit,
-        TreeNode::Property(_) => Emitted::Unfit,
-        TreeNode::Link(_) => Emitted::Unfit,
+        TreeNode::And(_) => None,
+        TreeNode::Or(_) => None,
+        TreeNode::Bar(_) => None,
+        TreeNode::Existence => None,
+        TreeNode::Value(_, _) => None,
+        TreeNode::Subquery => None,
+        TreeNode::Property(_) => None,
+        TreeNode::Link(_) => None,
     }
 }
 
@@ -119,21 +112,21 @@ pub fn put_leaf_in(
     node: TreeNode,
     x: Span,
     kind: Option<Kind>,
-) -> Emitted
-    ensures { LeafIn (part_of s.now x) (kind) (node_by s.now node) held.old at result held.new }
+) -> Option<Place>
+    ensures { LeafIn (part_of s.now x) kind (node_by s.now node) held.old at result held.new }
 {
     match node {
-        TreeNode::Existence => Emitted::At(put_select(s, s, held, at, Selector::Existence(x))),
+        TreeNode::Existence => Some(put_select(s, s, held, at, Selector::Existence(x))),
         TreeNode::Value(c, p) => put_piece(s, held, at, x, c, p, kind),
-        TreeNode::And(_) => Emitted::Unfit,
-        TreeNode::Or(_) => Emitted::Unfit,
-        TreeNode::Bar(_) => Emitted::Unfit,
-        TreeNode::Category(_) => Emitted::Unfit,
-        TreeNode::Namespace(_) => Emitted::Unfit,
-        TreeNode::Bare(_, _) => Emitted::Unfit,
-        TreeNode::Qualified(_, _, _) => Emitted::Unfit,
-        TreeNode::Subquery => Emitted::Unfit,
-        TreeNode::Property(_) => Emitted::Unfit,
-        TreeNode::Link(_) => Emitted::Unfit,
+        TreeNode::And(_) => None,
+        TreeNode::Or(_) => None,
+        TreeNode::Bar(_) => None,
+        TreeNode::Category(_) => None,
+        TreeNode::Namespace(_) => None,
+        TreeNode::Bare(_, _) => None,
+        TreeNode::Qualified(_, _, _) => None,
+        TreeNode::Subquery => None,
+        TreeNode::Property(_) => None,
+        TreeNode::Link(_) => None,
     }
 }

@@ -7,9 +7,9 @@ ghost use Rattle.query_core_fit.specs.Answers.{FitsTree};
 
 use buffer::two_at;
 use descent::fit_query;
+use language::Refusal;
 use properties::some_undeclared;
 use query_core::{Place, count_of, finish, layout};
-use query_core_emit::Emitted;
 use text::Span;
 
 pub mod descent; // descent.rt: a tree from its last node down
@@ -27,32 +27,20 @@ pub enum Step {
     Leaf,
 }
 
-// What fitting answers: the held query is written, a property is not declared (17), a piece is unfit (18), there are more than 256
-// nodes (19).
-#[derive(Clone, Copy)]
-pub enum Fit {
-    Accepted,
-    Undeclared,
-    Unfit,
-    TooMany,
-}
-
-// Fits a held tree to the kinds that a register declares; the buffer becomes the held query's.
-pub fn fit_tree(tree: &[u8], register: &[u8], held: &mut [u8]) -> Fit
+// Fits a held tree to the kinds that a register declares; the buffer becomes the held query's. Refused are a property that is not
+// declared, a piece that is unfit for its kind, and more than 256 nodes.
+pub fn fit_tree(tree: &[u8], register: &[u8], held: &mut [u8]) -> Result<(), Refusal>
     ensures { FitsTree tree.now (kinds_of (register_in register.now)) held.old result held.new }
 {
     let n = usize::from(two_at(tree, 0));
     if some_undeclared(tree, n, register) {
-        return Fit::Undeclared;
+        return Err(Refusal::Undeclared);
     }
     let start = Place { code: 0 };
-    let fitted = fit_query(tree, n, register, held, start);
-    let Emitted::At(place) = fitted else {
-        return Fit::Unfit;
-    };
+    let place = fit_query(tree, n, register, held, start).ok_or(Refusal::UnfitPiece)?;
     if layout::MOST_NODES < count_of(place) {
-        return Fit::TooMany;
+        return Err(Refusal::TooManyNodes);
     }
     finish(held, place);
-    Fit::Accepted
+    Ok(())
 }

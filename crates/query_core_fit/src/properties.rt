@@ -7,24 +7,13 @@ ghost use Rattle.language.specs.Register.{kinds_of};
 ghost use Rattle.register_form.specs.Form.{register_in};
 ghost use Rattle.query_tree.specs.Form.{node_in};
 ghost use Rattle.query_tree.specs.Reading.{node_by};
-ghost use Rattle.query_core_fit.specs.Fitting.{node_undeclared, lacks_kind};
+ghost use Rattle.query_core_fit.specs.Fitting.{node_undeclared};
 
 use crate::Step;
 use crate::leaves::{kind_at, step_of};
 use query_tree::reading::node_at;
 use query_tree::{TreeNode, layout};
 use text::part;
-use values::Kind;
-
-// Whether no kind was found.
-fn is_nothing(kind: Option<Kind>) -> bool
-    ensures { result ≡ lacks_kind (kind) }
-{
-    match kind {
-        None => true,
-        Some(_) => false,
-    }
-}
 
 // Whether a node names a property that is not declared.
 fn is_undeclared(s: &[u8], node: TreeNode, register: &[u8]) -> bool
@@ -33,8 +22,8 @@ fn is_undeclared(s: &[u8], node: TreeNode, register: &[u8]) -> bool
     match step_of(node) {
         Step::Two(_, _) => false,
         Step::Subquery => false,
-        Step::Property(x) => is_nothing(kind_at(s, x, register)),
-        Step::Link(x) => is_nothing(kind_at(s, x, register)),
+        Step::Property(x) => kind_at(s, x, register).is_none(),
+        Step::Link(x) => kind_at(s, x, register).is_none(),
         Step::Leaf => false,
     }
 }
@@ -44,13 +33,5 @@ pub fn some_undeclared(tree: &[u8], n: usize, register: &[u8]) -> bool
     ensures { result ≡ any (node_undeclared (kinds_of (register_in register.now))) (tabulate n (node_in tree.now)) }
 {
     let s = part(tree, layout::STRINGS, layout::STRING_BYTES);
-    let mut i: usize = 0;
-    while i < n {
-        let node = node_at(tree, i);
-        if is_undeclared(s, node, register) {
-            return true;
-        }
-        i += 1;
-    }
-    false
+    (0..n).any(|i| is_undeclared(s, node_at(tree, i), register))
 }

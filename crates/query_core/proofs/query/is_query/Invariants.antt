@@ -1,11 +1,8 @@
 use Rattle.std.specs.Prelude.{Some}
-use Prim.Native.Nat.{◌-◌, ◌≤◌}
+use Prim.Native.Nat.{◌≤◌}
 use mathlib.Core.Path.{◌≡◌}
 use Rattle.query_core.specs.Stack.{height_at}
 use Rattle.query_core.proofs.query.is_query.Given as goal
 
 abbrev pub invariant-loop-i : goal.invariant-loop-i
-invariant-loop-i l = (height_at l.h l.i ≡ Some l.height) × (l.height ≤ l.i) × (l.i ≤ l.count)
-
-abbrev pub decreases-loop-i : goal.decreases-loop-i
-decreases-loop-i l = l.count - l.i
+invariant-loop-i l = (height_at l.h l.i ≡ Some l.height) × (l.height ≤ l.i)
