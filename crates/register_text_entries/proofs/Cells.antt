@@ -57,7 +57,6 @@ code_back Tag.Page k a b = refl
 code_back Tag.Cat k a b = refl
 code_back Tag.Val k a b = refl
 code_back Tag.Close k a b = refl
-code_back Tag.Broken k a b = refl
 code_back Tag.Prop k a b =
     let l = code_below k in
     let c = (4 + kind_code k) % 65536 in

@@ -58,7 +58,6 @@ item_room s x = go x.tag
     go Tag.Cat = omega (arith, length-append (composed_name a) [], composed_le a)
     go Tag.Val = omega (arith, length-append (composed_name a) b, composed_le a)
     go Tag.Close = omega (arith, length-append (composed_name []) [], composed_le [])
-    go Tag.Broken = omega (arith, length-append (composed_name []) [], composed_le [])
 
 -- It is the entry with its names composed.
 item_composed : (s : Bytes) (x : Item) → entry_by x.tag x.kind (first_part s x) (second_part s x) ≡ composed_entry (entry_in s x)
@@ -76,7 +75,6 @@ item_composed s x = go x.tag
     go Tag.Cat = refl
     go Tag.Val = refl
     go Tag.Close = refl
-    go Tag.Broken = refl
 
 -- An entry that was copied: its row says what it is.
 module _ (s : Bytes) (x : Item) (c : Bytes) (at : ℕ) (fits : at + length (item_text s x) ≤ length c) where
@@ -158,7 +156,6 @@ broken_is Tag.Page k n m a b e f = rw (length_name a n e, length_name b m (f ref
 broken_is Tag.Cat k n m a b e f = rw (length_name a n e)
 broken_is Tag.Val k n m a b e f = rw (length_name a n e)
 broken_is Tag.Close k n m a b e f = refl
-broken_is Tag.Broken k n m a b e f = refl
 
 -- Else its names are names.
 name_namespace : (s : Bytes) → is_name s ≡ true → is_namespace s ≡ true
@@ -176,7 +173,6 @@ first_named Tag.Page k a b h = ((and-eq-true_iff (is_namespace a) (is_name b)).0
 first_named Tag.Cat k a b h = name_namespace a (not-false (is_name a) h)
 first_named Tag.Val k a b h = property_namespace a ((and-eq-true_iff (is_property_name a) (is_value b)).0 (not-false (is_property_name a && is_value b) h)).0
 first_named Tag.Close k a b h = refl
-first_named Tag.Broken k a b h = refl
 
 second_named : (t : Tag) (k : Kind) (a b : Bytes) → breaks_rule (entry_by t k a b) ≡ false → is_named t ≡ true → is_namespace (cond (has_second t) b []) ≡ true
 second_named Tag.Prop k a b h z = absurd (false≢true z)
@@ -184,7 +180,6 @@ second_named Tag.Page k a b h z = name_namespace b ((and-eq-true_iff (is_namespa
 second_named Tag.Cat k a b h z = absurd (false≢true z)
 second_named Tag.Val k a b h z = absurd (false≢true z)
 second_named Tag.Close k a b h z = absurd (false≢true z)
-second_named Tag.Broken k a b h z = absurd (false≢true z)
 
 second_size : (t : Tag) (b c : Bytes) (at : ℕ) (d : Bytes) (m : ℕ) → SecondPut t b c at d m → (is_named t ≡ true → is_namespace b ≡ true) → m ≡ length (name_or t b)
 second_size t b c at d m w f = go (is_named t) refl
@@ -379,5 +374,3 @@ module _ (s : Bytes) (t : List ℕ) (b : Bytes) (v : List ℕ) (c : Bytes) (u : 
 
   pub going_done : (n : ℕ) → i ≤ n → n ≤ i → Composes s t n b v c u q
   going_done n l m = let e : i ≡ n = omega arith in record { broken = rw (← e) g.broken; rows = λ o h k j. rw (← e) (g.held (rw (← e) at o) (rw (← e) at h) k (omega arith)).rows; size = g.size }
-
-pub ruleset going = (going_none, going_more, going_done)

@@ -2,7 +2,7 @@
 use Rattle.std.specs.Prelude.{Option, Some, None}
 use Prim.Native.Nat.{ℕ, ◌+◌, ◌-◌, ◌≤◌, ◌<◌}
 use mathlib.Core.Path.{◌≡◌, refl, sym, ◌∙◌}
-use mathlib.Core.Bool.{Bool, true, false, not, false≢true, true≢false}
+use mathlib.Core.Bool.{Bool, true, false, not}
 use native.Mathlib.Omega.{arith}
 use lib.ListN.{length, drop, length-drop, drop_of_length-le}
 use lib.Seq.{drop-drop, drop-length, drop-nil}
@@ -18,16 +18,13 @@ use Rattle.values.specs.declared.Kind.{Kind}
 use Rattle.values.proofs.AllKinds.{kind_stands}
 use Rattle.language.specs.Answer.{◌>>=◌, found}
 use Rattle.language.specs.RegisterText.{Read, prop, page, cat, val, line, inner, quoted, kind_word_at, prop_form, page_form, cat_form, val_form, closing, next_entry}
-use Rattle.register_text_entries.specs.declared.Found.{Found}
-use Rattle.register_text_entries.specs.declared.Quoted.{Quoted}
-use Rattle.register_text_entries.specs.declared.KindFound.{KindFound}
 use Rattle.register_text_entries.specs.declared.Tag.{Tag}
 use Rattle.register_text_entries.specs.declared.Item.{Item}
-use Rattle.register_text_entries.specs.Items.{Finds, quoted_in, Quotes, framed, kind_in, place_of, is_broken, read_by, ReadsEntry, nowhere, broken_item}
+use Rattle.register_text_entries.specs.Items.{Finds, quoted_in, Quotes, framed, kind_in, place_of, ReadsEntry, nowhere}
 
 -- A word.
 module _ (s w : Bytes) (at : ℕ) (b : Bool) (p : b ≡ starts w (drop at s)) where
-  pub word_absent : not b ≡ true → Finds s at w Found.Nothing
+  pub word_absent : not b ≡ true → Finds s at w None
   unfolding after
   word_absent h = record { is = rw (← p, not-true b h); within = tt }
 
@@ -35,11 +32,11 @@ module _ (s w : Bytes) (at : ℕ) (b : Bool) (p : b ≡ starts w (drop at s)) wh
     pub word_fits : at ≤ length s → at + length w ≤ length s
     word_fits l = omega (arith, starts_fits w (drop at s) (sym p ∙ not-false b h), length-drop at s)
 
-    pub word_stands : at ≤ length s → Finds s at w (Found.At (at + length w))
+    pub word_stands : at ≤ length s → Finds s at w (Some (at + length w))
     unfolding after
     word_stands l = record { is = rw (← p, not-false b h, drop-drop); within = word_fits l }
 
-    pub word_past : length s < at → Finds s at w (Found.At (length s))
+    pub word_past : length s < at → Finds s at w (Some (length s))
     unfolding after
     word_past l =
         let k : length s ≤ at = omega arith in
@@ -48,20 +45,20 @@ module _ (s w : Bytes) (at : ℕ) (b : Bool) (p : b ≡ starts w (drop at s)) wh
 pub ruleset words = (word_absent, word_stands, word_past)
 
 -- A quoted text.
-module _ (s : Bytes) (at : ℕ) (f : Found) (p : Finds s at (bytes "\"") f) where
-  pub quote_absent : f ≡ Found.Nothing → Quotes s (quoted (drop at s)) Quoted.Nothing
+module _ (s : Bytes) (at : ℕ) (f : Option ℕ) (p : Finds s at (bytes "\"") f) where
+  pub quote_absent : f ≡ None → Quotes s (quoted (drop at s)) None
   unfolding quoted
   quote_absent e = record { is = rw (← p.is, e); within = tt }
 
-  module _ (start end : ℕ) (e : f ≡ Found.At start) (q : end ≡ start + span is_quotable (drop start s)) (g : Found) (o : Finds s end (bytes "\"") g) where
+  module _ (start end : ℕ) (e : f ≡ Some start) (q : end ≡ start + span is_quotable (drop start s)) (g : Option ℕ) (o : Finds s end (bytes "\"") g) where
     rest : behind is_quotable (drop start s) ≡ drop end s
     rest = drop-drop (span is_quotable (drop start s)) start s ∙ rw (← q)
 
-    pub quote_open : g ≡ Found.Nothing → Quotes s (quoted (drop at s)) Quoted.Nothing
+    pub quote_open : g ≡ None → Quotes s (quoted (drop at s)) None
     unfolding quoted
     quote_open h = record { is = rw (← p.is, e, rest, ← o.is, h); within = tt }
 
-    pub quote_stands : (next : ℕ) → g ≡ Found.At next → Quotes s (quoted (drop at s)) (Quoted.Text (record { start = start; len = end - start }) next)
+    pub quote_stands : (next : ℕ) → g ≡ Some next → Quotes s (quoted (drop at s)) (Some (record { start = start; len = end - start }, next))
     unfolding quoted
     quote_stands next h =
         let k : end - start ≡ span is_quotable (drop start s) = omega arith in
@@ -74,22 +71,22 @@ module _ (s : Bytes) (at : ℕ) (f : Found) (p : Finds s at (bytes "\"") f) wher
 pub ruleset quotes = (quote_absent, quote_open, quote_stands)
 
 -- A quoted text between two words.
-module _ (s w v : Bytes) (at : ℕ) (f : Found) (p : Finds s at w f) where
-  pub frame_absent : f ≡ Found.Nothing → Quotes s (framed w v (drop at s)) Quoted.Nothing
+module _ (s w v : Bytes) (at : ℕ) (f : Option ℕ) (p : Finds s at w f) where
+  pub frame_absent : f ≡ None → Quotes s (framed w v (drop at s)) None
   unfolding framed
   frame_absent h = record { is = rw (← p.is, h); within = tt }
 
-  module _ (a : ℕ) (e : f ≡ Found.At a) (q : Quoted) (p₂ : Quotes s (quoted (drop a s)) q) where
-    pub frame_empty : q ≡ Quoted.Nothing → Quotes s (framed w v (drop at s)) Quoted.Nothing
+  module _ (a : ℕ) (e : f ≡ Some a) (q : Option (Span × ℕ)) (p₂ : Quotes s (quoted (drop a s)) q) where
+    pub frame_empty : q ≡ None → Quotes s (framed w v (drop at s)) None
     unfolding framed
     frame_empty h = record { is = rw (← p.is, e, ← p₂.is, h); within = tt }
 
-    module _ (x : Span) (b : ℕ) (e₂ : q ≡ Quoted.Text x b) (g : Found) (p₃ : Finds s b v g) where
-      pub frame_open : g ≡ Found.Nothing → Quotes s (framed w v (drop at s)) Quoted.Nothing
+    module _ (x : Span × ℕ) (e₂ : q ≡ Some x) (g : Option ℕ) (p₃ : Finds s x.1 v g) where
+      pub frame_open : g ≡ None → Quotes s (framed w v (drop at s)) None
       unfolding framed
       frame_open h = record { is = rw (← p.is, e, ← p₂.is, e₂, ← p₃.is, h); within = tt }
 
-      pub frame_stands : (n : ℕ) → g ≡ Found.At n → Quotes s (framed w v (drop at s)) (Quoted.Text x n)
+      pub frame_stands : (n : ℕ) → g ≡ Some n → Quotes s (framed w v (drop at s)) (Some (x.0, n))
       unfolding framed
       frame_stands n h = record { is = rw (← p.is, e, ← p₂.is, e₂, ← p₃.is, h); within = rw e₂ at p₂.within }
 
@@ -103,7 +100,7 @@ read_one (Some j) None e = cc
 read_one (Some j) (Some k) e = cc
 
 module _ (s : Bytes) (at : ℕ) (r : Option Kind) (p : r ≡ (kind_at (drop at s))) where
-  pub kind_absent : r ≡ None → kind_in s KindFound.Nothing ≡ kind_word_at (drop at s)
+  pub kind_absent : r ≡ None → kind_in s None ≡ kind_word_at (drop at s)
   unfolding kind_word_at
   kind_absent e = rw (read_one (kind_at (drop at s)) None (sym p ∙ e))
 
@@ -114,19 +111,15 @@ module _ (s : Bytes) (at : ℕ) (r : Option Kind) (p : r ≡ (kind_at (drop at s
     pub kind_fits : length (kind_word k) ≤ length s - at
     kind_fits = omega (arith, starts_fits (kind_word k) (drop at s) (kind_stands k (drop at s) kind_is), length-drop at s)
 
-    pub kind_found : (n : ℕ) → n ≡ length (kind_word k) → kind_in s (KindFound.At k (at + n)) ≡ kind_word_at (drop at s)
+    pub kind_found : (n : ℕ) → n ≡ length (kind_word k) → kind_in s (Some (k, at + n)) ≡ kind_word_at (drop at s)
     unfolding kind_word_at
     kind_found n h = rw (kind_is, h, drop-drop)
 
 pub ruleset kinds = (kind_absent, kind_found)
 
--- The forms. Where a part is missing, the answer is a broken item.
-abbrev pub Stops : Bytes → Option Read → Type 0
-Stops s o = (x : Item) → x ≡ broken_item → ReadsEntry s o x
-
-stops : (s : Bytes) (o : Option Read) → o ≡ None → Stops s o
-unfolding broken_item
-stops s o e x b = rw (b, e) (record { is = refl; first = omega arith; second = omega arith })
+-- The forms. Where a part is missing, there is no entry.
+stops : (s : Bytes) (o : Option Read) → o ≡ None → ReadsEntry s o None
+stops s o e = record { is = rw e; within = tt }
 
 -- Each form but one begins with a framed text.
 abbrev behind_it : Bytes → Bytes → Option (Bytes × Bytes)
@@ -149,131 +142,120 @@ module _ (v : Bytes) (f : Bytes → Bytes → Option Read) where
   unfolding framed
   frame_first w s = frame_word (after w s)
 
-module _ (s : Bytes) (at : ℕ) (q : Quoted) where
+module _ (s : Bytes) (at : ℕ) (q : Option (Span × ℕ)) where
   module _ (p : Quotes s (framed (bytes "(prop ") (bytes " ") (drop at s)) q) where
     prop_is : prop_form (drop at s) ≡ (quoted_in s q >>= λ x. kind_word_at x.1 >>= λ k. after (bytes ")\n") k.1 >>= λ r. Some (record { entry = prop x.0 k.0; place = line; rest = r }))
     unfolding prop_form
     prop_is = rw p.is (sym (frame_first (bytes " ") _ (bytes "(prop ") (drop at s)))
 
-    pub prop_1 : q ≡ Quoted.Nothing → Stops s (prop_form (drop at s))
+    pub prop_1 : q ≡ None → ReadsEntry s (prop_form (drop at s)) None
     prop_1 h = stops s _ (rw (prop_is, h))
 
-    module _ (x : Span) (a : ℕ) (e : q ≡ Quoted.Text x a) (r : KindFound) (p₂ : kind_in s r ≡ kind_word_at (drop a s)) where
-      pub prop_2 : r ≡ KindFound.Nothing → Stops s (prop_form (drop at s))
+    module _ (x : Span × ℕ) (e : q ≡ Some x) (r : Option (Kind × ℕ)) (p₂ : kind_in s r ≡ kind_word_at (drop x.1 s)) where
+      pub prop_2 : r ≡ None → ReadsEntry s (prop_form (drop at s)) None
       prop_2 h = stops s _ (rw (prop_is, e, ← p₂, h))
 
-      module _ (k : Kind) (b : ℕ) (e₂ : r ≡ KindFound.At k b) (f : Found) (p₃ : Finds s b (bytes ")\n") f) where
-        pub prop_3 : f ≡ Found.Nothing → Stops s (prop_form (drop at s))
+      module _ (k : Kind × ℕ) (e₂ : r ≡ Some k) (f : Option ℕ) (p₃ : Finds s k.1 (bytes ")\n") f) where
+        pub prop_3 : f ≡ None → ReadsEntry s (prop_form (drop at s)) None
         prop_3 h = stops s _ (rw (prop_is, e, ← p₂, e₂, ← p₃.is, h))
 
-        pub prop_4 : (n : ℕ) → f ≡ Found.At n → ReadsEntry s (prop_form (drop at s)) (record { tag = Tag.Prop; kind = k; first = x; second = x; inner = false; next = n })
+        pub prop_4 : (n : ℕ) → f ≡ Some n → ReadsEntry s (prop_form (drop at s)) (Some (record { tag = Tag.Prop; kind = k.0; first = x.0; second = x.0; inner = false; next = n }))
         prop_4 n h =
-            let l : Within s x = rw e at p.within in
-            record { is = rw (prop_is, e, ← p₂, e₂, ← p₃.is, h); first = l; second = l }
+            let l : Within s x.0 = rw e at p.within in
+            record { is = rw (prop_is, e, ← p₂, e₂, ← p₃.is, h); within = (l, l) }
 
   module _ (p : Quotes s (framed (bytes "(page ") (bytes " ") (drop at s)) q) where
     page_is : page_form (drop at s) ≡ (quoted_in s q >>= λ x. quoted x.1 >>= λ y. Some (record { entry = page x.0 y.0; place = inner; rest = y.1 }))
     unfolding page_form
     page_is = rw p.is (sym (frame_first (bytes " ") _ (bytes "(page ") (drop at s)))
 
-    pub page_1 : q ≡ Quoted.Nothing → Stops s (page_form (drop at s))
+    pub page_1 : q ≡ None → ReadsEntry s (page_form (drop at s)) None
     page_1 h = stops s _ (rw (page_is, h))
 
-    module _ (x : Span) (a : ℕ) (e : q ≡ Quoted.Text x a) (r : Quoted) (p₂ : Quotes s (quoted (drop a s)) r) where
-      pub page_2 : r ≡ Quoted.Nothing → Stops s (page_form (drop at s))
+    module _ (x : Span × ℕ) (e : q ≡ Some x) (r : Option (Span × ℕ)) (p₂ : Quotes s (quoted (drop x.1 s)) r) where
+      pub page_2 : r ≡ None → ReadsEntry s (page_form (drop at s)) None
       page_2 h = stops s _ (rw (page_is, e, ← p₂.is, h))
 
-      pub page_3 : (y : Span) (n : ℕ) → r ≡ Quoted.Text y n → ReadsEntry s (page_form (drop at s)) (record { tag = Tag.Page; kind = Kind.Page; first = x; second = y; inner = true; next = n })
-      page_3 y n h = record { is = rw (page_is, e, ← p₂.is, h); first = rw e at p.within; second = rw h at p₂.within }
+      pub page_3 : (y : Span × ℕ) → r ≡ Some y → ReadsEntry s (page_form (drop at s)) (Some (record { tag = Tag.Page; kind = Kind.Page; first = x.0; second = y.0; inner = true; next = y.1 }))
+      page_3 y h =
+          let l : Within s x.0 = rw e at p.within in
+          let m : Within s y.0 = rw h at p₂.within in
+          record { is = rw (page_is, e, ← p₂.is, h); within = (l, m) }
 
   module _ (p : Quotes s (framed (bytes " (cat ") (bytes ")") (drop at s)) q) where
     cat_is : cat_form (drop at s) ≡ (quoted_in s q >>= λ x. Some (record { entry = cat x.0; place = inner; rest = x.1 }))
     unfolding cat_form
     cat_is = rw p.is (sym (frame_first (bytes ")") _ (bytes " (cat ") (drop at s)))
 
-    pub cat_1 : q ≡ Quoted.Nothing → Stops s (cat_form (drop at s))
+    pub cat_1 : q ≡ None → ReadsEntry s (cat_form (drop at s)) None
     cat_1 h = stops s _ (rw (cat_is, h))
 
-    pub cat_2 : (x : Span) (n : ℕ) → q ≡ Quoted.Text x n → ReadsEntry s (cat_form (drop at s)) (record { tag = Tag.Cat; kind = Kind.Page; first = x; second = x; inner = true; next = n })
-    cat_2 x n h =
-        let l : Within s x = rw h at p.within in
-        record { is = rw (cat_is, h); first = l; second = l }
+    pub cat_2 : (x : Span × ℕ) → q ≡ Some x → ReadsEntry s (cat_form (drop at s)) (Some (record { tag = Tag.Cat; kind = Kind.Page; first = x.0; second = x.0; inner = true; next = x.1 }))
+    cat_2 x h =
+        let l : Within s x.0 = rw h at p.within in
+        record { is = rw (cat_is, h); within = (l, l) }
 
   module _ (p : Quotes s (framed (bytes " (val ") (bytes " ") (drop at s)) q) where
     val_is : val_form (drop at s) ≡ (quoted_in s q >>= λ x. quoted x.1 >>= λ y. after (bytes ")") y.1 >>= λ r. Some (record { entry = val x.0 y.0; place = inner; rest = r }))
     unfolding val_form
     val_is = rw p.is (sym (frame_first (bytes " ") _ (bytes " (val ") (drop at s)))
 
-    pub val_1 : q ≡ Quoted.Nothing → Stops s (val_form (drop at s))
+    pub val_1 : q ≡ None → ReadsEntry s (val_form (drop at s)) None
     val_1 h = stops s _ (rw (val_is, h))
 
-    module _ (x : Span) (a : ℕ) (e : q ≡ Quoted.Text x a) (r : Quoted) (p₂ : Quotes s (quoted (drop a s)) r) where
-      pub val_2 : r ≡ Quoted.Nothing → Stops s (val_form (drop at s))
+    module _ (x : Span × ℕ) (e : q ≡ Some x) (r : Option (Span × ℕ)) (p₂ : Quotes s (quoted (drop x.1 s)) r) where
+      pub val_2 : r ≡ None → ReadsEntry s (val_form (drop at s)) None
       val_2 h = stops s _ (rw (val_is, e, ← p₂.is, h))
 
-      module _ (y : Span) (b : ℕ) (e₂ : r ≡ Quoted.Text y b) (f : Found) (p₃ : Finds s b (bytes ")") f) where
-        pub val_3 : f ≡ Found.Nothing → Stops s (val_form (drop at s))
+      module _ (y : Span × ℕ) (e₂ : r ≡ Some y) (f : Option ℕ) (p₃ : Finds s y.1 (bytes ")") f) where
+        pub val_3 : f ≡ None → ReadsEntry s (val_form (drop at s)) None
         val_3 h = stops s _ (rw (val_is, e, ← p₂.is, e₂, ← p₃.is, h))
 
-        pub val_4 : (n : ℕ) → f ≡ Found.At n → ReadsEntry s (val_form (drop at s)) (record { tag = Tag.Val; kind = Kind.Page; first = x; second = y; inner = true; next = n })
+        pub val_4 : (n : ℕ) → f ≡ Some n → ReadsEntry s (val_form (drop at s)) (Some (record { tag = Tag.Val; kind = Kind.Page; first = x.0; second = y.0; inner = true; next = n }))
         val_4 n h =
-            record { is = rw (val_is, e, ← p₂.is, e₂, ← p₃.is, h); first = rw e at p.within; second = rw e₂ at p₂.within }
+            let l : Within s x.0 = rw e at p.within in
+            let m : Within s y.0 = rw e₂ at p₂.within in
+            record { is = rw (val_is, e, ← p₂.is, e₂, ← p₃.is, h); within = (l, m) }
 
-module _ (s : Bytes) (at : ℕ) (f : Found) (p : Finds s at (bytes ")\n") f) where
-  pub close_1 : f ≡ Found.Nothing → Stops s (closing (drop at s))
+module _ (s : Bytes) (at : ℕ) (f : Option ℕ) (p : Finds s at (bytes ")\n") f) where
+  pub close_1 : f ≡ None → ReadsEntry s (closing (drop at s)) None
   unfolding closing
   close_1 h = stops s (closing (drop at s)) (rw (← p.is, h))
 
-  pub close_2 : (n : ℕ) → f ≡ Found.At n → ReadsEntry s (closing (drop at s)) (record { tag = Tag.Close; kind = Kind.Page; first = nowhere; second = nowhere; inner = false; next = n })
+  pub close_2 : (n : ℕ) → f ≡ Some n → ReadsEntry s (closing (drop at s)) (Some (record { tag = Tag.Close; kind = Kind.Page; first = nowhere; second = nowhere; inner = false; next = n }))
   unfolding closing
-  close_2 n h = record { is = rw (← p.is, h); first = omega arith; second = omega arith }
+  close_2 n h = record { is = rw (← p.is, h); within = (omega arith, omega arith) }
 
 pub ruleset forms = (prop_1, prop_2, prop_3, prop_4, page_1, page_2, page_3, cat_1, cat_2, val_1, val_2, val_3, val_4, close_1, close_2)
 
 -- The next entry: the first form that stands.
-pub is_read : (t : Tag) (r : Read) → is_broken t ≡ false → read_by t r ≡ Some r
-is_read Tag.Prop r e = refl
-is_read Tag.Page r e = refl
-is_read Tag.Cat r e = refl
-is_read Tag.Val r e = refl
-is_read Tag.Close r e = refl
-is_read Tag.Broken r e = absurd (true≢false e)
+module _ (s : Bytes) (a b : Option Read) (r : Option Item) (k : ReadsEntry s a r) where
+  first_stands : (x : Item) → r ≡ Some x → ReadsEntry s (found a Some b) (Some x)
+  first_stands x h = record { is = rw (← k.is, h); within = rw h at k.within }
 
-pub is_none : (t : Tag) (r : Read) → is_broken t ≡ true → read_by t r ≡ None
-is_none Tag.Prop r e = absurd (false≢true e)
-is_none Tag.Page r e = absurd (false≢true e)
-is_none Tag.Cat r e = absurd (false≢true e)
-is_none Tag.Val r e = absurd (false≢true e)
-is_none Tag.Close r e = absurd (false≢true e)
-is_none Tag.Broken r e = refl
-
-module _ (s : Bytes) (a b : Option Read) (x : Item) (k : ReadsEntry s a x) (r : Bool) (p : r ≡ is_broken x.tag) where
-  first_stands : not r ≡ true → ReadsEntry s (found a Some b) x
-  first_stands h = record { is = rw (← k.is, is_read x.tag _ (sym p ∙ not-true r h)); first = k.first; second = k.second }
-
-  first_broken : not r ≡ false → (y : Item) → ReadsEntry s b y → ReadsEntry s (found a Some b) y
-  first_broken h y l = rw (← k.is, is_none x.tag _ (sym p ∙ not-false r h)) l
+  first_none : r ≡ None → (q : Option Item) → ReadsEntry s b q → ReadsEntry s (found a Some b) q
+  first_none h q l = rw (← k.is, h) l
 
 module _ (s : Bytes) (at : ℕ) (t : Bool) where
-  module _ (e : t ≡ true) (x : Item) (k : ReadsEntry s (cat_form (drop at s)) x) (r : Bool) (p : r ≡ is_broken x.tag) where
-    pub next_cat : not r ≡ true → ReadsEntry s (next_entry (place_of t) (drop at s)) x
+  module _ (e : t ≡ true) (x : Option Item) (k : ReadsEntry s (cat_form (drop at s)) x) where
+    pub next_cat : (i : Item) → x ≡ Some i → ReadsEntry s (next_entry (place_of t) (drop at s)) (Some i)
     unfolding next_entry
-    next_cat h = rw e (first_stands s _ _ x k r p h)
+    next_cat i h = rw e (first_stands s _ _ x k i h)
 
-    module _ (l : not r ≡ false) (y : Item) (k₂ : ReadsEntry s (val_form (drop at s)) y) (q : Bool) (p₂ : q ≡ is_broken y.tag) where
-      pub next_val : not q ≡ true → ReadsEntry s (next_entry (place_of t) (drop at s)) y
+    module _ (l : x ≡ None) (y : Option Item) (k₂ : ReadsEntry s (val_form (drop at s)) y) where
+      pub next_val : (i : Item) → y ≡ Some i → ReadsEntry s (next_entry (place_of t) (drop at s)) (Some i)
       unfolding next_entry
-      next_val h = rw e (first_broken s _ _ x k r p l y (first_stands s _ _ y k₂ q p₂ h))
+      next_val i h = rw e (first_none s _ _ x k l _ (first_stands s _ _ y k₂ i h))
 
-      pub next_close : not q ≡ false → (z : Item) → ReadsEntry s (closing (drop at s)) z → ReadsEntry s (next_entry (place_of t) (drop at s)) z
+      pub next_close : y ≡ None → (z : Option Item) → ReadsEntry s (closing (drop at s)) z → ReadsEntry s (next_entry (place_of t) (drop at s)) z
       unfolding next_entry
-      next_close h z k₃ = rw e (first_broken s _ _ x k r p l z (first_broken s _ _ y k₂ q p₂ h z k₃))
+      next_close h z k₃ = rw e (first_none s _ _ x k l z (first_none s _ _ y k₂ h z k₃))
 
-  module _ (e : t ≡ false) (x : Item) (k : ReadsEntry s (prop_form (drop at s)) x) (r : Bool) (p : r ≡ is_broken x.tag) where
-    pub next_prop : not r ≡ true → ReadsEntry s (next_entry (place_of t) (drop at s)) x
+  module _ (e : t ≡ false) (x : Option Item) (k : ReadsEntry s (prop_form (drop at s)) x) where
+    pub next_prop : (i : Item) → x ≡ Some i → ReadsEntry s (next_entry (place_of t) (drop at s)) (Some i)
     unfolding next_entry
-    next_prop h = rw e (first_stands s _ _ x k r p h)
+    next_prop i h = rw e (first_stands s _ _ x k i h)
 
-    pub next_page : not r ≡ false → (y : Item) → ReadsEntry s (page_form (drop at s)) y → ReadsEntry s (next_entry (place_of t) (drop at s)) y
+    pub next_page : x ≡ None → (y : Option Item) → ReadsEntry s (page_form (drop at s)) y → ReadsEntry s (next_entry (place_of t) (drop at s)) y
     unfolding next_entry
-    next_page h y l = rw e (first_broken s _ _ x k r p h y l)
+    next_page h y l = rw e (first_none s _ _ x k h y l)

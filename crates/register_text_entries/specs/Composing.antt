@@ -22,7 +22,6 @@ has_first Tag.Page = true
 has_first Tag.Cat = true
 has_first Tag.Val = true
 has_first Tag.Close = false
-has_first Tag.Broken = false
 
 abbrev pub has_second : Tag → Bool
 has_second Tag.Prop = false
@@ -30,7 +29,6 @@ has_second Tag.Page = true
 has_second Tag.Cat = false
 has_second Tag.Val = true
 has_second Tag.Close = false
-has_second Tag.Broken = false
 
 -- An entry that declares something has `" "` behind its first part, as in a register text.
 abbrev pub has_gap : Tag → Bool
@@ -39,7 +37,6 @@ has_gap Tag.Page = true
 has_gap Tag.Cat = false
 has_gap Tag.Val = false
 has_gap Tag.Close = false
-has_gap Tag.Broken = false
 
 abbrev pub gap : Tag → Bytes
 gap t = cond (has_gap t) (bytes "\" \"") []
@@ -51,7 +48,6 @@ is_named Tag.Page = true
 is_named Tag.Cat = false
 is_named Tag.Val = false
 is_named Tag.Close = false
-is_named Tag.Broken = false
 
 abbrev pub name_or : Tag → Bytes → Bytes
 name_or t b = cond (is_named t) (composed_name b) b
@@ -84,7 +80,6 @@ broken_by Tag.Page n m a b = not ((eqb (length a) 0 || ltb 0 n) && ltb 0 m)
 broken_by Tag.Cat n m a b = not (ltb 0 n)
 broken_by Tag.Val n m a b = not (ltb 0 n && all (is_other 46) a && is_value b)
 broken_by Tag.Close n m a b = false
-broken_by Tag.Broken n m a b = false
 
 -- What writing the second part of an entry to a place answers; c is the copy before, d behind it.
 pub record SecondPut (t : Tag) (b c : Bytes) (at : ℕ) (d : Bytes) (r : ℕ) : Type 0 where

@@ -1,6 +1,6 @@
 -- Working definitions: the entries of a text as rows of a table, five numbers a row: a code, and the start and length of two
 -- parts of the text.
-use Rattle.std.specs.Prelude.{ℕ, ◌+◌, ◌-◌, ◌*◌, ◌%◌, ◌≤◌, ◌≡◌, true, false, cond, List, [], ◌∷◌, map, eqb, length, get_or, Option, Some, None}
+use Rattle.std.specs.Prelude.{ℕ, ◌+◌, ◌-◌, ◌*◌, ◌%◌, ◌≤◌, ◌≡◌, cond, List, [], ◌∷◌, map, eqb, length, get_or, Option, Some, None}
 use Rattle.std.proofs.lemmas.List.Edits.{sets}
 use Rattle.text.specs.Bytes.{Bytes, part}
 use Rattle.text.specs.Table.{tabulate}
@@ -10,7 +10,6 @@ use Rattle.language.specs.RegisterText.{Entry, entries}
 use Rattle.register_text_entries.specs.Items.{entry_by}
 use Rattle.register_text_entries.specs.declared.Tag.{Tag}
 use Rattle.register_text_entries.specs.declared.Item.{Item}
-use Rattle.register_text_entries.specs.declared.Rows.{Rows}
 
 -- The code of an entry: 0 a page, 1 a cat form, 2 a val form, 3 the end of a page, from 4 on a property of one of the kinds.
 abbrev pub entry_code : Tag → Kind → ℕ
@@ -18,7 +17,6 @@ entry_code Tag.Page k = 0
 entry_code Tag.Cat k = 1
 entry_code Tag.Val k = 2
 entry_code Tag.Close k = 3
-entry_code Tag.Broken k = 3
 entry_code Tag.Prop k = 4 + kind_code k
 
 unfoldable pub tag_from : ℕ → Tag
@@ -50,10 +48,10 @@ row i =
 unfoldable pub with_row : List ℕ → ℕ → Item → List ℕ
 with_row t n i = sets t (5 * n) (row i)
 
--- What reading a whole text answers.
-abbrev pub rows_of : Option (List Entry) → Rows
-rows_of None = record { ok = false; count = 0 }
-rows_of (Some l) = record { ok = true; count = length l }
+-- What reading a whole text answers: how many entries it has.
+abbrev pub rows_of : Option (List Entry) → Option ℕ
+rows_of None = None
+rows_of (Some l) = Some (length l)
 
 -- The table holds the entries, where the text is short and there is room for them.
 abbrev pub HoldsEntries : Bytes → List ℕ → Option (List Entry) → Type 0
@@ -61,7 +59,7 @@ HoldsEntries s t None = Unit {0}
 HoldsEntries s t (Some l) = length s ≤ 65535 → 5 * length l ≤ length t → entries_in s t (length l) ≡ l
 
 -- What reading a whole text does: t is the table as it was, u as it is then.
-pub record Filled (s : Bytes) (t u : List ℕ) (r : Rows) : Type 0 where
+pub record Filled (s : Bytes) (t u : List ℕ) (r : Option ℕ) : Type 0 where
   pub is : r ≡ rows_of (entries s)
   pub rows : HoldsEntries s u (entries s)
   pub size : length u ≡ length t

@@ -25,55 +25,27 @@ pub struct Copied {
 fn has_first(tag: Tag) -> bool
     ensures { result ≡ has_first tag }
 {
-    match tag {
-        Tag::Prop => true,
-        Tag::Page => true,
-        Tag::Cat => true,
-        Tag::Val => true,
-        Tag::Close => false,
-        Tag::Broken => false,
-    }
+    tag != Tag::Close
 }
 
 fn has_second(tag: Tag) -> bool
     ensures { result ≡ has_second tag }
 {
-    match tag {
-        Tag::Prop => false,
-        Tag::Page => true,
-        Tag::Cat => false,
-        Tag::Val => true,
-        Tag::Close => false,
-        Tag::Broken => false,
-    }
+    matches!(tag, Tag::Page | Tag::Val)
 }
 
 // Whether an entry declares something: then `" "` stands behind its first part, as in a register text.
 fn has_gap(tag: Tag) -> bool
     ensures { result ≡ has_gap tag }
 {
-    match tag {
-        Tag::Prop => true,
-        Tag::Page => true,
-        Tag::Cat => false,
-        Tag::Val => false,
-        Tag::Close => false,
-        Tag::Broken => false,
-    }
+    matches!(tag, Tag::Prop | Tag::Page)
 }
 
 // Whether the second part of an entry is a name.
 fn is_named(tag: Tag) -> bool
     ensures { result ≡ is_named tag }
 {
-    match tag {
-        Tag::Prop => false,
-        Tag::Page => true,
-        Tag::Cat => false,
-        Tag::Val => false,
-        Tag::Close => false,
-        Tag::Broken => false,
-    }
+    tag == Tag::Page
 }
 
 // A part that an entry has, or an empty one.
@@ -108,7 +80,6 @@ fn is_broken(tag: Tag, n: usize, m: usize, a: &[u8], b: &[u8]) -> bool
         Tag::Cat => !(0 < n),
         Tag::Val => !((0 < n) & all_in(a, Class::NoDot) & is_value(b)),
         Tag::Close => false,
-        Tag::Broken => false,
     }
 }
 
@@ -167,14 +138,12 @@ pub fn compose(s: &[u8], t: &[u16], n: usize, copy: &mut [u8], u: &mut [u16]) ->
     let table = Table::new();
     let mut broken = false;
     let mut end: u16 = 0;
-    let mut i: usize = 0;
-    while i < n {
+    for i in 0..n {
         let copied = copy_entry(&table, s, item_at(t, i), copy, end);
         let item = copied.item;
         put_item(u, i, item);
         end = narrow(item.next);
         broken = broken | copied.broken;
-        i += 1;
     }
     broken
 }

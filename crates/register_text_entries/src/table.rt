@@ -26,7 +26,6 @@ pub fn code_of(tag: Tag, kind: Kind) -> usize
         Tag::Cat => 1,
         Tag::Val => 2,
         Tag::Close => 3,
-        Tag::Broken => 3,
         Tag::Prop => 4 + usize::from(kind_code(kind)),
     }
 }

@@ -5,20 +5,20 @@ use Rattle.register_text_entries.proofs.read_all.Goals as goal
 pub loop-inner-init : goal.loop-inner-init
 loop-inner-init c = going_start _ _
 
-pub shape_of-t-then-is_broken : goal.shape_of-t-then-is_broken
-shape_of-t-then-is_broken c = c.loop-inner.invariant.size
+pub shape_of-t-in_err-item : goal.shape_of-t-in_err-item
+shape_of-t-in_err-item c = c.loop-inner.invariant.size
 
-pub returns-then-is_broken : goal.returns-then-is_broken
-returns-then-is_broken c = search goings
+pub returns-in_err-item : goal.returns-in_err-item
+returns-in_err-item c = let gone = c.in_err-item.was in rw c.from_residual.ensures (search goings)
 
 pub overflow_add-n : goal.overflow_add-n
 overflow_add-n c = omega arith
 
 pub loop-inner-smaller : goal.loop-inner-smaller
-loop-inner-smaller c = search goings
+loop-inner-smaller c = let a = c.in_ok-item.was in search goings
 
 pub loop-inner-preserved : goal.loop-inner-preserved
-loop-inner-preserved c = search goings
+loop-inner-preserved c = let a = c.in_ok-item.was in search goings
 
 pub shape_of-t : goal.shape_of-t
 shape_of-t c = c.loop-inner.invariant.size

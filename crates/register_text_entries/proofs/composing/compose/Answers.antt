@@ -1,32 +1,18 @@
 use native.Mathlib.Omega.{arith}
-use borrow.Author.Rules.{rules}
-use Rattle.register_text_entries.proofs.Copying.{going, going_more}
+use Rattle.register_text_entries.proofs.Copying.{going_none, going_more, going_done}
 use Rattle.register_text_entries.proofs.composing.compose.Goals as goal
 
--- src/composing.rt:203:5
 pub loop-i-init : goal.loop-i-init
-loop-i-init c = search (going, rules)
+loop-i-init c = going_none _ _ _ _
 
--- src/composing.rt:209:9
-pub overflow_add-i : goal.overflow_add-i
-overflow_add-i c = omega (arith, c.loop-i-test.true, c.ranges)
-
--- src/composing.rt:203:5
-pub loop-i-smaller : goal.loop-i-smaller
-loop-i-smaller c = search (going, rules)
-
--- src/composing.rt:203:5
 pub loop-i-preserved : goal.loop-i-preserved
-loop-i-preserved c = (omega (arith, c.loop-i-test.true), going_more _ _ _ _ _ _ _ _ _ c.loop-i.invariant.1 _ _ _ _ _ c.item_at.ensures c.copy_entry-copied.ensures c.put_item.ensures c.narrow-end.ensures)
+loop-i-preserved c = going_more _ _ _ _ _ _ _ _ _ c.loop-i.invariant _ _ _ _ _ c.item_at.ensures c.copy_entry-copied.ensures c.put_item.ensures c.narrow-end.ensures
 
--- src/composing.rt:193:1
 pub shape_of-copy : goal.shape_of-copy
-shape_of-copy c = search (going, rules)
+shape_of-copy c = c.loop-i.invariant.bytes
 
--- src/composing.rt:193:1
 pub shape_of-u : goal.shape_of-u
-shape_of-u c = search (going, rules)
+shape_of-u c = c.loop-i.invariant.size
 
--- src/composing.rt:193:1
 pub returns : goal.returns
-returns c = search (going, rules)
+returns c = going_done _ _ _ _ _ _ _ _ _ c.loop-i.invariant _ (omega arith) (omega (arith, c.loop-i-test.false))

@@ -1,14 +1,8 @@
-use Rattle.register_text_entries.proofs.Ways.{forms}
+use Rattle.register_text_entries.proofs.Ways.{forms, cat_2}
 use Rattle.register_text_entries.proofs.forms.cat_form.Goals as goal
 
--- lost: slice-aggregate-framed-at : tie.Need-slice-aggregate-framed-at
--- slice-aggregate-framed-at c = search rules
-
--- lost: slice-aggregate-framed-at-2 : tie.Need-slice-aggregate-framed-at-2
--- slice-aggregate-framed-at-2 c = search rules
-
-pub returns-in_default : goal.returns-in_default
-returns-in_default c = search forms
+pub returns-in_err-first : goal.returns-in_err-first
+returns-in_err-first c = let gone = c.in_err-first.was in rw c.from_residual.ensures (search forms)
 
 pub returns : goal.returns
-returns c = search forms
+returns c = cat_2 _ _ _ c.framed_at.ensures _ c.in_ok-first.was

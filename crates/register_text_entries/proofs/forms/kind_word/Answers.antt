@@ -2,11 +2,11 @@ use native.Mathlib.Omega.{arith}
 use Rattle.register_text_entries.proofs.Ways.{kinds, kind_fits}
 use Rattle.register_text_entries.proofs.forms.kind_word.Goals as goal
 
-pub returns-in_default : goal.returns-in_default
-returns-in_default c = search kinds
+pub returns-in_err-kind : goal.returns-in_err-kind
+returns-in_err-kind c = let gone = c.in_err-kind.was in rw c.from_residual.ensures (search kinds)
 
 pub overflow_add-result : goal.overflow_add-result
-overflow_add-result c = omega (arith, kind_fits _ c.args.at _ c.kind_at.ensures _ c.in-Kind.is)
+overflow_add-result c = omega (arith, kind_fits _ c.args.at _ c.kind_at.ensures _ c.in_ok-kind.was)
 
 pub returns : goal.returns
-returns c = search kinds
+returns c = let a = c.in_ok-kind.was in search kinds

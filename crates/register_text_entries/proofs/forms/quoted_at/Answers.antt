@@ -1,17 +1,11 @@
 use Rattle.register_text_entries.proofs.Ways.{quotes}
 use Rattle.register_text_entries.proofs.forms.quoted_at.Goals as goal
 
--- lost: slice-aggregate-after-word : tie.Need-slice-aggregate-after-word
--- slice-aggregate-after-word c = search rules
+pub returns-in_err-start : goal.returns-in_err-start
+returns-in_err-start c = let gone = c.in_err-start.was in rw c.from_residual.ensures (search quotes)
 
--- lost: slice-aggregate-after-word-2 : tie.Need-slice-aggregate-after-word-2
--- slice-aggregate-after-word-2 c = search rules
-
-pub returns-in_default : goal.returns-in_default
-returns-in_default c = search quotes
-
-pub returns-in_default-after_word : goal.returns-in_default-after_word
-returns-in_default-after_word c = search quotes
+pub returns-in_err-next : goal.returns-in_err-next
+returns-in_err-next c = let a = c.in_ok-start.was in let gone = c.in_err-next.was in rw c.from_residual-in_err-next.ensures (search quotes)
 
 pub returns : goal.returns
-returns c = search quotes
+returns c = let a = c.in_ok-start.was in let b = c.in_ok-next.was in search quotes

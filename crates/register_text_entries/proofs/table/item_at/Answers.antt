@@ -8,4 +8,4 @@ returns-then-t-i c s = c.item_from.ensures s ∙ row_past _ _ s c.if-t-i.true
 
 pub returns : goal.returns
 unfolding entry_at
-returns c s = c.item_from-2.ensures s ∙ rw (c.get_or.ensures, c.get_or-2.ensures, c.get_or-3.ensures, c.get_or-4.ensures, c.get_or-5.ensures)
+returns c s = c.item_from-2.ensures s ∙ rw (c.from.ensures, c.from-2.ensures, c.from-3.ensures, c.from-4.ensures, c.from-5.ensures, c.get_or.ensures, c.get_or-2.ensures, c.get_or-3.ensures, c.get_or-4.ensures, c.get_or-5.ensures)
