@@ -10,7 +10,7 @@ use lib.ListN.{length}
 use borrow.Author.Tests.{eq-eqb, ne_eqb}
 use Rattle.text.specs.Bytes.{Bytes, starts}
 use Rattle.text.specs.Table.{bit}
-use Rattle.values.specs.Values.{map_option, kind_word, scalar_code, kind_code, kind_count, kind_from, same_scalar, read_number, read_boolean, biased, read_scalar, above, in_range}
+use Rattle.values.specs.Values.{map_option, kind_word, scalar_code, kind_code, kind_count, kind_from, read_number, read_boolean, biased, read_scalar, above, in_range}
 use Rattle.values.specs.Spelling.{spell_number, spell_boolean, number_from, spell_scalar}
 use Rattle.values.specs.Answers.{first_kind, kind_at}
 use Rattle.values.specs.declared.Kind.{Kind}
@@ -102,9 +102,6 @@ byte_string b m n h = rw (ne_eqb b 0 m, ne_eqb b 1 n, ne_eqb b 2 h)
 pub code_scalar : (k : Kind) (j : Scalar) (x : ℕ) → k ≡ Kind.Scalar j → x ≡ scalar_code j → x ≡ kind_code k
 code_scalar k j x e f = rw e f
 
-pub same_scalars : (a b : Scalar) (x y : ℕ) → x ≡ scalar_code a → y ≡ scalar_code b → eqb x y ≡ same_scalar a b
-same_scalars a b x y e f = rw (e, f)
-
 module _ (k : Scalar) where
   module _ (s : Bytes) (r : Option ℕ) where
     pub read_number_lem : k ≡ Scalar.Number → r ≡ (map_option biased (read_number s)) → r ≡ (read_scalar k s)
@@ -120,6 +117,6 @@ module _ (k : Scalar) where
     pub length_boolean : (r : ℕ) → k ≡ Scalar.Boolean → r ≡ length (spell_boolean (eqb c 1)) → r ≡ length (spell_scalar k c)
     length_boolean r e f = rw e f
 
-pub ruleset bytes_of = (code_scalar, same_scalars, byte_page, byte_number, byte_boolean, byte_string)
+pub ruleset bytes_of = (code_scalar, byte_page, byte_number, byte_boolean, byte_string)
 
 pub ruleset by_scalar = (read_number_lem, read_boolean_lem, length_number, length_boolean)

@@ -15,7 +15,9 @@ use Rattle.text.specs.Table.{bit}
 use Rattle.text.specs.Class.{is_value_byte, is_other}
 use Rattle.text.specs.Parts.{part_of, Trimmed}
 use Rattle.text.specs.declared.Span.{Span}
-use Rattle.text.proofs.Laws.{same_unlike, same_end, same_other, same_step, any_three}
+use Rattle.text.proofs.Laws.{same_eq, same_refl, same_unlike, any_three}
+use Rattle.std.specs.Bool.{Decides}
+use Rattle.std.proofs.lemmas.Bool.Decides.{same_from_decides}
 use Rattle.names.specs.Names.{is_sized, first, last, is_name, is_namespace}
 use Rattle.values.specs.Names.{is_value, is_reference, reference}
 use Rattle.values.specs.Values.{lower, read_boolean, read_scalar, read_link, read_value, map_option, plain, link, scalar, string, kind_of_constant, kind_of, Constant, Value}
@@ -70,20 +72,9 @@ module _ (s x : Bytes) (r : Split) (n : Bool) (p : Splits s r) (e : x ≡ part_o
   pub reference_bare : r.qualified ≡ false → n ≡ is_reference (reference s)
   reference_bare h = rw (← p.is, h, f, e)
 
--- A byte of a word, letters small.
-module _ (s w : Bytes) (e : length s ≡ length w) (i : ℕ) where
-  pub word_end : length s ≤ i → same (drop i (map lower s)) (drop i w) ≡ true
-  word_end h = same_end (map lower s) w i (rw (length-map s lower) h) (omega arith)
-
-  module _ (x : ℕ) (h : i < length s) (q : x ≡ lower (get_or s i 0)) where
-    byte : get_or (map lower s) i 0 ≡ x
-    byte = get_or-map lower s i 0 ∙ sym q
-
-    pub word_other : (x ≡ get_or w i 0 → ⊥) → same (drop i (map lower s)) (drop i w) ≡ false
-    word_other n = same_other (map lower s) w i (rw (length-map s lower) h) (omega arith) (λ k. n (sym byte ∙ k))
-
-    pub word_step : x ≡ get_or w i 0 → same (drop i (map lower s)) (drop i w) ≡ same (drop (i + 1) (map lower s)) (drop (i + 1) w)
-    word_step k = same_step (map lower s) w i (rw (length-map s lower) h) (omega arith) (byte ∙ k)
+-- Whether bytes, letters small, are a word.
+pub word_told : (s w : Bytes) (r : Bool) → Decides r (map lower s ≡ w) → r ≡ same (map lower s) w
+word_told s w r h = same_from_decides r (same (map lower s) w) h (same_eq (map lower s) w, λ e. rw e (same_refl w))
 
 pub word_unlike : (s w : Bytes) → (length s ≡ length w → ⊥) → same (map lower s) w ≡ false
 word_unlike s w n = same_unlike (map lower s) w (λ e. n (sym (length-map s lower) ∙ e))

@@ -39,9 +39,6 @@ same_coded Kind.String Kind.Page = refl
 same_coded Kind.String (Kind.Scalar k) = ne_eqb _ _ (λ e. (codes_apart k).1 (sym e))
 same_coded Kind.String Kind.String = refl
 
-pub same_codes : (a b : Kind) (x y : ℕ) → x ≡ kind_code a → y ≡ kind_code b → eqb x y ≡ same_kind a b
-same_codes a b x y e f = rw (e, f) (same_coded a b)
-
 pub kind_eq : (a b : Kind) → same_kind a b ≡ true → a ≡ b
 kind_eq a b h = sym (kind_coded a) ∙ ap kind_from (eqb-true (kind_code a) (kind_code b) (same_coded a b ∙ h)) ∙ kind_coded b
 

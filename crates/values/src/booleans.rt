@@ -5,40 +5,29 @@ ghost use Rattle.text.specs.Table.{bit};
 ghost use Rattle.values.specs.Values.{map_option, lower, read_boolean};
 ghost use Rattle.values.specs.Spelling.{spell_boolean};
 
-// An ASCII letter in its small form; any other byte as it is.
-fn lower_of(b: u8) -> u8
-    ensures { result ≡ lower b }
-{
-    if (65 <= b) & (b <= 90) { b + 32 } else { b }
-}
-
 // Whether the bytes, their letters small, are the word.
 fn is_word(s: &[u8], w: &[u8]) -> bool
     ensures { result ≡ same (map lower s.now) w.now }
 {
-    if s.len() != w.len() {
-        return false;
-    }
-    let mut i: usize = 0;
-    while i < s.len() {
-        if lower_of(s[i]) != w[i] {
-            return false;
-        }
-        i += 1;
-    }
-    true
+    (s.len() == w.len())
+        && s.iter()
+            .map(|b| b.to_ascii_lowercase())
+            .zip(w.iter())
+            .all(|(a, &b)| a == b)
 }
 
 // The boolean that the bytes write: 1 for true, 0 for false.
 pub fn read_boolean(s: &[u8]) -> Option<u64>
     ensures { result ≡ map_option bit (read_boolean s.now) }
 {
-    let yes = is_word(s, b"true") | is_word(s, b"yes") | is_word(s, b"1");
-    if yes {
+    if is_word(s, b"true") | is_word(s, b"yes") | is_word(s, b"1") {
         return Some(1);
     }
-    let no = is_word(s, b"false") | is_word(s, b"no") | is_word(s, b"0");
-    if no { Some(0) } else { None }
+    if is_word(s, b"false") | is_word(s, b"no") | is_word(s, b"0") {
+        Some(0)
+    } else {
+        None
+    }
 }
 
 // How long `true` or `false` is; any code but 1 is that of `false`.

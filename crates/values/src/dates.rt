@@ -18,16 +18,11 @@ fn is_leap_year(y: u64) -> bool
 fn days_in(y: u64, m: u64) -> u64
     ensures { result ≡ days_in y m }
 {
-    if m == 2 {
-        if is_leap_year(y) {
-            return 29;
-        }
-        return 28;
-    }
-    if (m == 4) | (m == 6) | (m == 9) | (m == 11) {
-        30
-    } else {
-        31
+    match m {
+        2 if is_leap_year(y) => 29,
+        2 => 28,
+        4 | 6 | 9 | 11 => 30,
+        _ => 31,
     }
 }
 
@@ -63,7 +58,7 @@ fn real_day(year: &[u8], month: &[u8], day: &[u8]) -> Option<u64>
 pub fn read_date(s: &[u8]) -> Option<u64>
     ensures { result ≡ map_option date_code (read_date s.now) }
 {
-    if (s.len() == 10) & (get_or(s, 4, 0) == 45) & (get_or(s, 7, 0) == 45) {
+    if (s.len() == 10) & (get_or(s, 4, 0) == b'-') & (get_or(s, 7, 0) == b'-') {
         real_day(part(s, 0, 4), part(s, 5, 2), part(s, 8, 2))
     } else {
         None

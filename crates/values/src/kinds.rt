@@ -25,11 +25,7 @@ pub fn kind_at(s: &[u8], at: usize) -> Option<Kind>
     if word_at(s, at, b"boolean") {
         return Some(Kind::Scalar(Scalar::Boolean));
     }
-    if word_at(s, at, b"string") {
-        Some(Kind::String)
-    } else {
-        None
-    }
+    word_at(s, at, b"string").then_some(Kind::String)
 }
 
 // How long the word of a kind is.
@@ -38,10 +34,8 @@ pub fn word_length(k: Kind) -> usize
 {
     match k {
         Kind::Page => 4,
-        Kind::Scalar(s) => match s {
-            Scalar::Number => 6,
-            Scalar::Boolean => 7,
-        },
+        Kind::Scalar(Scalar::Number) => 6,
+        Kind::Scalar(Scalar::Boolean) => 7,
         Kind::String => 6,
     }
 }
@@ -70,16 +64,11 @@ pub fn kind_code(k: Kind) -> u8
 pub fn kind_from(b: u8) -> Kind
     ensures { result ≡ kind_from b }
 {
-    if b == 0 {
-        return Kind::Page;
-    }
-    if b == 1 {
-        return Kind::Scalar(Scalar::Number);
-    }
-    if b == 2 {
-        Kind::Scalar(Scalar::Boolean)
-    } else {
-        Kind::String
+    match b {
+        0 => Kind::Page,
+        1 => Kind::Scalar(Scalar::Number),
+        2 => Kind::Scalar(Scalar::Boolean),
+        _ => Kind::String,
     }
 }
 
@@ -87,14 +76,14 @@ pub fn kind_from(b: u8) -> Kind
 pub fn same_scalar(a: Scalar, b: Scalar) -> bool
     ensures { result ≡ same_scalar a b }
 {
-    scalar_code(a) == scalar_code(b)
+    a == b
 }
 
 // Whether two kinds are one.
 pub fn same_kind(a: Kind, b: Kind) -> bool
     ensures { result ≡ same_kind a b }
 {
-    kind_code(a) == kind_code(b)
+    a == b
 }
 
 // The code of the value that the bytes write in a scalar kind.

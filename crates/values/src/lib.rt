@@ -22,7 +22,7 @@ use tables::get_or;
 use text::{Class, Span, all_in, in_class, part, scan, trimmed};
 
 // The kinds of a property's values.
-#[derive(Clone, Copy)]
+#[derive(Clone, Copy, Debug, PartialEq, Eq)]
 pub enum Kind {
     Page,
     Scalar(Scalar),
@@ -30,7 +30,7 @@ pub enum Kind {
 }
 
 // The kinds whose values are numbers of an order of their own: each value has a code.
-#[derive(Clone, Copy)]
+#[derive(Clone, Copy, Debug, PartialEq, Eq)]
 pub enum Scalar {
     Number,
     Boolean,
@@ -72,7 +72,7 @@ fn has_bare_ends(s: &[u8]) -> bool
 pub fn is_value(s: &[u8]) -> bool
     ensures { result ≡ is_value s.now }
 {
-    is_sized(s) & all_in(s, Class::Value) & (get_or(s, 0, 0) != 126) & has_bare_ends(s)
+    is_sized(s) & all_in(s, Class::Value) & (get_or(s, 0, 0) != b'~') & has_bare_ends(s)
 }
 
 // Where the two sides of a reference lie, split at the first colon and trimmed.

@@ -6,11 +6,14 @@ ghost use Rattle.values.specs.Spelling.{digits, spell_fraction, spell_thousandth
 use tables::get_or;
 use text::{Class, all_in, part, scan};
 
+// What is added to a number of thousandths in its code.
+const NUMBER_BASE: u64 = 1_000_000_000_000_000_000;
+
 // What a decimal digit counts.
 fn digit_of(b: u8) -> u64
     ensures { result ≡ b - 48 }
 {
-    if b < 48 { 0 } else { (b - 48) as u64 }
+    u64::from(b.saturating_sub(b'0'))
 }
 
 // The number that 1 to 15 decimal digits write, as it is.
@@ -22,10 +25,8 @@ pub fn read_digits(s: &[u8]) -> Option<u64>
         return None;
     }
     let mut n: u64 = 0;
-    let mut i: usize = 0;
-    while i < s.len() {
-        n = 10 * n + digit_of(get_or(s, i, 0));
-        i += 1;
+    for &b in s {
+        n = 10 * n + digit_of(b);
     }
     Some(n)
 }
@@ -34,13 +35,12 @@ pub fn read_digits(s: &[u8]) -> Option<u64>
 fn last_counts(k: usize) -> u64
     ensures { result ≡ 10 ^ (3 - k) }
 {
-    if k == 0 {
-        return 1000;
+    match k {
+        0 => 1000,
+        1 => 100,
+        2 => 10,
+        _ => 1,
     }
-    if k == 1 {
-        return 100;
-    }
-    if k == 2 { 10 } else { 1 }
 }
 
 // The thousandths that a point and 1 to 3 digits write; nothing writes none.
@@ -51,7 +51,7 @@ fn read_fraction(s: &[u8]) -> Option<u64>
         return Some(0);
     }
     let digits = part(s, 1, s.len());
-    if (get_or(s, 0, 0) != 46) | (3 < digits.len()) {
+    if (get_or(s, 0, 0) != b'.') | (3 < digits.len()) {
         return None;
     }
     let n = read_digits(digits)?;
@@ -74,23 +74,22 @@ pub fn read_number(s: &[u8]) -> Option<u64>
 {
     if get_or(s, 0, 0) == b'-' {
         let n = read_thousandths(part(s, 1, s.len()))?;
-        return Some(1_000_000_000_000_000_000 - n);
+        return Some(NUMBER_BASE - n);
     }
     let n = read_thousandths(s)?;
-    Some(1_000_000_000_000_000_000 + n)
+    Some(NUMBER_BASE + n)
 }
 
 // How many decimal digits a number below 10,000 has; 4 for any other.
 fn few_digits(n: u64) -> usize
     ensures { n < 10000 → result ≡ length (digits n) }
 {
-    if n < 10 {
-        return 1;
+    match n {
+        0..=9 => 1,
+        10..=99 => 2,
+        100..=999 => 3,
+        _ => 4,
     }
-    if n < 100 {
-        return 2;
-    }
-    if n < 1000 { 3 } else { 4 }
 }
 
 // How many decimal digits a number has. Four are taken off at a time.
@@ -130,8 +129,8 @@ fn thousandths_length(n: u64) -> usize
 pub fn number_length(c: u64) -> usize
     ensures { result ≡ length (spell_number (number_from c)) }
 {
-    if c < 1_000_000_000_000_000_000 {
-        return 1 + thousandths_length(1_000_000_000_000_000_000 - c);
+    if c < NUMBER_BASE {
+        return 1 + thousandths_length(NUMBER_BASE - c);
     }
-    thousandths_length(c - 1_000_000_000_000_000_000)
+    thousandths_length(c - NUMBER_BASE)
 }

@@ -19,10 +19,8 @@ fn ruled_out<'a>(rules: &'a [u8], s: &'a [u8]) -> u8
     ensures { RuledOut rules.now s.now result }
 {
     let mut out: u8 = 0;
-    let mut i: usize = 0;
-    while i < s.len() {
-        out = out | get_or(rules, usize::from(s[i]), 0);
-        i += 1;
+    for &b in s {
+        out |= get_or(rules, usize::from(b), 0);
     }
     out % 16
 }
@@ -37,7 +35,7 @@ pub fn name_class<'a>(rules: &'a [u8], s: &'a [u8]) -> u16
     }
     let first = get_or(s, 0, 0);
     let out = ruled_out(rules, s);
-    let begun = !((first == 33) | (first == 126) | (first == 43));
+    let begun = !((first == b'!') | (first == b'~') | (first == b'+'));
     if begun & (out < 1) {
         return 2;
     }
@@ -47,5 +45,5 @@ pub fn name_class<'a>(rules: &'a [u8], s: &'a [u8]) -> u16
         }
         return 1;
     }
-    if (out < 4) & (first != 126) { 1 } else { 0 }
+    if (out < 4) & (first != b'~') { 1 } else { 0 }
 }

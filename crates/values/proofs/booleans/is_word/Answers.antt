@@ -1,18 +1,22 @@
-use mathlib.Core.Path.{refl, sym, ◌∙◌}
-use Rattle.values.proofs.Laws.{word_unlike, word_other, word_step, word_end}
+use mathlib.Core.Path.{◌∙◌}
+use mathlib.Core.List.{map}
+use lib.ListN.{length-map}
+use borrow.Author.Rules.{rules}
+use borrow.Author.Tests.{tests, ne_eqb}
+use Rattle.std.proofs.lemmas.Iterator.Consumers.{YieldsList-at}
+use Rattle.std.proofs.lemmas.Iterator.{YieldsList-from_slice, YieldsList-from_map, YieldsList-from_zip, same_from_all}
+use Rattle.values.specs.Values.{lower}
+use Rattle.values.proofs.Laws.{word_told, word_unlike}
 use Rattle.values.proofs.booleans.is_word.Goals as goal
 
 pub returns-then-s-w : goal.returns-then-s-w
-returns-then-s-w c = sym (word_unlike c.args.s.now c.args.w.now c.if-s-w.true)
+returns-then-s-w c =
+    word_told _ _ _
+    (same_from_all c.all.new.self _ _ (map lower c.args.s.now) c.args.w.now c.all.ensures.ran
+    (YieldsList-from_zip
+    (YieldsList-at c.zip.ensures.first (YieldsList-from_map _ lower (YieldsList-at c.map.ensures.source (YieldsList-from_slice c.args.s.now c.iter.ensures.rest)) c.map.ensures.closure (λ x r q k. search rules)))
+    (YieldsList-at c.zip.ensures.second (YieldsList-from_slice c.args.w.now c.iter-then-s-w.ensures.rest)))
+    (length-map c.args.s.now lower ∙ c.if-s-w.true) (λ x q k. search (rules, tests)) (λ x q k. search (rules, tests)))
 
-pub loop-i-init : goal.loop-i-init
-loop-i-init c = refl
-
-pub returns-then-lower_of-w : goal.returns-then-lower_of-w
-returns-then-lower_of-w c = sym (c.loop-i.invariant ∙ word_other c.args.s.now c.args.w.now c.if-s-w.false _ _ c.loop-i-test.true c.lower_of.ensures c.if-lower_of-w.true)
-
-pub loop-i-preserved : goal.loop-i-preserved
-loop-i-preserved c = c.loop-i.invariant ∙ word_step c.args.s.now c.args.w.now c.if-s-w.false _ _ c.loop-i-test.true c.lower_of.ensures c.if-lower_of-w.false
-
-pub returns : goal.returns
-returns c = sym (c.loop-i.invariant ∙ word_end c.args.s.now c.args.w.now c.if-s-w.false _ c.loop-i-test.false)
+pub returns-else-s-w : goal.returns-else-s-w
+returns-else-s-w c = rw (word_unlike _ _ c.if-s-w.false) (ne_eqb _ _ c.if-s-w.false)

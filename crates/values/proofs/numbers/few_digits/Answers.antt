@@ -2,14 +2,14 @@ use borrow.Author.Rules.{rules}
 use Rattle.values.proofs.Digits.{lengths}
 use Rattle.values.proofs.numbers.few_digits.Goals as goal
 
-pub returns-then-n-lt10 : goal.returns-then-n-lt10
-returns-then-n-lt10 c = search (lengths, rules)
+pub returns-in-0-to-9 : goal.returns-in-0-to-9
+returns-in-0-to-9 c = search (lengths, rules)
 
-pub returns-then-n-lt100 : goal.returns-then-n-lt100
-returns-then-n-lt100 c = search (lengths, rules)
+pub returns-in-10-to-99 : goal.returns-in-10-to-99
+returns-in-10-to-99 c = search (lengths, rules)
 
-pub returns-then-n-lt1000 : goal.returns-then-n-lt1000
-returns-then-n-lt1000 c = search (lengths, rules)
+pub returns-in-100-to-999 : goal.returns-in-100-to-999
+returns-in-100-to-999 c = search (lengths, rules)
 
-pub returns-else-n-lt1000 : goal.returns-else-n-lt1000
-returns-else-n-lt1000 c = search (lengths, rules)
+pub returns-in_default : goal.returns-in_default
+returns-in_default c = search (lengths, rules)

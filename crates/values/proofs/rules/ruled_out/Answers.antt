@@ -2,12 +2,11 @@ use native.Mathlib.Omega.{arith}
 use Rattle.values.proofs.Ruling.{ruled_none, ruled_more, ruled_all}
 use Rattle.values.proofs.rules.ruled_out.Goals as goal
 
-pub loop-i-init : goal.loop-i-init
-loop-i-init c = (omega arith, ruled_none c.args.rules.now c.args.s.now)
+pub loop-b-init : goal.loop-b-init
+loop-b-init c = ruled_none c.args.rules.now c.args.s.now
 
-pub loop-i-preserved : goal.loop-i-preserved
-loop-i-preserved c =
-    (omega arith, ruled_more c.args.rules.now c.args.s.now c.loop-i.i c.loop-i.out _ _ c.loop-i-test.true c.from.ensures c.get_or-out.ensures c.loop-i.invariant.1)
+pub loop-b-preserved : goal.loop-b-preserved
+loop-b-preserved c = ruled_more c.args.rules.now c.args.s.now c.loop-b.b-index c.loop-b.out _ _ c.loop-b-test.true c.from.ensures c.get_or-out.ensures c.loop-b.invariant
 
 pub returns : goal.returns
-returns c = ruled_all c.args.rules.now c.args.s.now c.loop-i.i c.loop-i.out c.loop-i-test.false c.loop-i.invariant.1
+returns c = ruled_all c.args.rules.now c.args.s.now c.loop-b.b-index c.loop-b.out (omega (arith, c.loop-b-test.false)) c.loop-b.invariant
