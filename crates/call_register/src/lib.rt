@@ -18,7 +18,7 @@ use register_text_verdict::{judge, judge_typed, read_rows};
 fn write_text(text: &[u8], t: &[u16], n: usize, props: &[u16], np: usize, held: &mut [u8]) -> usize
     ensures { Writes text.now t.now props.now n np held.old result held.new }
 {
-    let mut heap = [0u8; layout::TEXT_BYTES];
+    let mut heap = [0u8; layout::TEXT_BYTE_ROOM];
     let mut starts = [0u32; layout::TEXT_ROOM];
     let mut lens = [0u16; layout::TEXT_ROOM];
     let mut kinds = [0u8; layout::PROPERTY_ROOM];

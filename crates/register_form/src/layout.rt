@@ -22,44 +22,48 @@ pub const TEXT_ROOM: usize = MOST_TEXTS as usize;
 
 pub const PAGE_START_ROOM: usize = PAGE_ROOM + 1;
 
-// How many bytes the regions have; of the form starts and the text starts without the first, which is 0.
-pub const PROPERTY_BYTES: usize = 3 * PROPERTY_ROOM;
+// How many bytes the regions have; of the form starts and the text starts without the first, which is 0. As every place in a register
+// these are numbers of 16 bits.
+pub const PROPERTY_BYTES: u16 = 3 * MOST_PROPERTIES;
 
-pub const PAGE_BYTES: usize = 2 * PAGE_ROOM;
+pub const PAGE_BYTES: u16 = 2 * MOST_PAGES;
 
-pub const FORM_BYTES: usize = 2 * FORM_ROOM;
+pub const FORM_BYTES: u16 = 2 * MOST_FORMS;
 
-pub const TERM_BYTES: usize = 9 * FORM_ROOM;
+pub const TERM_BYTES: u16 = 9 * MOST_FORMS;
 
-pub const TEXT_END_BYTES: usize = 2 * TEXT_ROOM;
+pub const TEXT_END_BYTES: u16 = 2 * MOST_TEXTS;
 
-pub const TEXT_BYTES: usize = MOST_BYTES + TEXT_ROOM;
+pub const TEXT_BYTES: u16 = MOST_BYTES as u16 + MOST_TEXTS;
+
+// Room for the bytes of texts.
+pub const TEXT_BYTE_ROOM: usize = TEXT_BYTES as usize;
 
 // Where the regions begin. The first name stands behind the first kind, the first code behind the first group, and a page's forms
 // or a text end where the next begin.
-pub const PROPERTIES: usize = 8;
+pub const PROPERTIES: u16 = 8;
 
-pub const PROPERTY_NAMES: usize = PROPERTIES + 1;
+pub const PROPERTY_NAMES: u16 = PROPERTIES + 1;
 
-pub const PAGES: usize = PROPERTIES + PROPERTY_BYTES;
+pub const PAGES: u16 = PROPERTIES + PROPERTY_BYTES;
 
-pub const FORM_STARTS: usize = PAGES + PAGE_BYTES;
+pub const FORM_STARTS: u16 = PAGES + PAGE_BYTES;
 
-pub const FORM_ENDS: usize = FORM_STARTS + 2;
+pub const FORM_ENDS: u16 = FORM_STARTS + 2;
 
-pub const FORMS: usize = FORM_ENDS + PAGE_BYTES;
+pub const FORMS: u16 = FORM_ENDS + PAGE_BYTES;
 
-pub const TERMS: usize = FORMS + FORM_BYTES;
+pub const TERMS: u16 = FORMS + FORM_BYTES;
 
-pub const CODES: usize = TERMS + 1;
+pub const CODES: u16 = TERMS + 1;
 
-pub const TEXT_STARTS: usize = TERMS + TERM_BYTES;
+pub const TEXT_STARTS: u16 = TERMS + TERM_BYTES;
 
-pub const TEXT_ENDS: usize = TEXT_STARTS + 2;
+pub const TEXT_ENDS: u16 = TEXT_STARTS + 2;
 
-pub const TEXTS: usize = TEXT_ENDS + TEXT_END_BYTES;
+pub const TEXTS: u16 = TEXT_ENDS + TEXT_END_BYTES;
 
-pub const REGISTER_BYTES: usize = TEXTS + TEXT_BYTES;
+pub const REGISTER_BYTES: usize = TEXTS as usize + TEXT_BYTE_ROOM;
 
 // A draft has room for the rows of two registers.
 pub const DRAFT_PROPERTIES: usize = 2 * PROPERTY_ROOM;
@@ -74,4 +78,4 @@ pub const DRAFT_TERM_BYTES: usize = 9 * DRAFT_FORMS;
 
 pub const DRAFT_TEXTS: usize = 2 * TEXT_ROOM;
 
-pub const DRAFT_TEXT_BYTES: usize = 2 * TEXT_BYTES;
+pub const DRAFT_TEXT_BYTES: usize = 2 * TEXT_BYTE_ROOM;

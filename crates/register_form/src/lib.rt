@@ -1,7 +1,8 @@
 // The held register: reading its rows. Every number is one of 16 bits, so that no place overflows; what lies behind the bytes is 0.
-#![tactic(auto)]
+#![tactic(auto, unfolding(crate::specs::Form::form_start, crate::specs::Form::form_at, crate::specs::Form::term_at, crate::specs::Form::text_start, crate::specs::Form::text_at, crate::specs::Form::property_at, crate::specs::Form::page_at, crate::specs::Dictionary::space_of, crate::specs::Dictionary::name_of))]
 
 ghost use Rattle.std.specs.Prelude.{◌≡◌, suc, ◌+◌, ◌*◌, ◌-◌};
+ghost use Rattle.buffer.specs.Numbers.{two_at};
 ghost use Rattle.values.specs.Values.{kind_from};
 ghost use Rattle.register_form.specs.Dictionary.{space_of, name_of, group_of, term_code};
 ghost use Rattle.register_form.specs.Form.{kind_byte, page_count, property_count, term_count, text_count, property_at, page_at, form_start, form_at, term_at, text_start, text_at};
@@ -14,7 +15,21 @@ use tables::get_or;
 use text::part;
 use values::{Kind, kind_from};
 
-// How many properties, pages, terms and texts there are.
+// Where row i of a region begins whose rows have so many bytes; number i of a region of numbers.
+fn row_at(region: u16, bytes: u16, i: u16) -> usize
+    ensures { result ≡ region + bytes * i }
+{
+    usize::from(region) + usize::from(bytes) * usize::from(i)
+}
+
+pub fn number_at(h: &[u8], region: u16, i: u16) -> u16
+    ensures { result ≡ two_at h.now (region + 2 * i) }
+{
+    two_at(h, row_at(region, 2, i))
+}
+
+// How many properties, pages, terms and texts there are. Readers of one line each, here and below: each promises a word of the layout
+// of its own, which a number of the region as a parameter would take from its callers.
 pub fn property_count(h: &[u8]) -> u16
     ensures { result ≡ property_count h.now }
 {
@@ -43,7 +58,7 @@ pub fn text_count(h: &[u8]) -> u16
 pub fn kind_byte(h: &[u8], p: u16) -> u8
     ensures { result ≡ kind_byte h.now p }
 {
-    get_or(h, layout::PROPERTIES + 3 * usize::from(p), 0)
+    get_or(h, row_at(layout::PROPERTIES, 3, p), 0)
 }
 
 pub fn kind_at(h: &[u8], p: u16) -> Kind
@@ -55,65 +70,65 @@ pub fn kind_at(h: &[u8], p: u16) -> Kind
 pub fn name_number(h: &[u8], p: u16) -> u16
     ensures { result ≡ (property_at h.now p).name }
 {
-    two_at(h, layout::PROPERTY_NAMES + 3 * usize::from(p))
+    two_at(h, row_at(layout::PROPERTY_NAMES, 3, p))
 }
 
 // The number of the text that is page i's identifier; where its forms begin, and where they end.
 pub fn identifier_number(h: &[u8], i: u16) -> u16
     ensures { result ≡ (page_at h.now i).identifier }
 {
-    two_at(h, layout::PAGES + 2 * usize::from(i))
+    number_at(h, layout::PAGES, i)
 }
 
 pub fn form_start(h: &[u8], i: u16) -> u16
     ensures { result ≡ form_start h.now i }
 {
-    two_at(h, layout::FORM_STARTS + 2 * usize::from(i))
+    number_at(h, layout::FORM_STARTS, i)
 }
 
 pub fn form_end(h: &[u8], i: u16) -> u16
     ensures { result ≡ form_start h.now (suc i) }
 {
-    two_at(h, layout::FORM_ENDS + 2 * usize::from(i))
+    number_at(h, layout::FORM_ENDS, i)
 }
 
 // The number of the term that form j is.
 pub fn form_at(h: &[u8], j: u16) -> u16
     ensures { result ≡ form_at h.now j }
 {
-    two_at(h, layout::FORMS + 2 * usize::from(j))
+    number_at(h, layout::FORMS, j)
 }
 
 // The bytes of term f, its group and its code.
 pub fn term_at(h: &[u8], f: u16) -> &[u8]
     ensures { result.now ≡ term_at h.now f }
 {
-    part(h, layout::TERMS + 9 * usize::from(f), 9)
+    part(h, row_at(layout::TERMS, 9, f), 9)
 }
 
 pub fn group_at(h: &[u8], f: u16) -> u8
     ensures { result ≡ group_of (term_at h.now f) }
 {
-    get_or(h, layout::TERMS + 9 * usize::from(f), 0)
+    get_or(h, row_at(layout::TERMS, 9, f), 0)
 }
 
 pub fn code_at(h: &[u8], f: u16) -> u64
     ensures { result ≡ term_code (term_at h.now f) }
 {
-    eight_at(h, layout::CODES + 9 * usize::from(f))
+    eight_at(h, row_at(layout::CODES, 9, f))
 }
 
 // Where text x begins among the bytes of all texts, and where it ends.
 pub fn text_start(h: &[u8], x: u16) -> u16
     ensures { result ≡ text_start h.now x }
 {
-    two_at(h, layout::TEXT_STARTS + 2 * usize::from(x))
+    number_at(h, layout::TEXT_STARTS, x)
 }
 
 pub fn text_end(h: &[u8], x: u16) -> u16
     ensures { result ≡ text_start h.now (suc x) }
 {
-    two_at(h, layout::TEXT_ENDS + 2 * usize::from(x))
+    number_at(h, layout::TEXT_ENDS, x)
 }
 
 // How far b lies behind a, 0 where it does not.
@@ -130,8 +145,8 @@ pub fn text_at(h: &[u8], x: u16) -> &[u8]
     let start = text_start(h, x);
     part(
         h,
-        layout::TEXTS + usize::from(start),
-        usize::from(minus(text_end(h, x), start)),
+        usize::from(layout::TEXTS) + usize::from(start),
+        usize::from(text_end(h, x).saturating_sub(start)),
     )
 }
 
@@ -139,13 +154,13 @@ pub fn text_at(h: &[u8], x: u16) -> &[u8]
 pub fn space_of(t: &[u8]) -> &[u8]
     ensures { result.now ≡ space_of t.now }
 {
-    part(t, 1, usize::from(u16::from(get_or(t, 0, 0))))
+    part(t, 1, usize::from(get_or(t, 0, 0)))
 }
 
 pub fn name_of(t: &[u8]) -> &[u8]
     ensures { result.now ≡ name_of t.now }
 {
-    part(t, 1 + usize::from(u16::from(get_or(t, 0, 0))), t.len())
+    part(t, 1 + usize::from(get_or(t, 0, 0)), t.len())
 }
 
 pub fn space_at(h: &[u8], x: u16) -> &[u8]

@@ -1,6 +1,6 @@
-use Rattle.register_form.proofs.Ways.{reading}
+use Rattle.register_form.proofs.Ways.{code_is}
 use borrow.Author.Rules.{rules}
 use Rattle.register_form.proofs.code_at.Goals as goal
 
 pub returns : goal.returns
-returns c = search (reading, rules)
+returns c = search (code_is, rules)
