@@ -1,5 +1,5 @@
 -- Working definitions: nodes put behind those that a held query has, and the core queries of references and values.
-use Rattle.std.specs.Prelude.{ℕ, ◌≡◌, Bool, true, false, cond, List, ◌++◌, Option, Some, None}
+use Rattle.std.specs.Prelude.{◌≡◌, Bool, true, false, cond, List, ◌++◌, Option, Some, None}
 use Rattle.std.specs.Option.{option_map}
 use Rattle.text.specs.Bytes.{Bytes}
 use Rattle.text.specs.Parts.{part_of}

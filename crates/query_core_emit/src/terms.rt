@@ -7,6 +7,7 @@ use text::{Span, part};
 use values::{Kind, read_scalar};
 
 // The constant that the piece at p writes in a kind.
+#[tactic(auto, unfolding(crate::specs::Emission::constant_in))]
 pub fn constant_of(text: &[u8], p: Span, kind: Kind) -> Option<Constant>
     ensures { result ≡ constant_in text.now p kind }
 {
