@@ -1,5 +1,6 @@
 -- Laws of words, heads and pieces by their places, and the ways through the functions.
 use Rattle.std.specs.Prelude.{Option, Some, None}
+use Rattle.std.specs.Option.{is_some}
 use Prim.Native.Nat.{ℕ, zero, suc, ◌+◌, ◌-◌, ◌≤◌, ◌<◌}
 use mathlib.Core.Path.{◌≡◌, refl, ap, sym, ◌∙◌}
 use mathlib.Core.Bool.{Bool, true, false, cond, not, ◌&&◌, ◌||◌, false≢true}
@@ -26,9 +27,8 @@ use Rattle.language.specs.RawQuery.{token, next_term, comparator, piece_at, ends
 use Rattle.language.specs.QueryText.{is_category, is_category_of, article_of, is_namespace_piece, is_plus_of, namespace_of, breaks_reference, identifier_of}
 use Rattle.language.specs.declared.SurfaceComparator.{SurfaceComparator}
 use Rattle.language.proofs.AllComparators.{typed_fits}
-use Rattle.query_text_pieces.specs.Places.{from, text_at, rest_of, inner_end, place_of, head_at, head_of, last_of, piece_of, tells_piece, SplitsAt, category_told, read_told}
-use Rattle.query_text_pieces.specs.declared.Found.{Found}
-use Rattle.query_text_pieces.specs.declared.First.{First}
+use Rattle.query_text_pieces.specs.Places.{from, text_at, rest_of, inner_end, head_at, head_of, last_of, piece_of, SplitsAt, category_told, read_told}
+use Rattle.query_text_pieces.specs.declared.Placed.{Placed}
 use Rattle.query_text_pieces.specs.declared.Read.{Read}
 
 -- A part of a part.
@@ -50,48 +50,48 @@ part_fits s start len a n h = omega (arith, length-take len (drop start s), leng
 -- Words.
 module _ (s w : Bytes) (at : ℕ) where
   module _ (t : Bool) (e : t ≡ starts w (drop at s)) where
-    pub after_yes : t ≡ true → rest_of s (Found.At (at + length w)) ≡ after w (from s at)
+    pub after_yes : t ≡ true → rest_of s (Some (at + length w)) ≡ after w (from s at)
     unfolding after from rest_of
     after_yes h = rw (← e, h, drop-drop)
 
-    pub after_no : t ≡ false → rest_of s Found.Nothing ≡ after w (from s at)
+    pub after_no : t ≡ false → rest_of s None ≡ after w (from s at)
     unfolding after from rest_of
     after_no h = rw (← e, h)
 
     pub after_ends : t ≡ true → length w ≤ length s - at
     after_ends h = omega (arith, starts_fits w (drop at s) (sym e ∙ h), length-drop at s)
 
-  pub token_is : (r : Found) (i : ℕ) → i ≡ at + span is_blank (drop at s) → rest_of s r ≡ after w (from s i) → rest_of s r ≡ token w (from s at)
+  pub token_is : (r : Option ℕ) (i : ℕ) → i ≡ at + span is_blank (drop at s) → rest_of s r ≡ after w (from s i) → rest_of s r ≡ token w (from s at)
   unfolding token from
   token_is r i e h = h ∙ ap (after w) (ap (λ n. drop n s) e ∙ sym (drop-drop (span is_blank (drop at s)) at s))
 
-module _ (s : Bytes) (at i : ℕ) (a b c : Found) (p : rest_of s a ≡ token (bytes "AND") (from s at)) where
-  pub next_and : a ≡ Found.At i → rest_of s (Found.At i) ≡ next_term (from s at)
+module _ (s : Bytes) (at i : ℕ) (a : Option ℕ) (p : rest_of s a ≡ token (bytes "AND") (from s at)) where
+  pub next_and : a ≡ Some i → rest_of s (Some i) ≡ next_term (from s at)
   unfolding next_term rest_of
   next_and g = rw (← p, g)
 
-  pub next_bracket : a ≡ Found.Nothing → rest_of s b ≡ token (bytes "[[") (from s at) → b ≡ Found.At i → rest_of s (Found.At at) ≡ next_term (from s at)
-  unfolding next_term rest_of
-  next_bracket g p' g' = rw (← p, g, ← p', g')
+  module _ (g : a ≡ None) where
+    pub next_bracket : (b : Option ℕ) → rest_of s b ≡ token (bytes "[[") (from s at) → is_some b ≡ true → rest_of s (Some at) ≡ next_term (from s at)
+    unfolding next_term rest_of
+    next_bracket (Some i) q h = rw (← p, g, ← q)
+    next_bracket None q h = absurd (false≢true h)
 
-  pub next_group : a ≡ Found.Nothing → rest_of s b ≡ token (bytes "[[") (from s at) → b ≡ Found.Nothing → rest_of s c ≡ token (bytes "<q>") (from s at) → c ≡ Found.At i → rest_of s (Found.At at) ≡ next_term (from s at)
-  unfolding next_term rest_of
-  next_group g p' g' p'' g'' = rw (← p, g, ← p', g', ← p'', g'')
+    pub next_group : (b c : Option ℕ) → rest_of s b ≡ token (bytes "[[") (from s at) → is_some b ≡ false → rest_of s c ≡ token (bytes "<q>") (from s at) → rest_of s (cond (is_some c) (Some at) None) ≡ next_term (from s at)
+    unfolding next_term rest_of
+    next_group (Some i) c q h r = absurd (false≢true (sym h))
+    next_group None (Some i) q h r = rw (← p, g, ← q, ← r)
+    next_group None None q h r = rw (← p, g, ← q, ← r)
 
-  pub next_none : a ≡ Found.Nothing → rest_of s b ≡ token (bytes "[[") (from s at) → b ≡ Found.Nothing → rest_of s c ≡ token (bytes "<q>") (from s at) → c ≡ Found.Nothing → rest_of s Found.Nothing ≡ next_term (from s at)
-  unfolding next_term rest_of
-  next_none g p' g' p'' g'' = rw (← p, g, ← p', g', ← p'', g'')
-
-module _ (s : Bytes) (at : ℕ) (a : Found) (p : rest_of s a ≡ token (bytes "</q>") (from s at)) where
-  pub inner_yes : (i k : ℕ) → a ≡ Found.At i → k ≡ i + span is_blank (drop i s) → rest_of s (Found.At k) ≡ inner_end (from s at)
+module _ (s : Bytes) (at : ℕ) (a : Option ℕ) (p : rest_of s a ≡ token (bytes "</q>") (from s at)) where
+  pub inner_yes : (i k : ℕ) → a ≡ Some i → k ≡ i + span is_blank (drop i s) → rest_of s (Some k) ≡ inner_end (from s at)
   unfolding inner_end rest_of from
   inner_yes i k g e = rw (← p, g, e, drop-drop)
 
-  pub inner_no : a ≡ Found.Nothing → rest_of s Found.Nothing ≡ inner_end (from s at)
+  pub inner_no : a ≡ None → rest_of s None ≡ inner_end (from s at)
   unfolding inner_end rest_of
   inner_no g = rw (← p, g)
 
-pub ruleset ways = (token_is, inner_yes, inner_no, next_and, next_bracket, next_group, next_none)
+pub ruleset ways = (token_is, inner_yes, inner_no, next_and, next_bracket, next_group)
 
 -- A piece.
 module _ (s : Bytes) (i n : ℕ) (c : SurfaceComparator) (e : c ≡ first_typed typed (drop i s)) (f : n ≡ length (word c)) where
@@ -102,8 +102,8 @@ module _ (s : Bytes) (i n : ℕ) (c : SurfaceComparator) (e : c ≡ first_typed 
   unfolding comparator
   comparator_is = rw (← e, ← f, drop-drop)
 
-  pub piece_is : (at end : ℕ) (t : Span) → i ≡ at + span is_blank (drop at s) → end ≡ i + n + span is_free (drop (i + n) s) → Trimmed s (i + n) (end - (i + n)) t → piece_at (from s at) ≡ tells_piece s (record { comparator = c; text = t; next = end })
-  unfolding piece_at tells_piece from
+  pub piece_is : (at end : ℕ) (t : Span) → i ≡ at + span is_blank (drop at s) → end ≡ i + n + span is_free (drop (i + n) s) → Trimmed s (i + n) (end - (i + n)) t → piece_at (from s at) ≡ (piece_of s (record { comparator = c; text = t }), from s end)
+  unfolding piece_at from
   piece_is at end t p q h =
       let k : end - (i + n) ≡ span is_free (drop (i + n) s) = omega arith in
       rw (drop-drop (span is_blank (drop at s)) at s, ← p, comparator_is, h.is, k, q, drop-drop)
@@ -126,13 +126,13 @@ head_goes b s h e = rw (h, head_length) (rw e)
 -- The same for its place.
 module _ (s : Bytes) (i : ℕ) where
   module _ (w : Bool) (p : w ≡ starts (bytes "::") (drop i s)) where
-    pub head_here : w ≡ true → place_of (Found.At i) ≡ head_at s i
-    unfolding head_at from place_of
+    pub head_here : w ≡ true → Some i ≡ head_at s i
+    unfolding head_at from
     head_here h = rw (head_colon (drop i s) (sym p ∙ h)) (ap Some (omega arith))
 
     module _ (e : Bool) (q : e ≡ ends_head (from s i)) (n : w ≡ false) where
-      pub head_none : e ≡ true → place_of Found.Nothing ≡ head_at s i
-      unfolding head_at from place_of
+      pub head_none : e ≡ true → None ≡ head_at s i
+      unfolding head_at from
       head_none h = rw (head_stops (drop i s) (sym p ∙ n) (sym q ∙ h))
 
       pub head_step : i < length s → e ≡ false → head_at s i ≡ head_at s (i + 1)
@@ -145,8 +145,8 @@ module _ (s : Bytes) (i : ℕ) where
           moved None = refl
           moved (Some k) = ap Some (omega arith)
 
-  pub head_over : length s ≤ i → place_of Found.Nothing ≡ head_at s i
-  unfolding head_at from place_of head_length
+  pub head_over : length s ≤ i → None ≡ head_at s i
+  unfolding head_at from head_length
   head_over h = rw (drop_of_length-le s h)
 
 -- The names of a head.
@@ -207,9 +207,9 @@ split_is s t text r e h =
       article = omega (arith, f.article);
     }
 
-module _ (s : Bytes) (c : SurfaceComparator) (text : Span) (r : Split) (b m : Bool) (e : split_of s r ≡ reference (part_of s text)) (f : b ≡ is_equal c) where
+module _ (s : Bytes) (p : Placed) (r : Split) (b m : Bool) (e : split_of s r ≡ reference (part_of s p.text)) (f : b ≡ is_equal p.comparator) where
   module _ (y : Bytes) (k : y ≡ part_of s r.namespace) (g : m ≡ same y (bytes "Category")) where
-    test : is_category (piece_of s c text) ≡ (b && r.qualified && m)
+    test : is_category (piece_of s p) ≡ (b && r.qualified && m)
     test = rw (← e, ← f) (go b r.qualified)
       where
         go : (b q : Bool) → (b && is_category_of (cond q (qualified (part_of s r.namespace) (part_of s r.article)) (bare (part_of s r.article)))) ≡ (b && q && m)
@@ -218,7 +218,7 @@ module _ (s : Bytes) (c : SurfaceComparator) (text : Span) (r : Split) (b m : Bo
         go false true = refl
         go false false = refl
 
-    pub category_yes : (b && r.qualified && m) ≡ true → category_told s (First.Category r.article) ≡ only_if (is_category (piece_of s c text)) (Some (article_of (reference (part_of s text))))
+    pub category_yes : (b && r.qualified && m) ≡ true → category_told s (Some r.article) ≡ only_if (is_category (piece_of s p)) (Some (article_of (reference (part_of s p.text))))
     unfolding category_told
     category_yes h = rw (test, h, ← e) (ap Some (go r.qualified))
       where
@@ -226,12 +226,12 @@ module _ (s : Bytes) (c : SurfaceComparator) (text : Span) (r : Split) (b m : Bo
         go true = refl
         go false = refl
 
-    pub category_no : (b && r.qualified && m) ≡ false → category_told s First.Other ≡ only_if (is_category (piece_of s c text)) (Some (article_of (reference (part_of s text))))
+    pub category_no : (b && r.qualified && m) ≡ false → category_told s None ≡ only_if (is_category (piece_of s p)) (Some (article_of (reference (part_of s p.text))))
     unfolding category_told
     category_no h = rw (test, h)
 
   module _ (y : Bytes) (k : y ≡ part_of s r.article) (g : m ≡ same y (bytes "+")) (x : Bytes) (i : x ≡ part_of s r.namespace) (t : Bool) (l : t ≡ is_namespace x) where
-    plus : is_namespace_piece (piece_of s c text) ≡ (b && r.qualified && m)
+    plus : is_namespace_piece (piece_of s p) ≡ (b && r.qualified && m)
     plus = rw (← e, ← f) (go b r.qualified)
       where
         go : (b q : Bool) → (b && is_plus_of (cond q (qualified (part_of s r.namespace) (part_of s r.article)) (bare (part_of s r.article)))) ≡ (b && q && m)
@@ -240,7 +240,7 @@ module _ (s : Bytes) (c : SurfaceComparator) (text : Span) (r : Split) (b m : Bo
         go false true = refl
         go false false = refl
 
-    named : (b && r.qualified && m) ≡ true → namespace_of (reference (part_of s text)) ≡ part_of s r.namespace
+    named : (b && r.qualified && m) ≡ true → namespace_of (reference (part_of s p.text)) ≡ part_of s r.namespace
     named h = rw (← e) (go b r.qualified h)
       where
         go : (b q : Bool) → (b && q && m) ≡ true → namespace_of (cond q (qualified (part_of s r.namespace) (part_of s r.article)) (bare (part_of s r.article))) ≡ part_of s r.namespace
@@ -248,26 +248,26 @@ module _ (s : Bytes) (c : SurfaceComparator) (text : Span) (r : Split) (b m : Bo
         go true false h = absurd (false≢true h)
         go false false h = absurd (false≢true h)
 
-    pub read_namespace : (b && r.qualified && m) ≡ true → t ≡ true → read_told s (Read.Namespace r.namespace) ≡ only_if (not (breaks_reference (piece_of s c text))) (Some (identifier_of (piece_of s c text)))
+    pub read_namespace : (b && r.qualified && m) ≡ true → t ≡ true → read_told s (Some (Read.Namespace r.namespace)) ≡ only_if (not (breaks_reference (piece_of s p))) (Some (identifier_of (piece_of s p)))
     unfolding read_told
     read_namespace h j = rw (plus, h, named h, ← i, ← l, j)
 
-    pub read_no_namespace : (b && r.qualified && m) ≡ true → t ≡ false → read_told s Read.Broken ≡ only_if (not (breaks_reference (piece_of s c text))) (Some (identifier_of (piece_of s c text)))
+    pub read_no_namespace : (b && r.qualified && m) ≡ true → t ≡ false → read_told s None ≡ only_if (not (breaks_reference (piece_of s p))) (Some (identifier_of (piece_of s p)))
     unfolding read_told
     read_no_namespace h j = rw (plus, h, named h, ← i, ← l, j)
 
     module _ (u : Bool) (v : u ≡ is_name y) (h : (b && r.qualified && m) ≡ false) where
-      judged : is_reference (reference (part_of s text)) ≡ ((not r.qualified || t) && u)
+      judged : is_reference (reference (part_of s p.text)) ≡ ((not r.qualified || t) && u)
       judged = rw (← e) (go r.qualified)
         where
           go : (q : Bool) → is_reference (cond q (qualified (part_of s r.namespace) (part_of s r.article)) (bare (part_of s r.article))) ≡ ((not q || t) && u)
           go true = rw (l, v, i, k)
           go false = rw (v, k)
 
-      pub read_reference : ((not r.qualified || t) && u) ≡ true → read_told s (Read.Reference c text) ≡ only_if (not (breaks_reference (piece_of s c text))) (Some (identifier_of (piece_of s c text)))
+      pub read_reference : ((not r.qualified || t) && u) ≡ true → read_told s (Some (Read.Reference p.comparator p.text)) ≡ only_if (not (breaks_reference (piece_of s p))) (Some (identifier_of (piece_of s p)))
       unfolding read_told
       read_reference j = rw (plus, h, judged, j)
 
-      pub read_no_reference : ((not r.qualified || t) && u) ≡ false → read_told s Read.Broken ≡ only_if (not (breaks_reference (piece_of s c text))) (Some (identifier_of (piece_of s c text)))
+      pub read_no_reference : ((not r.qualified || t) && u) ≡ false → read_told s None ≡ only_if (not (breaks_reference (piece_of s p))) (Some (identifier_of (piece_of s p)))
       unfolding read_told
       read_no_reference j = rw (plus, h, judged, j)

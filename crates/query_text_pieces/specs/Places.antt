@@ -10,10 +10,7 @@ use Rattle.values.specs.Answers.{split_of}
 use Rattle.language.specs.Answer.{◌>>=◌}
 use Rattle.language.specs.Surface.{Chain, single, chain, Identifiers}
 use Rattle.language.specs.RawQuery.{Piece, token, head_length, split_dots, trim_names}
-use Rattle.language.specs.declared.SurfaceComparator.{SurfaceComparator}
-use Rattle.query_text_pieces.specs.declared.Found.{Found}
 use Rattle.query_text_pieces.specs.declared.Placed.{Placed}
-use Rattle.query_text_pieces.specs.declared.First.{First}
 use Rattle.query_text_pieces.specs.declared.Read.{Read}
 
 -- The text from a place on.
@@ -25,18 +22,13 @@ unfoldable pub text_at : Bytes → Span → Bytes
 text_at s p = part_of s p
 
 -- What is behind the place that was found.
-unfoldable pub rest_of : Bytes → Found → Option Bytes
-rest_of s (Found.At i) = Some (from s i)
-rest_of s Found.Nothing = None
+unfoldable pub rest_of : Bytes → Option ℕ → Option Bytes
+rest_of s (Some i) = Some (from s i)
+rest_of s None = None
 
 -- What is behind the `</q>` that closes a subquery, and behind blanks.
 unfoldable pub inner_end : Bytes → Option Bytes
 inner_end s = token (bytes "</q>") s >>= λ r. Some (behind is_blank r)
-
--- The place that was found.
-unfoldable pub place_of : Found → Option ℕ
-place_of (Found.At i) = Some i
-place_of Found.Nothing = None
 
 -- Where the `::` of a property body stands that begins at a place.
 unfoldable pub head_at : Bytes → ℕ → Option ℕ
@@ -50,13 +42,9 @@ unfoldable pub last_of : Chain → Bytes
 last_of (single x) = x
 last_of (chain x p) = last_of p
 
--- A piece by its comparator and the place of its text.
-abbrev pub piece_of : Bytes → SurfaceComparator → Span → Piece
-piece_of s c p = record { comparator = c; text = part_of s p }
-
--- The piece that was placed, and what is behind it.
-unfoldable pub tells_piece : Bytes → Placed → Piece × Bytes
-tells_piece s p = (piece_of s p.comparator p.text, from s p.next)
+-- A piece by its place.
+abbrev pub piece_of : Bytes → Placed → Piece
+piece_of s p = record { comparator = p.comparator; text = part_of s p.text }
 
 -- Where the two sides of the reference at p lie in a text: neither ends behind the part that p has.
 pub record SplitsAt (s : Bytes) (p : Span) (r : Split) : Type 0 where
@@ -65,11 +53,11 @@ pub record SplitsAt (s : Bytes) (p : Span) (r : Split) : Type 0 where
   pub article : r.article.start + r.article.len ≤ p.start + length (part_of s p)
 
 -- What each answer tells.
-unfoldable pub category_told : Bytes → First → Option Bytes
-category_told s (First.Category p) = Some (part_of s p)
-category_told s First.Other = None
+unfoldable pub category_told : Bytes → Option Span → Option Bytes
+category_told s (Some p) = Some (part_of s p)
+category_told s None = None
 
-unfoldable pub read_told : Bytes → Read → Option Identifiers
-read_told s (Read.Namespace p) = Some (Identifiers.namespace (part_of s p))
-read_told s (Read.Reference c p) = Some (Identifiers.reference c (reference (part_of s p)))
-read_told s Read.Broken = None
+unfoldable pub read_told : Bytes → Option Read → Option Identifiers
+read_told s (Some (Read.Namespace p)) = Some (Identifiers.namespace (part_of s p))
+read_told s (Some (Read.Reference c p)) = Some (Identifiers.reference c (reference (part_of s p)))
+read_told s None = None

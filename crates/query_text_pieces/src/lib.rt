@@ -1,92 +1,75 @@
 // The words and pieces of the query text: where they stand, and how a piece reads.
 #![tactic(auto)]
 
-ghost use Rattle.std.specs.Prelude.{◌≡◌, not};
+ghost use Rattle.std.specs.Prelude.{◌≡◌, not, Some};
 ghost use Rattle.text.specs.Bytes.{after as after_word};
 ghost use Rattle.text.specs.Parts.{part_of};
 ghost use Rattle.values.specs.Names.{reference};
 ghost use Rattle.language.specs.Answer.{only_if};
 ghost use Rattle.language.specs.RawQuery.{token as token_in, piece_at, ends_head, next_term};
 ghost use Rattle.language.specs.QueryText.{is_category, article_of, is_existence, breaks_reference, identifier_of};
-ghost use Rattle.query_text_pieces.specs.Places.{from, text_at, rest_of, inner_end, place_of, head_at, head_of, last_of, piece_of, tells_piece, SplitsAt, category_told, read_told};
+ghost use Rattle.query_text_pieces.specs.Places.{from, text_at, rest_of, inner_end, head_at, head_of, last_of, piece_of, SplitsAt, category_told, read_told};
 
 use language::{SurfaceComparator, comparator_at, is_equal, word_length};
 use names::{is_name, is_namespace};
 use text::{Class, Span, part, same_bytes, scan, trimmed, word_at};
 use values::{Split, split_reference};
 
-// A place that was looked for, or none.
-#[derive(Clone, Copy)]
-pub enum Found {
-    At(usize),
-    Nothing,
-}
-
-// A piece: its comparator, where its text lies, and the place behind it.
+// A piece by its place: its comparator, and where its text lies.
 #[derive(Clone, Copy)]
 pub struct Placed {
     pub comparator: SurfaceComparator,
     pub text: Span,
-    pub next: usize,
 }
 
-// The category name of a bracket's first piece, or none.
-#[derive(Clone, Copy)]
-pub enum First {
-    Category(Span),
-    Other,
-}
-
-// How a piece outside property bodies reads: `namespace:+`, a reference, or neither.
+// How a piece outside property bodies reads: `namespace:+`, or a reference.
 #[derive(Clone, Copy)]
 pub enum Read {
     Namespace(Span),
     Reference(SurfaceComparator, Span),
-    Broken,
 }
 
 // Past the word, where it stands at a place.
-pub fn after(s: &[u8], at: usize, w: &[u8]) -> Found
+pub fn after(s: &[u8], at: usize, w: &[u8]) -> Option<usize>
     ensures { rest_of s.now result ≡ after_word w.now (from s.now at) }
 {
     if word_at(s, at, w) {
-        Found::At(at + w.len())
+        Some(at + w.len())
     } else {
-        Found::Nothing
+        None
     }
 }
 
 // Past the word, where it stands behind blanks.
-pub fn token(s: &[u8], at: usize, w: &[u8]) -> Found
+pub fn token(s: &[u8], at: usize, w: &[u8]) -> Option<usize>
     ensures { rest_of s.now result ≡ token_in w.now (from s.now at) }
 {
     after(s, scan(s, at, Class::Blank), w)
 }
 
 // Where the next term of a conjunction begins.
-pub fn next_term(s: &[u8], at: usize) -> Found
+pub fn next_term(s: &[u8], at: usize) -> Option<usize>
     ensures { rest_of s.now result ≡ next_term (from s.now at) }
 {
-    match token(s, at, b"AND") {
-        Found::At(i) => Found::At(i),
-        Found::Nothing => match token(s, at, b"[[") {
-            Found::At(_) => Found::At(at),
-            Found::Nothing => match token(s, at, b"<q>") {
-                Found::At(_) => Found::At(at),
-                Found::Nothing => Found::Nothing,
-            },
-        },
+    if let Some(i) = token(s, at, b"AND") {
+        return Some(i);
+    }
+    if token(s, at, b"[[").is_some() {
+        return Some(at);
+    }
+    if token(s, at, b"<q>").is_some() {
+        Some(at)
+    } else {
+        None
     }
 }
 
 // Past the `</q>` that closes a subquery, and past blanks.
-pub fn inner_end(s: &[u8], at: usize) -> Found
+pub fn inner_end(s: &[u8], at: usize) -> Option<usize>
     ensures { rest_of s.now result ≡ inner_end (from s.now at) }
 {
-    match token(s, at, b"</q>") {
-        Found::At(i) => Found::At(scan(s, i, Class::Blank)),
-        Found::Nothing => Found::Nothing,
-    }
+    let i = token(s, at, b"</q>")?;
+    Some(scan(s, i, Class::Blank))
 }
 
 // Whether `|`, `<q>` or `]]` stands at a place.
@@ -97,36 +80,30 @@ fn ends_head(s: &[u8], at: usize) -> bool
 }
 
 // Where the `::` of a property body stands.
-pub fn head_end(s: &[u8], at: usize) -> Found
-    ensures { place_of result ≡ head_at s.now at }
+pub fn head_end(s: &[u8], at: usize) -> Option<usize>
+    ensures { result ≡ head_at s.now at }
 {
-    let mut i = at;
-    while i < s.len() {
+    for i in at..s.len() {
         if word_at(s, i, b"::") {
-            return Found::At(i);
+            return Some(i);
         }
         if ends_head(s, i) {
-            return Found::Nothing;
+            return None;
         }
-        i += 1;
     }
-    Found::Nothing
+    None
 }
 
-// The piece at a place.
-pub fn piece_at(s: &[u8], at: usize) -> Placed
-    ensures { piece_at (from s.now at) ≡ tells_piece s.now result }
+// The piece at a place, and the place behind it.
+pub fn piece_at(s: &[u8], at: usize) -> (Placed, usize)
+    ensures { piece_at (from s.now at) ≡ (piece_of s.now result.0, from s.now result.1) }
 {
     let begin = scan(s, at, Class::Blank);
     let comparator = comparator_at(s, begin);
     let start = begin + usize::from(word_length(comparator));
     let end = scan(s, start, Class::Free);
     let text = trimmed(s, start, end - start);
-    Placed {
-        comparator,
-        text,
-        next: end,
-    }
+    (Placed { comparator, text }, end)
 }
 
 // Where the last name of a head lies.
@@ -143,10 +120,10 @@ pub fn last_name(s: &[u8], at: usize, len: usize) -> Span
 }
 
 // Whether a property piece is exactly `+`.
-pub fn is_existence(s: &[u8], c: SurfaceComparator, text: Span) -> bool
-    ensures { result ≡ is_existence (piece_of s.now c text) }
+pub fn is_existence(s: &[u8], p: Placed) -> bool
+    ensures { result ≡ is_existence (piece_of s.now p) }
 {
-    is_equal(c) & same_bytes(part(s, text.start, text.len), b"+")
+    is_equal(p.comparator) & same_bytes(part(s, p.text.start, p.text.len), b"+")
 }
 
 // Where the two sides of a piece's reference lie.
@@ -173,41 +150,38 @@ pub fn split_at(s: &[u8], text: Span) -> Split
 }
 
 // The category name of a bracket's first piece, by how its reference is split.
-pub fn category_of(s: &[u8], c: SurfaceComparator, text: Span, split: Split) -> First
-    ensures { SplitsAt s.now text split → category_told s.now result
-        ≡ only_if (is_category (piece_of s.now c text)) (some (article_of (reference (part_of s.now text)))) }
+pub fn category_of(s: &[u8], p: Placed, split: Split) -> Option<Span>
+    ensures { SplitsAt s.now p.text split → category_told s.now result
+        ≡ only_if (is_category (piece_of s.now p)) (Some (article_of (reference (part_of s.now p.text)))) }
 {
     let n = split.namespace;
-    let article = split.article;
-    let yes = is_equal(c) & split.qualified & same_bytes(part(s, n.start, n.len), b"Category");
-    if yes {
-        First::Category(article)
-    } else {
-        First::Other
-    }
+    let yes = is_equal(p.comparator)
+        & split.qualified
+        & same_bytes(part(s, n.start, n.len), b"Category");
+    if yes { Some(split.article) } else { None }
 }
 
 // How a piece outside property bodies reads, by how its reference is split.
-pub fn read_piece(s: &[u8], c: SurfaceComparator, text: Span, split: Split) -> Read
-    ensures { SplitsAt s.now text split → read_told s.now result
-        ≡ only_if (not (breaks_reference (piece_of s.now c text))) (some (identifier_of (piece_of s.now c text))) }
+pub fn read_piece(s: &[u8], p: Placed, split: Split) -> Option<Read>
+    ensures { SplitsAt s.now p.text split → read_told s.now result
+        ≡ only_if (not (breaks_reference (piece_of s.now p))) (Some (identifier_of (piece_of s.now p))) }
 {
     let n = split.namespace;
     let a = split.article;
     let qualified = split.qualified;
     let space = part(s, n.start, n.len);
     let name = part(s, a.start, a.len);
-    let plus = is_equal(c) & qualified & same_bytes(name, b"+");
+    let plus = is_equal(p.comparator) & qualified & same_bytes(name, b"+");
     let spaced = is_namespace(space);
     if plus {
         if spaced {
-            return Read::Namespace(n);
+            return Some(Read::Namespace(n));
         }
-        return Read::Broken;
+        return None;
     }
     if (!qualified | spaced) & is_name(name) {
-        Read::Reference(c, text)
+        Some(Read::Reference(p.comparator, p.text))
     } else {
-        Read::Broken
+        None
     }
 }

@@ -1,11 +1,8 @@
-use Rattle.query_text_pieces.proofs.Laws.{ways, inner_yes}
+use Rattle.query_text_pieces.proofs.Laws.{ways}
 use Rattle.query_text_pieces.proofs.inner_end.Goals as goal
 
--- lost: slice-aggregate-token : tie.Need-slice-aggregate-token
--- slice-aggregate-token c = search rules
+pub returns-in_err-i : goal.returns-in_err-i
+returns-in_err-i c = let n = c.in_err-i.was in rw c.from_residual.ensures (search ways)
 
-pub returns-in-At : goal.returns-in-At
-returns-in-At c = inner_yes c.args.s.now _ _ c.token.ensures _ _ c.in-At.is c.scan.ensures
-
-pub returns-in-Nothing : goal.returns-in-Nothing
-returns-in-Nothing c = search ways
+pub returns : goal.returns
+returns c = let n = c.in_ok-i.was in search ways

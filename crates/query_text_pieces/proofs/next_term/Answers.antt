@@ -1,23 +1,15 @@
-use Rattle.query_text_pieces.proofs.Laws.{ways}
+use mathlib.Core.Path.{sym, ◌∙◌}
+use Rattle.query_text_pieces.proofs.Laws.{ways, next_bracket, next_group}
 use Rattle.query_text_pieces.proofs.next_term.Goals as goal
 
--- lost: slice-aggregate-token : tie.Need-slice-aggregate-token
--- slice-aggregate-token c = search rules
+pub returns-in-Some : goal.returns-in-Some
+returns-in-Some c = search ways
 
--- lost: slice-aggregate-token-2 : tie.Need-slice-aggregate-token-2
--- slice-aggregate-token-2 c = search rules
+pub returns-then-is_some : goal.returns-then-is_some
+returns-then-is_some c = next_bracket _ _ 0 _ c.token.ensures c.in_default.is _ c.token-2.ensures (sym c.is_some.ensures ∙ c.if-is_some.true)
 
--- lost: slice-aggregate-token-3 : tie.Need-slice-aggregate-token-3
--- slice-aggregate-token-3 c = search rules
+pub returns-then-is_some-2 : goal.returns-then-is_some-2
+returns-then-is_some-2 c = rw (← c.is_some-2.ensures, c.if-is_some-2.true) at (next_group _ _ 0 _ c.token.ensures c.in_default.is _ _ c.token-2.ensures (sym c.is_some.ensures ∙ c.if-is_some.false) c.token-3.ensures)
 
-pub returns-in-At : goal.returns-in-At
-returns-in-At c = search ways
-
-pub returns-in-At-token : goal.returns-in-At-token
-returns-in-At-token c = search ways
-
-pub returns-in-At-token-2 : goal.returns-in-At-token-2
-returns-in-At-token-2 c = search ways
-
-pub returns-in-Nothing-token-2 : goal.returns-in-Nothing-token-2
-returns-in-Nothing-token-2 c = search ways
+pub returns-else-is_some-2 : goal.returns-else-is_some-2
+returns-else-is_some-2 c = rw (← c.is_some-2.ensures, c.if-is_some-2.false) at (next_group _ _ 0 _ c.token.ensures c.in_default.is _ _ c.token-2.ensures (sym c.is_some.ensures ∙ c.if-is_some.false) c.token-3.ensures)
