@@ -18,8 +18,7 @@ pub fn put_properties(h: &mut [u8], at: u16, kinds: &[u8], numbers: &[u16], name
     ensures { h.new ≡ written h.old at (flat_map property_bytes (rows_of kinds.now numbers.now names.now n)) }
 {
     let base = usize::from(at);
-    let mut p: u16 = 0;
-    while p < n {
+    for p in 0..n {
         let k = usize::from(p);
         put_property(
             h,
@@ -27,7 +26,6 @@ pub fn put_properties(h: &mut [u8], at: u16, kinds: &[u8], numbers: &[u16], name
             get_or(kinds, k, 0),
             get_or(numbers, usize::from(get_or(names, k, 0)), 0),
         );
-        p += 1;
     }
 }
 
@@ -36,11 +34,9 @@ fn put_each(h: &mut [u8], at: u16, table: &[u16], n: u16)
     ensures { h.new ≡ written h.old at (number_bytes (first_of table.now n)) }
 {
     let base = usize::from(at);
-    let mut i: u16 = 0;
-    while i < n {
+    for i in 0..n {
         let k = usize::from(i);
         put_two(h, base + 2 * k, usize::from(get_or(table, k, 0)));
-        i += 1;
     }
 }
 
@@ -58,12 +54,10 @@ pub fn put_numbers(h: &mut [u8], at: u16, table: &[u16], n: u16)
         put_each(h, at, table, n);
         return;
     }
-    let mut i: usize = 0;
-    while i < most {
+    for i in 0..most {
         let x = table[i];
         h[base + 2 * i] = (x % 256) as u8;
         h[base + 2 * i + 1] = (x / 256 % 256) as u8;
-        i += 1;
     }
 }
 
@@ -72,11 +66,13 @@ pub fn put_picked(h: &mut [u8], at: u16, table: &[u16], picks: &[u16], n: u16)
     ensures { h.new ≡ written h.old at (number_bytes (picked table.now picks.now n)) }
 {
     let base = usize::from(at);
-    let mut i: u16 = 0;
-    while i < n {
+    for i in 0..n {
         let k = usize::from(i);
-        put_two(h, base + 2 * k, usize::from(get_or(table, usize::from(get_or(picks, k, 0)), 0)));
-        i += 1;
+        put_two(
+            h,
+            base + 2 * k,
+            usize::from(get_or(table, usize::from(get_or(picks, k, 0)), 0)),
+        );
     }
 }
 
@@ -93,15 +89,13 @@ pub fn put_texts(
     ensures { h.new ≡ written h.old at (joined (listed (text_at s.now starts.now lens.now) refs.now n)) }
 {
     let mut to = usize::from(at);
-    let mut i: u16 = 0;
-    while i < n {
+    for i in 0..n {
         if h.len() <= to {
             return;
         }
         let t = text_at(s, starts, lens, get_or(refs, usize::from(i), 0));
         put_bytes(h, to, t);
         to += t.len();
-        i += 1;
     }
 }
 
@@ -127,12 +121,10 @@ pub fn put_starts(
 {
     let base = usize::from(at);
     let mut sum: usize = 0;
-    let mut i: u16 = 0;
-    while i < n {
+    for i in 0..n {
         let k = usize::from(i);
         put_two(h, base + 2 * k, sum);
         sum += usize::from(text_length(s, starts, lens, get_or(refs, k, 0)));
-        i += 1;
     }
-    put_two(h, base + 2 * usize::from(i), sum);
+    put_two(h, base + 2 * usize::from(n), sum);
 }
