@@ -70,10 +70,8 @@ pub fn key_of(t: &[u8]) -> u64
         return key_of_eight(t);
     }
     let mut key: u64 = 0;
-    let mut i: usize = 0;
-    while i < 8 {
+    for i in 0..8 {
         key = 256 * key + digit(t, i);
-        i += 1;
     }
     key
 }
@@ -89,24 +87,7 @@ pub fn key_at(s: &[u8], at: usize) -> u64
 fn compare_from(a: &[u8], b: &[u8], from: usize) -> Ordering
     ensures { result ≡ order_of (drop from a.now) (drop from b.now) }
 {
-    let mut i = from;
-    while i < a.len() {
-        if b.len() <= i {
-            return Ordering::Greater;
-        }
-        if a[i] < b[i] {
-            return Ordering::Less;
-        }
-        if b[i] < a[i] {
-            return Ordering::Greater;
-        }
-        i += 1;
-    }
-    if i < b.len() {
-        Ordering::Less
-    } else {
-        Ordering::Equal
-    }
+    part(a, from, a.len()).cmp(part(b, from, b.len()))
 }
 
 // How two byte strings stand to one another. Eight bytes of each are one number while both have so many: the test of both lengths
@@ -114,16 +95,15 @@ fn compare_from(a: &[u8], b: &[u8], from: usize) -> Ordering
 pub fn compare_long(a: &[u8], b: &[u8]) -> Ordering
     ensures { result ≡ order_of a.now b.now }
 {
-    let mut i: usize = 0;
-    while (8 <= a.len() - i) & (8 <= b.len() - i) {
-        let x = key_at(a, i);
-        let y = key_at(b, i);
+    let blocks = a.len().min(b.len()) / 8;
+    for k in 0..blocks {
+        let x = key_at(a, 8 * k);
+        let y = key_at(b, 8 * k);
         if x != y {
             return x.cmp(&y);
         }
-        i += 8;
     }
-    compare_from(a, b, i)
+    compare_from(a, b, 8 * blocks)
 }
 
 // The same, for strings of which one is often short: it is small, so that a compiler puts it into what calls it.
@@ -140,19 +120,7 @@ pub fn compare(a: &[u8], b: &[u8]) -> Ordering
 pub fn word_at(s: &[u8], at: usize, w: &[u8]) -> bool
     ensures { result ≡ starts w.now (drop at s.now) }
 {
-    let mut i = at;
-    let mut k: usize = 0;
-    while k < w.len() {
-        if s.len() <= i {
-            return false;
-        }
-        if s[i] != w[k] {
-            return false;
-        }
-        i += 1;
-        k += 1;
-    }
-    true
+    part(s, at, w.len()) == w
 }
 
 // Whether two strings have the same bytes. Names in a list are often alike but for their ends: the last byte goes first.
@@ -169,21 +137,14 @@ pub fn same_bytes(a: &[u8], b: &[u8]) -> bool
     if a[n - 1] != b[n - 1] {
         return false;
     }
-    word_at(a, 0, b)
+    a == b
 }
 
 // Whether a byte is one of a set's.
 pub fn one_of(b: u8, set: &[u8]) -> bool
     ensures { result ≡ any (eqb b) set.now }
 {
-    let mut i: usize = 0;
-    while i < set.len() {
-        if b == set[i] {
-            return true;
-        }
-        i += 1;
-    }
-    false
+    set.contains(&b)
 }
 
 // Whether a byte is one that neither a name nor a value has.
@@ -220,14 +181,15 @@ pub fn in_class(class: Class, b: u8) -> bool
 pub fn scan(s: &[u8], at: usize, class: Class) -> usize
     ensures { result ≡ at + span (in_class class) (drop at s.now) }
 {
-    let mut i = at;
-    while i < s.len() {
+    if s.len() < at {
+        return at;
+    }
+    for i in at..s.len() {
         if !in_class(class, s[i]) {
             return i;
         }
-        i += 1;
     }
-    i
+    s.len()
 }
 
 // Whether every byte is of the class.
@@ -241,12 +203,10 @@ pub fn all_in(s: &[u8], class: Class) -> bool
 pub fn end_of(s: &[u8]) -> usize
     ensures { result ≡ length (trim_end s.now) }
 {
-    let mut e = s.len();
-    while 0 < e {
-        if !in_class(Class::Blank, s[e - 1]) {
-            return e;
+    for i in (0..s.len()).rev() {
+        if !in_class(Class::Blank, s[i]) {
+            return i + 1;
         }
-        e -= 1;
     }
     0
 }

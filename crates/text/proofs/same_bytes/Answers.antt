@@ -1,6 +1,7 @@
 use mathlib.Core.Path.{sym, ◌∙◌}
 use native.Mathlib.Omega.{arith}
-use Rattle.text.proofs.Laws.{same_unlike, same_alike, same_differs, same_end}
+use Rattle.text.proofs.Laws.{same_unlike, same_differs, same_end}
+use Rattle.text.proofs.Library.{pointwise_same}
 use Rattle.text.proofs.same_bytes.Goals as goal
 
 pub returns-then-n-b : goal.returns-then-n-b
@@ -13,4 +14,4 @@ pub returns-then-a-n : goal.returns-then-a-n
 returns-then-a-n c = sym (same_differs _ _ _ c.if-a-n.true)
 
 pub returns : goal.returns
-returns c = c.word_at.ensures ∙ sym (same_alike _ _ c.if-n-b.false)
+returns c = c.eq.ensures ∙ pointwise_same _ _
