@@ -41,10 +41,8 @@ fn are_zeros(s: &[u8]) -> bool
     ensures { result ≡ zeros_to s.now (length s.now) }
 {
     let mut bits: u8 = 0;
-    let mut i: usize = 0;
-    while i < s.len() {
-        bits = bits | s[i];
-        i += 1;
+    for &b in s {
+        bits |= b;
     }
     bits == 0
 }
@@ -54,14 +52,13 @@ pub fn zeros(h: &[u8], from: usize, n: usize) -> bool
     ensures { result ≡ zeros_at h.now from n }
 {
     let s = part(h, from, n);
-    let mut i: usize = 0;
-    while 256 <= s.len() - i {
-        if !are_zeros(part(s, i, 256)) {
+    let blocks = s.len() / 256;
+    for k in 0..blocks {
+        if !are_zeros(part(s, 256 * k, 256)) {
             return false;
         }
-        i += 256;
     }
-    are_zeros(part(s, i, s.len() - i))
+    are_zeros(part(s, 256 * blocks, s.len()))
 }
 
 // Writes a byte, where there is room.
@@ -100,63 +97,22 @@ pub fn put_eight(h: &mut [u8], at: usize, n: u64)
     put_two(h, at + 6, d);
 }
 
-// Writes bytes that there is room for. No test stands in the loop, so that a compiler takes many bytes at a time.
-fn put_all(h: &mut [u8], at: usize, v: &[u8])
-    requires { at + length v.now ≤ length h.old }
-    ensures { h.new ≡ written h.old at v.now }
-{
-    let mut i: usize = 0;
-    while i < v.len() {
-        h[at + i] = v[i];
-        i += 1;
-    }
-}
-
-// Writes bytes as far as there is room.
-fn put_some(h: &mut [u8], at: usize, v: &[u8])
-    ensures { h.new ≡ written h.old at v.now }
-{
-    let mut i: usize = 0;
-    let mut to = at;
-    while i < v.len() {
-        if h.len() <= to {
-            return;
-        }
-        h[to] = v[i];
-        to += 1;
-        i += 1;
-    }
-}
-
-// Writes a string's bytes.
+// Writes a string's bytes, as far as there is room.
 pub fn put_bytes(h: &mut [u8], at: usize, v: &[u8])
     ensures { h.new ≡ written h.old at v.now }
 {
-    if h.len() < at {
+    if h.len() <= at {
         return;
     }
-    if v.len() <= h.len() - at {
-        put_all(h, at, v);
-    } else {
-        put_some(h, at, v);
-    }
-}
-
-// The lesser of two numbers.
-pub fn least(a: usize, b: usize) -> usize
-    ensures { (result ≤ a) × (result ≤ b) × ((a ≤ result) ⊎ (b ≤ result)) }
-{
-    if a < b { a } else { b }
+    let n = v.len().min(h.len() - at);
+    let end = at + n;
+    h[at..end].copy_from_slice(&v[..n]);
 }
 
 // Writes n zeros at the front.
 pub fn clear(h: &mut [u8], n: usize)
     ensures { h.new ≡ written h.old 0 (zeros_of n) }
 {
-    let end = least(h.len(), n);
-    let mut i: usize = 0;
-    while i < end {
-        h[i] = 0;
-        i += 1;
-    }
+    let end = n.min(h.len());
+    h[..end].fill(0);
 }

@@ -51,9 +51,6 @@ module _ (a b : Bytes) where
   pub same_unlike : (length a ≡ length b → ⊥) → same a b ≡ false
   same_unlike h = same_starts a b ∙ rw (ne_eqb (length a) (length b) h)
 
-  pub same_alike : length a ≡ length b → same a b ≡ starts b a
-  same_alike h = same_starts a b ∙ rw (eq-eqb (length a) (length b) h)
-
 -- Strings that differ at a place are not the same.
 pub same_differs : (a b : Bytes) (i : ℕ) → (get_or a i 0 ≡ get_or b i 0 → ⊥) → same a b ≡ false
 same_differs a b i h = go (same a b) refl
@@ -134,31 +131,10 @@ order_eq (x ∷ s) (y ∷ t) h = go (ltb x y) (ltb y x) refl refl (order_eq s t)
 
 -- The order at a place of both strings.
 module _ (a b : Bytes) (i : ℕ) where
-  pub both_end : length a ≤ i → length b ≤ i → order_of (drop i a) (drop i b) ≡ Equal
-  unfolding order_of
-  both_end p q = rw (drop_of_length-le a p, drop_of_length-le b q)
-
-  pub left_ends : length a ≤ i → i < length b → order_of (drop i a) (drop i b) ≡ Less
-  unfolding order_of
-  left_ends p q = rw (drop_of_length-le a p, drop-cons b i 0 q)
-
-  pub right_ends : i < length a → length b ≤ i → order_of (drop i a) (drop i b) ≡ Greater
-  unfolding order_of
-  right_ends p q = rw (drop-cons a i 0 p, drop_of_length-le b q)
-
   module _ (p : i < length a) (q : i < length b) where
     at_place : order_of (drop i a) (drop i b) ≡ cond (ltb (get_or a i 0) (get_or b i 0)) Less (cond (ltb (get_or b i 0) (get_or a i 0)) Greater (order_of (drop (i + 1) a) (drop (i + 1) b)))
     unfolding order_of
     at_place = rw (drop-cons a i 0 p, drop-cons b i 0 q, add-one)
-
-    pub less_here : get_or a i 0 < get_or b i 0 → order_of (drop i a) (drop i b) ≡ Less
-    less_here h = at_place ∙ rw (lt-ltb _ _ h)
-
-    pub greater_here : get_or b i 0 < get_or a i 0 → order_of (drop i a) (drop i b) ≡ Greater
-    greater_here h = at_place ∙ rw (le-ltb (get_or a i 0) (get_or b i 0) (omega arith), lt-ltb _ _ h)
-
-    pub same_here : get_or b i 0 ≤ get_or a i 0 → get_or a i 0 ≤ get_or b i 0 → order_of (drop i a) (drop i b) ≡ order_of (drop (i + 1) a) (drop (i + 1) b)
-    same_here h k = at_place ∙ rw (le-ltb (get_or a i 0) (get_or b i 0) h, le-ltb (get_or b i 0) (get_or a i 0) k)
 
 -- A word that stands at the front is the text's front.
 pub starts_is : (w s : Bytes) → starts w s ≡ true → take (length w) s ≡ w
@@ -180,24 +156,6 @@ starts_fits w s h = omega (arith, ap length (starts_is w s h), length-take (leng
 
 pub word_end : (w s : Bytes) (at : ℕ) → 0 < length w → starts w (drop at s) ≡ true → at + length w ≤ length s
 word_end w s at p h = omega (arith, starts_fits w (drop at s) h, length-drop at s)
-
--- One byte of a word.
-module _ (w s : Bytes) (k i : ℕ) (hk : k < length w) where
-  pub starts_short : length s ≤ i → starts (drop k w) (drop i s) ≡ false
-  unfolding starts
-  starts_short h = rw (drop-cons w k 0 hk, drop_of_length-le s h)
-
-  pub starts_other : i < length s → (get_or s i 0 ≡ get_or w k 0 → ⊥) → starts (drop k w) (drop i s) ≡ false
-  unfolding starts
-  starts_other h n = rw (drop-cons w k 0 hk, drop-cons s i 0 h, ne_eqb _ _ n, starts)
-
-  pub starts_same : i < length s → get_or s i 0 ≡ get_or w k 0 → starts (drop k w) (drop i s) ≡ starts (drop (k + 1) w) (drop (i + 1) s)
-  unfolding starts
-  starts_same h e = rw (add-one k, add-one i, drop-cons w k 0 hk, drop-cons s i 0 h, eq-eqb _ _ e, starts)
-
-pub starts_done : (w t : Bytes) (k : ℕ) → length w ≤ k → starts (drop k w) t ≡ true
-unfolding starts
-starts_done w t k h = rw (drop_of_length-le w h)
 
 -- Scans: at the end, at a byte that fails the test, at one that passes it.
 module _ (p : ℕ → Bool) (s : Bytes) (i : ℕ) where
@@ -246,9 +204,6 @@ all_is p (b ∷ s) = go (p b) refl (all_is p s)
 pub all_span : (p : ℕ → Bool) (s : Bytes) → all p s ≡ true → span p s ≡ length s
 all_span p s h = eqb-true _ _ (sym (all_is p s) ∙ h)
 
-pub span_all : (p : ℕ → Bool) (s : Bytes) → span p s ≡ length s → all p s ≡ true
-span_all p s h = all_is p s ∙ eq-eqb _ _ h
-
 -- Tests over a list.
 module _ {A : Type 0} (p : A → Bool) where
   pub any_append : (s t : List A) → any p (s ++ t) ≡ (any p s || any p t)
@@ -276,11 +231,3 @@ module _ {A : Type 0} (p : A → Bool) where
     pub any_end : length s ≤ i → any p (drop i s) ≡ false
     unfolding any
     any_end h = rw (drop_of_length-le s h)
-
-    pub any_here : i < length s → p (get_or s i d) ≡ true → any p (drop i s) ≡ true
-    unfolding any
-    any_here h e = rw (drop-cons s i d h, e)
-
-    pub any_later : i < length s → p (get_or s i d) ≡ false → any p (drop i s) ≡ any p (drop (i + 1) s)
-    unfolding any
-    any_later h e = rw (add-one i, drop-cons s i d h, e)

@@ -50,44 +50,6 @@ module _ {A : Type 0} where
   unfolding Filled tabulate
   filled_none n f l e = (e, refl)
 
-  pub filled_more : (n : ℕ) (f : ℕ → A) (l : List A) (i : ℕ) (a : A) → i < n → a ≡ f i → Filled n f l i → Filled n f (set l i a) (i + 1)
-  unfolding Filled tabulate
-  filled_more n f l i a lt e h =
-      (length-set l i a ∙ h.0, rw add-one (take-suc-set l i a (rw h.0 lt) ∙ rw (h.1, e)))
-
-  pub filled_all : (n : ℕ) (f : ℕ → A) (l : List A) → Filled n f l n → l ≡ tabulate n f
-  unfolding Filled
-  filled_all n f l h = sym (take_all n l (omega (arith, h.0))) ∙ h.1
-
--- a loop that stores numbers of 16 bits as far as there is room
-
-pub tabled_none : (f : ℕ → ℕ) (l : List ℕ) → Tabled f 0 l
-tabled_none f l = record { at = λ j h k. absurd (omega arith) }
-
-pub tabled_more : (f : ℕ → ℕ) (n : ℕ) (l u : List ℕ) (v : ℕ) → Tabled f n l → v ≡ f n → f n < 65536 → u ≡ set l n (v % 65536) → Tabled f (n + 1) u
-tabled_more f n l u v a e b g = record { at = λ j h k. go j (ℕ_discrete j n) h k }
-  where
-    there : v % 65536 ≡ f n
-    there = ap (λ w. w % 65536) e ∙ mod-eq_of_lt b
-
-    sized : length u ≡ length l
-    sized = ap length g ∙ length-set l n (v % 65536)
-
-    go : (j : ℕ) → Dec (j ≡ n) → j < n + 1 → j < length u → get_or u j 0 ≡ f j
-    go j (yes p) h k =
-        ap (λ w. get_or w j 0) g
-        ∙ ap (λ i. get_or (set l n (v % 65536)) i 0) p
-        ∙ get_or-set_same l n (v % 65536) 0 (omega (arith, sized))
-        ∙ there
-        ∙ ap f (sym p)
-    go j (no p) h k = ap (λ w. get_or w j 0) g ∙ get_or-set_other l n j (v % 65536) 0 p ∙ a.at j (omega (arith, p)) (omega (arith, sized))
-
-pub tabled_less : (f : ℕ → ℕ) (m n : ℕ) (l : List ℕ) → Tabled f n l → m ≤ n → Tabled f m l
-tabled_less f m n l a h = record { at = λ j k fit. a.at j (omega arith) fit }
-
-pub tabled_empty : (f : ℕ → ℕ) (n : ℕ) (l : List ℕ) → length l ≡ 0 → Tabled f n l
-tabled_empty f n l e = record { at = λ j h k. absurd (omega arith) }
-
 -- counts
 
 pub count_none : (f : ℕ → Bool) → count_to 0 f ≡ 0
