@@ -1,14 +1,14 @@
 -- Laws of zeros told block by block: bits put together are 0 where all are, and blocks stand one behind the other.
 use Prim.Native.Nat.{ℕ, zero, suc, ◌+◌, ◌-◌, ◌≤◌}
 use mathlib.Core.Path.{◌≡◌, refl, sym, ap, ◌∙◌}
-use mathlib.Core.Bool.{Bool, true, false, not, ◌&&◌, and_assoc}
+use mathlib.Core.Bool.{Bool, true, false, ◌&&◌, and_assoc}
 use native.Mathlib.Nat.{add-suc, add-zero, le_refl}
 use native.Mathlib.Numerals.{add-one}
 use native.Mathlib.Omega.{arith}
 use lib.Bits.{bit_and, bit_or, or_add_and, and_le_l, and_le_r}
 use lib.Dec.{eqb}
 use lib.ListN.{length, get_or}
-use borrow.Author.Tests.{eqb-true, eqb-false, eq-eqb, ne_eqb, not-true, not-false}
+use borrow.Author.Tests.{eqb-true, eqb-false, eq-eqb, ne_eqb}
 use Rattle.text.specs.Bytes.{Bytes, part}
 use Rattle.buffer.specs.Tests.{all_to, zeros_at, zeros_to}
 use Rattle.buffer.proofs.Testing.{and_true, zeros_cut}
@@ -57,14 +57,14 @@ module _ (h : Bytes) (from n : ℕ) (s : Bytes) (e : s ≡ part h from n) where
         ∙ ap (λ (b : Bool). b && zeros_at s i m) (sym before)
         ∙ sym (all_add (λ j. eqb (get_or s j 0) 0) i m)
 
-    pub block_zero : not r ≡ false → zeros_to s (i + m) ≡ true
-    block_zero z = sym block ∙ not-false r z
+    pub block_zero : r ≡ true → zeros_to s (i + m) ≡ true
+    block_zero z = sym block ∙ z
 
-    pub block_other : not r ≡ true → m ≤ length s - i → i ≤ length s → false ≡ zeros_at h from n
+    pub block_other : r ≡ false → m ≤ length s - i → i ≤ length s → false ≡ zeros_at h from n
     unfolding zeros_to
     block_other z l k =
         let j : length s ≡ (i + m) + (length s - (i + m)) = omega arith in
-        told false (sym (ap (zeros_to s) j ∙ all_add (λ j. eqb (get_or s j 0) 0) (i + m) (length s - (i + m)) ∙ rw (sym block ∙ not-true r z)))
+        told false (sym (ap (zeros_to s) j ∙ all_add (λ j. eqb (get_or s j 0) 0) (i + m) (length s - (i + m)) ∙ rw (sym block ∙ z)))
 
   pub block_last : (i : ℕ) (p : Bytes) (r : Bool) → p ≡ part s i (length s - i) → r ≡ zeros_to p (length p) → zeros_to s i ≡ true → i ≤ length s → r ≡ zeros_at h from n
   block_last i p r f g before k =
@@ -74,5 +74,3 @@ module _ (h : Bytes) (from n : ℕ) (s : Bytes) (e : s ≡ part h from n) where
 pub zeros_none : (s : Bytes) → zeros_to s 0 ≡ true
 unfolding zeros_to all_to
 zeros_none s = refl
-
-pub ruleset blocks = (zeros_none, block_zero, block_other, block_last)

@@ -8,3 +8,4 @@ pub mod Testing
 pub mod Blocks
 pub mod Padding
 pub mod Joined
+pub mod Copied

@@ -58,7 +58,7 @@ pub fn zeros(h: &[u8], from: usize, n: usize) -> bool
             return false;
         }
     }
-    are_zeros(part(s, 256 * blocks, s.len()))
+    are_zeros(part(s, 256 * blocks, s.len() % 256))
 }
 
 // Writes a byte, where there is room.
