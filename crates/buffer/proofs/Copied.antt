@@ -3,6 +3,7 @@ use Prim.Native.Nat.{ℕ, ◌+◌, ◌-◌, ◌≤◌, min}
 use mathlib.Core.Path.{◌≡◌, refl, sym, ap, ◌∙◌}
 use mathlib.Core.Bool.{Bool, true, false}
 use mathlib.Core.List.{◌++◌}
+use mathlib.Core.Logic.{◌⊎◌, inl, inr}
 use native.Mathlib.Omega.{arith}
 use lib.Dec.{leb}
 use lib.ListN.{length, take, drop, replicate, take-append-drop, length-replicate}
@@ -58,3 +59,11 @@ zeros_placed h x n m e f =
     let k = sized h (zeros n) 0 m (omega arith) g in
     let z : x ≡ take m (zeros n) = f ∙ ap (λ i. replicate i 0) (length-take-le m h (omega (arith, k.1))) ∙ sym (take-replicate m n 0 (omega (arith, k.0, long))) in
     placed h (zeros n) 0 m (omega arith) g x m z refl
+
+-- The lesser of two numbers is one of them.
+pub min_is : (m a b : ℕ) → m ≡ min a b → (m ≤ a) × (m ≤ b) × ((a ≤ m) ⊎ (b ≤ m))
+min_is m a b e = go (leb a b) refl
+  where
+    go : (t : Bool) → leb a b ≡ t → (m ≤ a) × (m ≤ b) × ((a ≤ m) ⊎ (b ≤ m))
+    go true f = let k = e ∙ min-eq_left (leb-true _ _ f) in (omega arith, omega (arith, leb-true _ _ f), inl (omega arith))
+    go false f = let l = leb-false _ _ f in let k = e ∙ min-eq_right (omega arith) in (omega arith, omega arith, inr (omega arith))

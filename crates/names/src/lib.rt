@@ -14,7 +14,7 @@ pub mod own_form; // own_form.rt: how much of a text is composed as it is typed
 pub mod putting; // putting.rt: a name judged and composed by a table that is lent
 pub mod table; // table.rt: a letter and a mark looked up in it
 
-use buffer::{least, put_byte, put_bytes};
+use buffer::{put_byte, put_bytes};
 use own_form::{is_own_form, is_plain, own_front};
 use table::Table;
 use tables::get_or;
@@ -209,7 +209,7 @@ pub fn put_composed(h: &mut [u8], at: usize, s: &[u8]) -> usize
         put_bytes(h, at, s);
         return front;
     }
-    let start = least(at, h.len());
+    let start = at.min(h.len());
     let n = compose_rest(h, start, s, front);
     if n == 0 {
         put_bytes(h, start, s);
