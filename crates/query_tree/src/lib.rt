@@ -10,7 +10,7 @@ pub mod reading; // reading.rt: nodes from their bytes
 pub use layout::TREE_BYTES;
 
 // A part of a query: a bracket of categories or of identifiers, the alternatives of a property, a property's bracket, two joined.
-#[derive(Clone, Copy)]
+#[derive(Clone, Copy, Debug, PartialEq, Eq)]
 pub enum Shape {
     Categories,
     Identifiers,
@@ -35,7 +35,8 @@ pub struct Item {
     pub depth: u16,
 }
 
-// A node's six bytes: a tag, a comparator, a number, the lengths of a namespace and of a name or value.
+// A node's six bytes: a tag, a comparator, a number, the lengths of a namespace and of a name or value. The tag is a byte and no enum, since
+// any bytes are read as rows, and the test tells by this byte whether they are a tree's.
 #[derive(Clone, Copy)]
 pub struct Row {
     pub tag: u8,

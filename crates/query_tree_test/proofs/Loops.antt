@@ -1,4 +1,6 @@
 -- The loop over rows: none, one more, one that does not fit, all; and the test of all bytes.
+use Rattle.std.specs.Prelude.{Option, Some, None}
+use Rattle.std.specs.Option.{is_some}
 use Prim.Native.Nat.{ℕ, zero, suc, ◌+◌, ◌*◌, ◌-◌, ◌≤◌, ◌<◌}
 use mathlib.Core.Path.{◌≡◌, refl, sym, ap, ◌∙◌}
 use mathlib.Core.Bool.{Bool, true, false, ◌&&◌, false≢true}
@@ -19,6 +21,10 @@ use Rattle.query_tree_test.specs.Loops.{RowsTested}
 pub and_no : (b : Bool) → b && false ≡ false
 and_no true = refl
 and_no false = refl
+
+abbrev or_zero : Option ℕ → ℕ
+or_zero (Some n) = n
+or_zero None = 0
 
 -- No string begins behind 1,024 bytes.
 pub row_far : (at : ℕ) (r : Row) → 1024 < at → false ≡ row_fits at r
@@ -61,11 +67,13 @@ module _ (h : Bytes) where
         go (yes p) k = ap (λ (b : Bool). rows_fit h n && b) (ap (λ (m : ℕ). row_fits (string_at h m) (row_in h m)) (sym p) ∙ sym (ap (row_fits (string_at h i)) e) ∙ ap (λ (m : ℕ). row_fits m r) (sym f.ends) ∙ t) ∙ and_no (rows_fit h n)
         go (no p) k = rw (k (omega (arith, p)))
 
-    pub rows_stop : (n : ℕ) (b : Bool) → b ≡ row_fits at r → b ≡ false → i < n → RowsTested h n false 0
-    rows_stop n b g t l = record { is = sym (no_later n (sym g ∙ t) l); ends = λ z. absurd (false≢true z) }
+    pub rows_stop : (n : ℕ) (b : Bool) → b ≡ row_fits at r → b ≡ false → i < n → RowsTested h n None
+    rows_stop n b g t l = record { is = sym (no_later n (sym g ∙ t) l); ends = λ end z. absurd (false≢true (ap is_some z)) }
 
-  pub rows_all : (i n at : ℕ) → Fitted i at → i ≤ n → n ≤ i → RowsTested h n true at
-  rows_all i n at f a b = let e : i ≡ n = omega arith in rw (← e) (record { is = sym f.is; ends = λ z. (f.ends, f.most) })
+  pub rows_all : (i n at : ℕ) → Fitted i at → i ≤ n → n ≤ i → RowsTested h n (Some at)
+  rows_all i n at f a b =
+      let e : i ≡ n = omega arith in
+      rw (← e) (record { is = sym f.is; ends = λ end z. let k : at ≡ end = ap or_zero z in rw (← k) (f.ends, f.most) })
 
 -- The whole test: too many nodes, rows that do not fit, the zeros behind rows and strings.
 module _ (h : Bytes) (n : ℕ) (e : n ≡ two_at h 0) where
@@ -73,11 +81,11 @@ module _ (h : Bytes) (n : ℕ) (e : n ≡ two_at h 0) where
   unfolding is_exact
   exact_many l = rw (← e, lt-leb n 681 l)
 
-  module _ (l : n ≤ 681) (ok : Bool) (end : ℕ) (t : RowsTested h n ok end) where
-    pub exact_unfit : ok ≡ false → false ≡ is_exact h
+  module _ (l : n ≤ 681) (r : Option ℕ) (t : RowsTested h n r) where
+    pub exact_unfit : r ≡ None → false ≡ is_exact h
     unfolding is_exact
     exact_unfit f = rw (← e, le-leb n 681 l, ← t.is, f)
 
-    pub exact_is : ok ≡ true → (y z : Bool) → y ≡ zeros_at h (2 + 6 * n) (4086 - 6 * n) → z ≡ zeros_at h (4088 + end) (1024 - end) → y && z ≡ is_exact h
+    pub exact_is : (end : ℕ) → r ≡ Some end → (y z : Bool) → y ≡ zeros_at h (2 + 6 * n) (4086 - 6 * n) → z ≡ zeros_at h (4088 + end) (1024 - end) → y && z ≡ is_exact h
     unfolding is_exact
-    exact_is f y z i j = rw (← e, le-leb n 681 l, ← t.is, f, i, j, (t.ends f).0)
+    exact_is end f y z i j = rw (← e, le-leb n 681 l, ← t.is, i, j, (t.ends end f).0, f)

@@ -18,12 +18,11 @@ use Rattle.buffer.specs.Numbers.{two_at}
 use Rattle.language.specs.Answer.{◌>>=◌, found, only_if}
 use Rattle.query_tree.specs.Nodes.{Node}
 use Rattle.query_tree.specs.declared.Item.{Item}
-use Rattle.query_tree_test.specs.declared.Made.{Made}
 use Rattle.query_tree.specs.declared.TreeNode.{TreeNode}
 use Rattle.query_tree.specs.Form.{strings_in, node_in, nodes_in}
 use Rattle.query_tree.specs.Reading.{node_by}
 use Rattle.query_tree.specs.Pass.{is_query, is_good, full_bytes, on_one, on_two, item_step, within, item_run, is_whole, is_tree}
-use Rattle.query_tree_test.specs.Stack.{made_by, arity, made_of, blank, stack_of, run_to}
+use Rattle.query_tree_test.specs.Stack.{arity, made_of, blank, stack_of, run_to}
 
 -- What a node takes and makes, by the node that was read.
 pub by_arity : (node m : TreeNode) → node ≡ m → (s : Bytes) → arity (node_by s m) ≡ arity (node_by s node)
@@ -149,21 +148,21 @@ module _ (h : Bytes) where
     pub run_lacks : c < k → run_to h (suc i) ≡ None
     run_lacks l = run_here ∙ ap (within 28) (step_lacks i t c x (omega (arith, ek)))
 
-    module _ (l : k ≤ c) (a b : Item) (ea : a ≡ get_or t c blank) (eb : b ≡ get_or t (c + 1) blank) (s : Bytes) (es : s ≡ strings_in h) (r : Made) (makes : made_by r ≡ made_of i (node_by s node) a b) where
-      er : made_by r ≡ made_of i x a b
+    module _ (l : k ≤ c) (a b : Item) (ea : a ≡ get_or t c blank) (eb : b ≡ get_or t (c + 1) blank) (s : Bytes) (es : s ≡ strings_in h) (r : Option Item) (makes : r ≡ made_of i (node_by s node) a b) where
+      er : r ≡ made_of i x a b
       er = makes ∙ ap (λ (u : Bytes). made_of i (node_by u node) a b) es
 
-      run_makes : run_to h (suc i) ≡ within 28 (made_by r >>= λ v. Some (v ∷ stack_of t (c - k)))
+      run_makes : run_to h (suc i) ≡ within 28 (r >>= λ v. Some (v ∷ stack_of t (c - k)))
       run_makes =
           run_here ∙ ap (within 28)
           (step_makes i t c x (c - k) (let z : c ≡ c - k + arity x = omega (arith, ek, l) in z) ∙ ap (λ (o : Option Item). o >>= λ v. Some (v ∷ stack_of t (c - k))) (sym (er ∙ ap₂ (λ (y z : Item). made_of i x y z) ea (eb ∙ ap (λ (n : ℕ). get_or t n blank) (add-one c)))))
 
-      pub run_unmade : r ≡ Made.Nothing → run_to h (suc i) ≡ None
-      run_unmade e = run_makes ∙ ap (λ (m : Made). within 28 (made_by m >>= λ v. Some (v ∷ stack_of t (c - k)))) e
+      pub run_unmade : r ≡ None → run_to h (suc i) ≡ None
+      run_unmade e = run_makes ∙ ap (λ (m : Option Item). within 28 (m >>= λ v. Some (v ∷ stack_of t (c - k)))) e
 
-      module _ (v : Item) (e : r ≡ Made.Is v) where
+      module _ (v : Item) (e : r ≡ Some v) where
         run_top : run_to h (suc i) ≡ only_if (leb (suc (c - k)) 28) (Some (v ∷ stack_of t (c - k)))
-        run_top = run_makes ∙ ap (λ (m : Made). within 28 (made_by m >>= λ v. Some (v ∷ stack_of t (c - k)))) e ∙ ap (λ (n : ℕ). only_if (leb (suc n) 28) (Some (v ∷ stack_of t (c - k)))) (length_stack t (c - k))
+        run_top = run_makes ∙ ap (λ (m : Option Item). within 28 (m >>= λ v. Some (v ∷ stack_of t (c - k)))) e ∙ ap (λ (n : ℕ). only_if (leb (suc n) 28) (Some (v ∷ stack_of t (c - k)))) (length_stack t (c - k))
 
         pub run_high : 28 < c - k + 1 → run_to h (suc i) ≡ None
         run_high g = run_top ∙ ap (λ (q : Bool). only_if q (Some (v ∷ stack_of t (c - k)))) (lt-leb (suc (c - k)) 28 (omega arith))

@@ -10,14 +10,8 @@ use Rattle.query_tree_spelling.specs.Spelled.{spelled_value, cost_reference}
 use Rattle.query_tree.specs.Nodes.{Node}
 use Rattle.query_tree.specs.declared.Shape.{Shape}
 use Rattle.query_tree.specs.declared.Item.{Item}
-use Rattle.query_tree_test.specs.declared.Made.{Made}
 use Rattle.query_tree.specs.Form.{node_in}
 use Rattle.query_tree.specs.Pass.{leaf_item, subquery_item, property_item, link_item, bar_item, or_item, and_item, item_run}
-
--- What was made.
-abbrev pub made_by : Made → Option Item
-made_by (Made.Is i) = Some i
-made_by Made.Nothing = None
 
 -- How many parts a node is made of.
 abbrev pub arity : Node → ℕ

@@ -17,6 +17,7 @@ use text::same_bytes;
 use values::is_value;
 
 // Node `at` begins a part.
+#[tactic(auto, unfolding(query_tree::specs::Pass::leaf_item))]
 fn leaf_item(shape: Shape, at: usize, leads: bool, kept: bool, n: usize) -> Item
     ensures { result ≡ leaf_item shape at leads kept n }
 {
@@ -31,6 +32,7 @@ pub fn length_of(x: &[u8]) -> usize
 }
 
 // Whether a value is read as itself behind its comparator.
+#[tactic(auto, unfolding(query_tree_spelling::specs::Spelled::spelled_value))]
 fn spelled_value(c: SurfaceComparator, v: &[u8]) -> bool
     ensures { result ≡ spelled_value c v.now }
 {

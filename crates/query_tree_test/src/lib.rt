@@ -12,16 +12,9 @@ pub mod joining; // joining.rt: parts made of others
 pub mod passing; // passing.rt: whether nodes are the tree of a text
 
 use passing::passes;
-use query_tree::{Item, TREE_BYTES};
+use query_tree::TREE_BYTES;
 use testing::is_exact;
 use text::part;
-
-// What a node makes of the parts before it, or nothing.
-#[derive(Clone, Copy)]
-pub enum Made {
-    Is(Item),
-    Nothing,
-}
 
 // Whether the first bytes are the form of a query that some text has.
 pub fn is_tree(h: &[u8]) -> bool
@@ -31,8 +24,5 @@ pub fn is_tree(h: &[u8]) -> bool
         return false;
     }
     let g = part(h, 0, TREE_BYTES);
-    if !is_exact(g) {
-        return false;
-    }
-    passes(g)
+    is_exact(g) && passes(g)
 }

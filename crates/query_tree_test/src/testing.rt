@@ -13,42 +13,44 @@ use query_tree::{Row, layout};
 fn last_comparator(tag: u8) -> u8
     ensures { result ≡ cond (uses_comparator tag) last_comparator 0 }
 {
-    if (tag == layout::BARE) | (tag == layout::QUALIFIED) | (tag == layout::VALUE) {
-        LAST_COMPARATOR
-    } else {
-        0
+    match tag {
+        layout::BARE | layout::QUALIFIED | layout::VALUE => LAST_COMPARATOR,
+        _ => 0,
     }
 }
 
 fn uses_first(tag: u8) -> bool
     ensures { result ≡ uses_first tag }
 {
-    (tag == layout::NAMESPACE) | (tag == layout::QUALIFIED)
+    matches!(tag, layout::NAMESPACE | layout::QUALIFIED)
 }
 
 fn uses_second(tag: u8) -> bool
     ensures { result ≡ uses_second tag }
 {
-    (tag == layout::CATEGORY)
-        | (tag == layout::BARE)
-        | (tag == layout::QUALIFIED)
-        | (tag == layout::VALUE)
-        | (tag == layout::PROPERTY)
-        | (tag == layout::LINK)
+    matches!(
+        tag,
+        layout::CATEGORY
+            | layout::BARE
+            | layout::QUALIFIED
+            | layout::VALUE
+            | layout::PROPERTY
+            | layout::LINK
+    )
 }
 
 // The number of a tag's row whose string begins at a place.
 fn place_of(tag: u8, at: usize) -> usize
     ensures { result ≡ cond (uses_nothing tag) 0 at }
 {
-    if (tag == layout::EXISTENCE) | (tag == layout::SUBQUERY) {
-        0
-    } else {
-        at
+    match tag {
+        layout::EXISTENCE | layout::SUBQUERY => 0,
+        _ => at,
     }
 }
 
 // Whether a row is that of its node, whose string begins at a place.
+#[tactic(auto, unfolding(query_tree::specs::Testing::row_fits))]
 pub fn row_fits(row: Row, at: usize) -> bool
     ensures { result ≡ row_fits at row }
 {
@@ -68,28 +70,19 @@ pub fn row_fits(row: Row, at: usize) -> bool
         & (end <= layout::STRING_BYTES)
 }
 
-// Whether some rows fit, and where their strings end.
-#[derive(Clone, Copy)]
-pub struct Tested {
-    pub ok: bool,
-    pub end: usize,
-}
-
-// Whether the first n rows fit.
-fn rows_fit(h: &[u8], n: usize) -> Tested
-    ensures { RowsTested h.now n result.ok result.end }
+// Where the strings of the first n rows end, where these fit.
+fn rows_fit(h: &[u8], n: usize) -> Option<usize>
+    ensures { RowsTested h.now n result }
 {
     let mut at: usize = 0;
-    let mut i: usize = 0;
-    while i < n {
+    for i in 0..n {
         let row = row_at(h, i);
         if !row_fits(row, at) {
-            return Tested { ok: false, end: 0 };
+            return None;
         }
         at = at + usize::from(row.first) + usize::from(row.second);
-        i += 1;
     }
-    Tested { ok: true, end: at }
+    Some(at)
 }
 
 // Whether bytes are those of the nodes that they hold, where there are enough of them.
@@ -100,11 +93,9 @@ pub fn is_exact(h: &[u8]) -> bool
     if layout::MOST_NODES < n {
         return false;
     }
-    let rows = rows_fit(h, n);
-    if !rows.ok {
+    let Some(end) = rows_fit(h, n) else {
         return false;
-    }
-    let end = rows.end;
+    };
     let rows = layout::NODE_BYTES * n;
     zeros(h, layout::NODES + rows, layout::ALL_NODE_BYTES - rows)
         & zeros(h, layout::STRINGS + end, layout::STRING_BYTES - end)

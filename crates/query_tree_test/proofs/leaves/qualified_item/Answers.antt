@@ -5,8 +5,6 @@ use Rattle.query_tree_spelling.specs.Spelled.{cost_reference}
 use Rattle.query_tree_test.proofs.Caps.{leaf_sized, cuts_plus}
 use Rattle.query_tree_test.proofs.leaves.qualified_item.Goals as goal
 
--- lost: slice-aggregate-same-bytes : tie.Need-slice-aggregate-same-bytes
--- slice-aggregate-same-bytes c = search rules
 
 pub returns : goal.returns
 unfolding cost_reference

@@ -1,7 +1,0 @@
-use Rattle.query_tree_test.proofs.testing.last_comparator.Goals as goal
-
-pub returns-then-tag : goal.returns-then-tag
-returns-then-tag c = rw c.if-tag.true
-
-pub returns-else-tag : goal.returns-else-tag
-returns-else-tag c = rw c.if-tag.false
