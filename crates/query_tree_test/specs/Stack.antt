@@ -1,5 +1,5 @@
 -- Working definitions: the stack of the pass in a table, and what a node makes of the parts at its top.
-use Rattle.std.specs.Prelude.{ℕ, zero, suc, ◌+◌, true, false, ◌&&◌, List, [], ◌∷◌, length, get_or, Option, Some, None}
+use Rattle.std.specs.Prelude.{ℕ, zero, suc, ◌+◌, true, false, ◌&&◌, List, [], ◌∷◌, length, get_or, Option, Some}
 use Rattle.text.specs.Bytes.{Bytes, bytes, same}
 use Rattle.text.specs.Table.{tabulate}
 use Rattle.names.specs.Names.{is_composed_name, is_composed_namespace}

@@ -6,7 +6,8 @@ ghost use Rattle.query_tree.specs.Pass.{is_query, full_bytes, subquery_item, pro
 
 use crate::leaves::length_of;
 use crate::shapes::{
-    alike, full_bytes, is_alternatives, is_good, is_or, is_property, is_query, is_two, item_of,
+    alike, full_bytes, is_alternatives, is_good, is_or, is_property, is_query, is_two, up_to_bytes,
+    up_to_levels,
 };
 use names::is_composed_property_name;
 use query_tree::{Item, Shape};
@@ -25,7 +26,7 @@ fn is_size(n: usize, at: usize, from: usize) -> bool
 }
 
 // Bytes, and depth, of a part that stands in a group of its own or not.
-fn wrapped(grouped: bool, i: Item) -> u32
+fn wrapped(grouped: bool, i: Item) -> usize
     ensures { result ≡ wrapped_if grouped (full_bytes i) }
 {
     let n = full_bytes(i);
@@ -43,19 +44,19 @@ fn under(grouped: bool, n: u16) -> usize
 pub fn subquery_item(i: Item) -> Option<Item>
     ensures { result ≡ subquery_item i }
 {
-    let bytes = 7 + (full_bytes(i) as usize);
+    let bytes = 7 + full_bytes(i);
     let depth = usize::from(i.depth) + 1;
     let good = is_good(i);
-    let item = item_of(
-        Shape::Alternatives,
-        i.from,
-        0,
-        true,
-        false,
-        good,
-        bytes,
-        depth,
-    );
+    let item = Item {
+        shape: Shape::Alternatives,
+        from: i.from,
+        names: 0,
+        one: true,
+        leads: false,
+        kept: good,
+        bytes: up_to_bytes(bytes),
+        depth: up_to_levels(depth),
+    };
     only_if(is_query(i.shape), item)
 }
 
@@ -65,7 +66,16 @@ pub fn property_item(x: &[u8], i: Item) -> Option<Item>
     let bytes = 6 + length_of(x) + usize::from(i.bytes);
     let kept = is_composed_property_name(x) & i.kept;
     let depth = usize::from(i.depth);
-    let item = item_of(Shape::Property, i.from, 1, true, false, kept, bytes, depth);
+    let item = Item {
+        shape: Shape::Property,
+        from: i.from,
+        names: 1,
+        one: true,
+        leads: false,
+        kept,
+        bytes: up_to_bytes(bytes),
+        depth: up_to_levels(depth),
+    };
     only_if(is_alternatives(i.shape), item)
 }
 
@@ -76,16 +86,16 @@ pub fn link_item(x: &[u8], i: Item) -> Option<Item>
     let bytes = usize::from(i.bytes) + (length_of(x) + 1);
     let kept = is_composed_property_name(x) & ((names <= 8) & i.kept);
     let depth = usize::from(i.depth);
-    let item = item_of(
-        Shape::Property,
-        i.from,
-        names,
-        true,
-        false,
+    let item = Item {
+        shape: Shape::Property,
+        from: i.from,
+        names: up_to_levels(names),
+        one: true,
+        leads: false,
         kept,
-        bytes,
-        depth,
-    );
+        bytes: up_to_bytes(bytes),
+        depth: up_to_levels(depth),
+    };
     only_if(is_property(i.shape), item)
 }
 
@@ -97,7 +107,16 @@ pub fn bar_item(at: usize, n: usize, i: Item, j: Item) -> Option<Item>
     let bytes = usize::from(i.bytes) + (2 + usize::from(j.bytes));
     let kept = i.kept & (j.one & j.kept);
     let depth = usize::from(i.depth).max(usize::from(j.depth));
-    let item = item_of(i.shape, i.from, 0, false, i.leads, kept, bytes, depth);
+    let item = Item {
+        shape: i.shape,
+        from: i.from,
+        names: 0,
+        one: false,
+        leads: i.leads,
+        kept,
+        bytes: up_to_bytes(bytes),
+        depth: up_to_levels(depth),
+    };
     only_if(alike(i.shape, j.shape) & is_size(n, at, j.from), item)
 }
 
@@ -113,19 +132,19 @@ pub fn or_item(at: usize, n: usize, i: Item, j: Item) -> Option<Item>
     ensures { result ≡ or_item at n i j }
 {
     let grouped = is_or(j.shape);
-    let bytes = (full_bytes(i) as usize) + (2 + (wrapped(grouped, j) as usize));
+    let bytes = full_bytes(i) + (2 + wrapped(grouped, j));
     let depth = usize::from(i.depth).max(under(grouped, j.depth));
     let kept = is_good(i) & is_good(j);
-    let item = item_of(
-        Shape::Disjunction,
-        i.from,
-        0,
-        false,
-        false,
+    let item = Item {
+        shape: Shape::Disjunction,
+        from: i.from,
+        names: 0,
+        one: false,
+        leads: false,
         kept,
-        bytes,
-        depth,
-    );
+        bytes: up_to_bytes(bytes),
+        depth: up_to_levels(depth),
+    };
     only_if(are_queries(n, at, i, j), item)
 }
 
@@ -135,18 +154,18 @@ pub fn and_item(at: usize, n: usize, i: Item, j: Item) -> Option<Item>
 {
     let left = is_or(i.shape);
     let right = is_two(j.shape);
-    let bytes = (wrapped(left, i) as usize) + (wrapped(right, j) as usize);
+    let bytes = wrapped(left, i) + wrapped(right, j);
     let depth = under(left, i.depth).max(under(right, j.depth));
     let kept = is_good(i) & is_good(j);
-    let item = item_of(
-        Shape::Conjunction,
-        i.from,
-        0,
-        false,
-        false,
+    let item = Item {
+        shape: Shape::Conjunction,
+        from: i.from,
+        names: 0,
+        one: false,
+        leads: false,
         kept,
-        bytes,
-        depth,
-    );
+        bytes: up_to_bytes(bytes),
+        depth: up_to_levels(depth),
+    };
     only_if(are_queries(n, at, i, j), item)
 }

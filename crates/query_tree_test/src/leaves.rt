@@ -8,7 +8,7 @@ ghost use Rattle.language.specs.QueryText.{is_category_of};
 ghost use Rattle.query_tree_spelling.specs.Spelled.{spelled_value, cost_reference};
 ghost use Rattle.query_tree.specs.Pass.{up_to_bytes, leaf_item};
 
-use crate::shapes::{item_of, up_to_bytes};
+use crate::shapes::up_to_bytes;
 use language::{SurfaceComparator, is_equal, word_length};
 use names::{is_composed_name, is_composed_namespace};
 use query_tree::{Item, Shape};
@@ -21,7 +21,16 @@ use values::is_value;
 fn leaf_item(shape: Shape, at: usize, leads: bool, kept: bool, n: usize) -> Item
     ensures { result ≡ leaf_item shape at leads kept n }
 {
-    item_of(shape, at, 0, true, leads, kept, n, 0)
+    Item {
+        shape,
+        from: at,
+        names: 0,
+        one: true,
+        leads,
+        kept,
+        bytes: up_to_bytes(n),
+        depth: 0,
+    }
 }
 
 // A text's length, up to the first that is too large.

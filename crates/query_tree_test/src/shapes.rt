@@ -1,6 +1,6 @@
 // Shapes and counts of parts.
 ghost use Rattle.std.specs.Prelude.{◌≡◌};
-ghost use Rattle.query_tree.specs.Pass.{alike as are_alike, is_query, is_or, is_two, is_property, is_alternatives, bracket as bracket_of, full_bytes, is_good, up_to_bytes, up_to_levels, item_of};
+ghost use Rattle.query_tree.specs.Pass.{alike as are_alike, is_query, is_or, is_two, is_property, is_alternatives, bracket as bracket_of, full_bytes, is_good, up_to_bytes, up_to_levels};
 
 use query_tree::{Item, Shape};
 
@@ -57,10 +57,10 @@ fn bracket(s: Shape) -> u16
 }
 
 // A part's bytes with its brackets.
-pub fn full_bytes(i: Item) -> u32
+pub fn full_bytes(i: Item) -> usize
     ensures { result ≡ full_bytes i }
 {
-    u32::from(bracket(i.shape)) + u32::from(i.bytes)
+    usize::from(bracket(i.shape)) + usize::from(i.bytes)
 }
 
 // Whether the rules are kept, as an operand or as a whole.
@@ -77,33 +77,8 @@ pub fn up_to_bytes(n: usize) -> u16
     n.min(1025) as u16
 }
 
-fn up_to_levels(n: usize) -> u16
+pub fn up_to_levels(n: usize) -> u16
     ensures { result ≡ up_to_levels n }
 {
     n.min(9) as u16
-}
-
-// A part, by counts of any size.
-pub fn item_of(
-    shape: Shape,
-    from: usize,
-    names: usize,
-    one: bool,
-    leads: bool,
-    kept: bool,
-    bytes: usize,
-    depth: usize,
-) -> Item
-    ensures { result ≡ item_of shape from names one leads kept bytes depth }
-{
-    Item {
-        shape,
-        from,
-        names: up_to_levels(names),
-        one,
-        leads,
-        kept,
-        bytes: up_to_bytes(bytes),
-        depth: up_to_levels(depth),
-    }
 }

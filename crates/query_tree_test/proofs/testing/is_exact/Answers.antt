@@ -1,6 +1,5 @@
 use mathlib.Core.Path.{◌∙◌}
 use native.Mathlib.Omega.{arith}
-use borrow.Author.Tests.{not-true, not-false}
 use Rattle.query_tree_test.proofs.Loops.{exact_many, exact_unfit, exact_is}
 use Rattle.query_tree_test.proofs.testing.is_exact.Goals as goal
 
