@@ -86,12 +86,10 @@ impl PageSet {
     {
         let words = self.words;
         let mut n: usize = 0;
-        let mut page: usize = 0;
-        while page < 256 {
+        for page in 0..256 {
             if mark_at(&words, page) {
                 n += 1;
             }
-            page += 1;
         }
         n
     }
