@@ -6,9 +6,8 @@ ghost use Rattle.register_form_bytes.specs.Writing.{first_of};
 ghost use Rattle.register_form_assembly.specs.Counting.{text_bytes, link_bytes, value_bytes, form_bytes, term_bytes_by, capped, SizesAdded};
 ghost use Rattle.register_form_assembly.specs.Terms.{Filling};
 
-use dictionary::text_at;
+use dictionary::Texts;
 use register_form::{layout, minus};
-use register_form_bytes::regions::text_length;
 use tables::{get_or, put};
 use values::{Kind, kind_from, scalar_length};
 
@@ -49,14 +48,40 @@ fn low(c: u64) -> u16
 fn text_bytes(s: &[u8], starts: &[u32], lens: &[u16], i: u16) -> usize
     ensures { result ≡ text_bytes s.now starts.now lens.now i }
 {
-    usize::from(minus(text_length(s, starts, lens, i), 1))
+    usize::from(minus(
+        (Texts {
+            bytes: s,
+            starts,
+            lens,
+        })
+        .length(i),
+        1,
+    ))
 }
 
 fn link_bytes(s: &[u8], starts: &[u32], lens: &[u16], i: u16) -> usize
     ensures { result ≡ link_bytes s.now starts.now lens.now i }
 {
-    let bytes = minus(text_length(s, starts, lens, i), 1);
-    if get_or(text_at(s, starts, lens, i), 0, 0) == 0 {
+    let bytes = minus(
+        (Texts {
+            bytes: s,
+            starts,
+            lens,
+        })
+        .length(i),
+        1,
+    );
+    if get_or(
+        (Texts {
+            bytes: s,
+            starts,
+            lens,
+        })
+        .at(i),
+        0,
+        0,
+    ) == 0
+    {
         usize::from(bytes)
     } else {
         usize::from(bytes) + 1
@@ -103,7 +128,10 @@ pub fn count_texts(
     let mut sum = add_capped(before, 0);
     let mut i: u16 = 0;
     while i < n {
-        sum = add_capped(sum, text_bytes(s, starts, lens, get_or(items, usize::from(i), 0)));
+        sum = add_capped(
+            sum,
+            text_bytes(s, starts, lens, get_or(items, usize::from(i), 0)),
+        );
         i += 1;
     }
     sum

@@ -33,7 +33,11 @@ fn code_by(kinds: &[u8], numbers: &[u16], group: u8, c: u64) -> u64
     if group == 0 {
         return number_at(numbers, c);
     }
-    code_for(kind_from(get_or(kinds, (group - 1) as usize, 0)), numbers, c)
+    code_for(
+        kind_from(get_or(kinds, (group - 1) as usize, 0)),
+        numbers,
+        c,
+    )
 }
 
 // Writes term f, nine bytes.

@@ -1,8 +1,7 @@
 // The rows of a region, one behind the other from a place on.
-ghost use Rattle.std.specs.Prelude.{◌≡◌, length};
+ghost use Rattle.std.specs.Prelude.{◌≡◌};
 ghost use mathlib.Core.List.{flat_map};
-ghost use Rattle.sorting.specs.Listing.{listed};
-ghost use Rattle.dictionary.specs.Items.{text_at};
+ghost use Rattle.dictionary.specs.Items.{listed_in};
 ghost use Rattle.buffer.specs.Numbers.{starts_from};
 ghost use Rattle.register_form.specs.Form.{property_bytes, number_bytes, joined};
 ghost use Rattle.buffer.specs.Writing.{written};
@@ -10,7 +9,7 @@ ghost use Rattle.register_form_bytes.specs.Writing.{picked, first_of, rows_of};
 
 use crate::put_property;
 use buffer::{put_bytes, put_two};
-use dictionary::text_at;
+use dictionary::Listing;
 use tables::get_or;
 
 // The first n properties.
@@ -76,55 +75,31 @@ pub fn put_picked(h: &mut [u8], at: u16, table: &[u16], picks: &[u16], n: u16)
     }
 }
 
-// The texts of the first n references.
-pub fn put_texts(
-    h: &mut [u8],
-    at: u16,
-    s: &[u8],
-    starts: &[u32],
-    lens: &[u16],
-    refs: &[u16],
-    n: u16,
-)
-    ensures { h.new ≡ written h.old at (joined (listed (text_at s.now starts.now lens.now) refs.now n)) }
+// The texts of a list.
+pub fn put_texts(h: &mut [u8], at: u16, list: Listing)
+    ensures { h.new ≡ written h.old at (joined (listed_in list.entry)) }
 {
     let mut to = usize::from(at);
-    for i in 0..n {
+    for i in 0..list.count {
         if h.len() <= to {
             return;
         }
-        let t = text_at(s, starts, lens, get_or(refs, usize::from(i), 0));
+        let t = list.texts.at(get_or(list.refs, usize::from(i), 0));
         put_bytes(h, to, t);
         to += t.len();
     }
 }
 
-// How long an item's text is.
-pub fn text_length(s: &[u8], starts: &[u32], lens: &[u16], i: u16) -> u16
-    ensures { result ≡ length (text_at s.now starts.now lens.now i) }
-{
-    let t = text_at(s, starts, lens, i);
-    t.len() as u16
-}
-
-// Where the texts of the first n references begin when they stand one behind the other, and where the last ends.
-pub fn put_starts(
-    h: &mut [u8],
-    at: u16,
-    s: &[u8],
-    starts: &[u32],
-    lens: &[u16],
-    refs: &[u16],
-    n: u16,
-)
-    ensures { h.new ≡ written h.old at (number_bytes (starts_from 0 (listed (text_at s.now starts.now lens.now) refs.now n))) }
+// Where the texts of a list begin when they stand one behind the other, and where the last ends.
+pub fn put_starts(h: &mut [u8], at: u16, list: Listing)
+    ensures { h.new ≡ written h.old at (number_bytes (starts_from 0 (listed_in list.entry))) }
 {
     let base = usize::from(at);
     let mut sum: usize = 0;
-    for i in 0..n {
+    for i in 0..list.count {
         let k = usize::from(i);
         put_two(h, base + 2 * k, sum);
-        sum += usize::from(text_length(s, starts, lens, get_or(refs, k, 0)));
+        sum += usize::from(list.texts.length(get_or(list.refs, k, 0)));
     }
-    put_two(h, base + 2 * usize::from(n), sum);
+    put_two(h, base + 2 * usize::from(list.count), sum);
 }

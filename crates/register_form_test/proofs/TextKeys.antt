@@ -13,7 +13,7 @@ use Rattle.text.specs.Bytes.{Bytes, order_of}
 use Rattle.text.specs.Keys.{key_to}
 use Rattle.text.proofs.Keys.{Small, part_small, key_take, key_order}
 use Rattle.sorting.specs.Ascending.{is_less}
-use Rattle.sorting.proofs.Canonical.{left_of}
+use Rattle.sorting.proofs.Canonical.{left_of, less_is_lt}
 use Rattle.register_form.specs.Form.{text_start, text_at}
 use Rattle.register_form_test.specs.Loops.{climbs}
 use Rattle.register_form_test.proofs.TermWays.{less_number}
@@ -69,4 +69,4 @@ module _ (h : Bytes) (small : Small h) where
       let first : a ≡ key_to n s = m ∙ rw (p', p) (sym (key_text (x - 1) n (rw e at k))) ∙ ap (key_to n) (sym e) in
       let second : b ≡ key_to n t = o ∙ rw (q', q) (sym (key_text x n (rw f at l))) ∙ ap (key_to n) (sym f) in
       let order = key_order s t (rw e (text_small (x - 1))) (rw f (text_small x)) n (λ w. d (first ∙ w ∙ sym second)) in
-      climbs_on (text_at h) x s t (order_of s t) (ltb a b) z e f refl (sym (ap is_less order ∙ rw (← first, ← second) (less_number a b)))
+      climbs_on (text_at h) x s t (order_of s t) (ltb a b) z e f refl (sym (less_is_lt (order_of s t) ∙ ap is_less order ∙ rw (← first, ← second) (less_number a b)))

@@ -9,12 +9,14 @@ use lib.ListN.{length, get_or}
 use borrow.Author.Tests.{eq-eqb, ne_eqb, ltb-true}
 use Rattle.text.specs.Bytes.{Bytes, order_of, all}
 use Rattle.text.specs.Class.{is_other}
+use Rattle.std.specs.Ordering.{is_lt}
 use Rattle.std.specs.declared.cmp.Ordering.{Ordering}
 use Rattle.names.specs.Names.{is_composed_name, is_composed_namespace, is_composed_property_name}
 use Rattle.values.specs.ByteRules.{name_class}
 use Rattle.values.proofs.Ruling.{class_two}
 use Rattle.language.specs.Rules.{is_identifier}
 use Rattle.sorting.specs.Ascending.{is_less}
+use Rattle.sorting.proofs.Canonical.{less_is_lt}
 use Rattle.register_form.specs.Dictionary.{space_of, name_of, identifier_of}
 use Rattle.register_form.specs.Form.{text_count, text_start, text_at}
 use Rattle.register_form.specs.Tests.{is_labelled, is_plain}
@@ -38,8 +40,8 @@ module _ (f : ℕ → Bytes) where
   climbs_at zero n = absurd (n refl)
   climbs_at (suc i) n = let m : suc i - 1 ≡ i = omega arith in rw m
 
-  pub climbs_on : (i : ℕ) (s t : Bytes) (o : Ordering) (r : Bool) → (i ≡ 0 → ⊥) → s ≡ f (i - 1) → t ≡ f i → o ≡ order_of s t → r ≡ is_less o → r ≡ climbs f i
-  climbs_on i s t o r n e k m q = q ∙ rw (m, e, k) (climbs_at i n)
+  pub climbs_on : (i : ℕ) (s t : Bytes) (o : Ordering) (r : Bool) → (i ≡ 0 → ⊥) → s ≡ f (i - 1) → t ≡ f i → o ≡ order_of s t → r ≡ is_lt o → r ≡ climbs f i
+  climbs_on i s t o r n e k m q = q ∙ less_is_lt o ∙ rw (m, e, k) (climbs_at i n)
 
 module _ (t n : Bytes) (z a : ℕ) (e : n ≡ name_of t) (f : z ≡ get_or t 0 0) (g : a ≡ name_class n) where
   pub class_plain : z ≡ 0 → a ≡ class_of t

@@ -11,7 +11,6 @@ use register_form::layout::TERMS;
 use register_form::{
     code_at, group_at, kind_at, minus, property_count, term_at, term_count, text_count,
 };
-use sorting::is_less;
 use tables::{get_or, put};
 use text::{compare, key_at};
 use values::{Kind, Scalar, in_range, scalar_length};
@@ -112,7 +111,7 @@ fn term_climbs(h: &[u8], f: u16) -> bool
             return x < y;
         }
     }
-    is_less(compare(term_at(h, before), term_at(h, f)))
+    compare(term_at(h, before), term_at(h, f)).is_lt()
 }
 
 // Whether terms keep the rules and ascend; marks the texts that they name as used, and writes how many bytes each counts for.

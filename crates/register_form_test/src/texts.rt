@@ -14,7 +14,6 @@ use register_form::{
     minus, name_at, name_number, name_of, property_count, space_of, text_at, text_count, text_end,
     text_start,
 };
-use sorting::is_less;
 use tables::{get_or, put};
 use text::{Class, all_in, compare_long, key_at};
 use values::rules::{byte_rules, name_class};
@@ -66,7 +65,7 @@ fn text_climbs<'a>(h: &'a [u8], t: &'a [u8], x: u16) -> bool
             return a < b;
         }
     }
-    is_less(compare_long(s, t))
+    compare_long(s, t).is_lt()
 }
 
 fn text_ok<'a>(h: &'a [u8], t: &'a [u8], x: u16) -> bool

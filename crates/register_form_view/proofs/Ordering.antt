@@ -8,6 +8,7 @@ use borrow.Author.Tests.{lt-ltb, le-ltb, ltb-true, ltb-false}
 use lib.Dec.{ltb}
 use lib.ListN.{length, get_or}
 use Rattle.text.specs.Bytes.{Bytes, part, numbers, order_of}
+use Rattle.std.specs.Ordering.{is_eq}
 use Rattle.std.specs.declared.cmp.Ordering.{Ordering}
 use Rattle.std.specs.declared.cmp.Ordering.TheVariants.{Less, Equal, Greater}
 use Rattle.text.specs.declared.Span.{Span}
@@ -20,7 +21,7 @@ use Rattle.values.specs.declared.Scalar.{Scalar}
 use Rattle.values.specs.declared.Split.{Split}
 use Rattle.query_core.specs.declared.Constant.{Constant}
 use Rattle.sorting.specs.Ascending.{is_less, is_equal, ascends, rank}
-use Rattle.sorting.proofs.Canonical.{less_is, equal_is}
+use Rattle.sorting.proofs.Canonical.{less_is, equal_is, equal_is_eq}
 use Rattle.sorting.proofs.Orders.{bytes_total}
 use Rattle.sorting.proofs.Ranks.{rank_above, rank_below, rank_at}
 use Rattle.register_form.specs.Dictionary.{labelled, name_of}
@@ -91,9 +92,9 @@ module _ (h x : Bytes) (m w n : ℕ) (f : Ranked h Index.Names x m) (long : w �
   pub key_past : n ≤ m → Keyed h x (2 * w)
   key_past l = rw long (keyed (2 * m) (omega arith) (omega arith) (λ p b. absurd (omega arith)))
 
-  module _ (l : m < n) (r : Ordering) (e : r ≡ order_of (entry_at h Index.Names m) (plain_text x)) (b : Bool) (g : b ≡ is_equal r) where
+  module _ (l : m < n) (r : Ordering) (e : r ≡ order_of (entry_at h Index.Names m) (plain_text x)) (b : Bool) (g : b ≡ is_eq r) where
     there : is_equal (order_of (get_or texts m []) (plain_text x)) ≡ b
-    there = rw (entry_in_lem h Index.Names m (omega arith)) (sym (g ∙ ap is_equal e))
+    there = rw (entry_in_lem h Index.Names m (omega arith)) (sym (g ∙ equal_is_eq r ∙ ap is_equal e))
 
     pub key_at_lem : b ≡ true → Keyed h x (2 * w + 1)
     key_at_lem t =

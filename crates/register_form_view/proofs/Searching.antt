@@ -8,12 +8,13 @@ use borrow.Author.Tests.{le-ltb, lt-ltb}
 use lib.ListN.{length, get_or, drop, set, replicate, length-drop}
 use lib.Seq.{take_all}
 use Rattle.text.specs.Bytes.{Bytes, part, order_of}
+use Rattle.std.specs.Ordering.{is_lt, is_eq}
 use Rattle.std.specs.declared.cmp.Ordering.{Ordering}
 use Rattle.std.specs.declared.cmp.Ordering.TheVariants.{Less, Greater}
 use Rattle.text.proofs.Laws.{order_refl, order_eq}
 use Rattle.text.proofs.Tables.{length_tabulate, get_d_tabulate}
 use Rattle.sorting.specs.Ascending.{is_less, is_equal, ascends, rank}
-use Rattle.sorting.proofs.Canonical.{equal_is}
+use Rattle.sorting.proofs.Canonical.{equal_is, less_is_lt, equal_is_eq}
 use Rattle.sorting.proofs.Orders.{bytes_total}
 use Rattle.sorting.proofs.Ranks.{rank_most, rank_above, rank_below}
 use Rattle.register_form.specs.Dictionary.{labelled, term_of}
@@ -92,12 +93,12 @@ module _ (h : Bytes) (index : Index) (key : Bytes) where
   pub between_all : (n : ℕ) → n ≡ length (entries_in h index) → Between h index key 0 n
   between_all n e = record { ordered = omega arith; most = omega arith; are = λ p. (omega arith, omega (arith, rank_most order_of bytes_total (key_of index key) (entries_in h index))) }
 
-  module _ (lo hi m : ℕ) (r : Ordering) (b : Bool) (w : Between h index key lo hi) (low : lo ≤ m) (k : m < hi) (c : r ≡ order_of (entry_at h index m) (key_of index key)) (g : b ≡ is_less r) where
+  module _ (lo hi m : ℕ) (r : Ordering) (b : Bool) (w : Between h index key lo hi) (low : lo ≤ m) (k : m < hi) (c : r ≡ order_of (entry_at h index m) (key_of index key)) (g : b ≡ is_lt r) where
     inside : m < length (entries_in h index)
     inside = omega (arith, w.most)
 
     there : is_less (order_of (get_or (entries_in h index) m []) (key_of index key)) ≡ b
-    there = rw (entry_in_lem h index m inside) (sym (g ∙ ap is_less c))
+    there = rw (entry_in_lem h index m inside) (sym (g ∙ less_is_lt r ∙ ap is_less c))
 
     pub between_up : b ≡ true → Between h index key (m + 1) hi
     between_up t = record { ordered = omega arith; most = w.most; are = λ p. (omega (arith, rank_above order_of bytes_total (key_of index key) (entries_in h index) m [] p inside (there ∙ t)), (w.are p).1) }
@@ -115,19 +116,19 @@ module _ (h : Bytes) (index : Index) (key : Bytes) where
     unfolding Located Ranked
     located_past l p k = omega (arith, f p, number_small (entries_in h index) p (key_of index key) k)
 
-    module _ (l : m < n) (r : Ordering) (e : r ≡ order_of (entry_at h index m) (key_of index key)) (b : Bool) (g : b ≡ is_equal r) where
+    module _ (l : m < n) (r : Ordering) (e : r ≡ order_of (entry_at h index m) (key_of index key)) (b : Bool) (g : b ≡ is_eq r) where
       order_there : r ≡ order_of (get_or (entries_in h index) m []) (key_of index key)
       order_there = rw (entry_in_lem h index m (omega arith)) e
 
       pub located_at : b ≡ true → Located h index key (Found.At m)
       unfolding Located
-      located_at t = (omega arith, order_eq _ _ (sym order_there ∙ equal_is r (sym g ∙ t)))
+      located_at t = (omega arith, order_eq _ _ (sym order_there ∙ equal_is r (sym (g ∙ equal_is_eq r) ∙ t)))
 
       pub located_none : b ≡ false → Located h index key Found.Nothing
       unfolding Located Ranked
       located_none t p k =
           let at : get_or (entries_in h index) m [] ≡ key_of index key = ap (λ (j : ℕ). get_or (entries_in h index) j []) (f p) ∙ number_back (entries_in h index) p (key_of index key) k in
-          absurd (true≢false (sym (g ∙ ap is_equal (order_there ∙ ap (λ (z : Bytes). order_of z (key_of index key)) at ∙ order_refl (key_of index key))) ∙ t))
+          absurd (true≢false (sym (g ∙ equal_is_eq r ∙ ap is_equal (order_there ∙ ap (λ (z : Bytes). order_of z (key_of index key)) at ∙ order_refl (key_of index key))) ∙ t))
 
 -- The place of a term that was found has one behind it.
 pub place_small : (h key : Bytes) (r : Found) (f : ℕ) → ((i : ℕ) → get_or h i 0 < 256) → Located h Index.Terms key r → r ≡ Found.At f → f + 1 < 65536

@@ -11,7 +11,6 @@ ghost use Rattle.register_form_view.specs.Ranges.{entries_in, entry_at, key_of, 
 
 use crate::{Found, Index, TermRange, property_place};
 use register_form::{kind_at, property_count, term_at, term_count, text_at, text_count};
-use sorting::{is_equal, is_less};
 use std::cmp::Ordering;
 use tables::get_or;
 use text::{compare, part};
@@ -60,7 +59,7 @@ pub fn find(h: &[u8], index: Index, key: &[u8]) -> u16
     let mut hi = entry_count(h, index);
     while lo < hi {
         let m = lo + (hi - lo) / 2;
-        if is_less(compare_entry(h, index, m, key)) {
+        if compare_entry(h, index, m, key).is_lt() {
             lo = m + 1;
         } else {
             hi = m;
@@ -77,7 +76,7 @@ pub fn binary_search(h: &[u8], index: Index, key: &[u8]) -> Found
     if entry_count(h, index) <= m {
         return Found::Nothing;
     }
-    if is_equal(compare_entry(h, index, m, key)) {
+    if compare_entry(h, index, m, key).is_eq() {
         Found::At(m)
     } else {
         Found::Nothing

@@ -10,7 +10,6 @@ use crate::ranges::{compare_entry, entry_count, find};
 use crate::{Index, Rank, ValueTest};
 use query_core::Constant;
 use register_form::name_at;
-use sorting::is_equal;
 use std::cmp::Ordering;
 use text::{compare, part};
 
@@ -31,7 +30,7 @@ fn name_key(h: &[u8], x: &[u8]) -> u64
     if entry_count(h, Index::Names) <= m {
         return below;
     }
-    if is_equal(compare_entry(h, Index::Names, m, x)) {
+    if compare_entry(h, Index::Names, m, x).is_eq() {
         below + 1
     } else {
         below

@@ -6,7 +6,7 @@ ghost use Rattle.register_form.specs.Tables.{tables_of};
 ghost use Rattle.register_form_write.specs.Writer.{TermsWritten, NumberedWritten, DraftWritten, OrderedWritten};
 
 use crate::kept::write_kept;
-use dictionary::{number, number_of};
+use dictionary::{Texts, number, number_of};
 use register_form::layout;
 use register_form_assembly::terms::{put_own, put_term_starts, put_terms};
 
@@ -51,10 +51,13 @@ fn write_terms(
     let mut scratch = [0u16; layout::DRAFT_FORMS];
     put_terms(kinds, numbers, groups, codes, terms, &mut table);
     put_term_starts(&mut tstarts, terms);
+    let listed = Texts {
+        bytes: &table,
+        starts: &tstarts,
+        lens: &tlens,
+    };
     let nt = number_of(
-        &table,
-        &tstarts,
-        &tlens,
+        listed,
         terms,
         &mut trefs,
         &mut tnumbers,
@@ -161,7 +164,12 @@ pub fn write_draft(
     let mut refs = [0u16; layout::DRAFT_TEXTS];
     let mut numbers = [0u16; layout::DRAFT_TEXTS];
     let mut scratch = [0u16; layout::DRAFT_TEXTS];
-    let nx = number(s, starts, lens, m, &mut refs, &mut numbers, &mut scratch) as u16;
+    let texts = Texts {
+        bytes: s,
+        starts,
+        lens,
+    };
+    let nx = number(texts, m, &mut refs, &mut numbers, &mut scratch) as u16;
     write_numbered(
         s,
         starts,

@@ -7,6 +7,7 @@ ghost use Rattle.register_form_write.specs.Writer.{row_regions, list_regions, Fi
 
 use crate::{TOO_SHORT, WRITTEN};
 use buffer::clear;
+use dictionary::{Listing, Texts};
 use register_form::{REGISTER_BYTES, layout};
 use register_form_bytes::put_counts;
 use register_form_bytes::regions::{
@@ -69,9 +70,27 @@ fn write_lists(
 )
     ensures { h.new ≡ put_regions 5322 (list_regions (listed (text_at table.now tstarts.now tlens.now) trefs.now nt) (listed (text_at s.now starts.now lens.now) refs.now nx)) h.old }
 {
-    put_texts(h, TERMS, table, tstarts, tlens, trefs, nt);
-    put_starts(h, TEXT_STARTS, s, starts, lens, refs, nx);
-    put_texts(h, TEXTS, s, starts, lens, refs, nx);
+    let terms = Listing {
+        texts: Texts {
+            bytes: table,
+            starts: tstarts,
+            lens: tlens,
+        },
+        refs: trefs,
+        count: nt,
+    };
+    let texts = Listing {
+        texts: Texts {
+            bytes: s,
+            starts,
+            lens,
+        },
+        refs,
+        count: nx,
+    };
+    put_texts(h, TERMS, terms);
+    put_starts(h, TEXT_STARTS, texts);
+    put_texts(h, TEXTS, texts);
 }
 
 // Writes the regions over zeros, where the buffer is as long as a held register.

@@ -8,7 +8,7 @@ ghost use Rattle.register_text_verdict.specs.Checks.{some_fails, twice_in, inner
 use super::Check;
 use super::checks::{are_alike, bit_of, row_fails};
 use super::declarations::list_names;
-use dictionary::build;
+use dictionary::{Texts, build};
 use register_text_entries::Tag;
 use register_text_entries::table::item_at;
 use tables::get_or;
@@ -67,7 +67,12 @@ fn twice_by_sorting(s: &[u8], t: &[u16], rows: &[u16], m: usize) -> bool
     }
     let mut refs = [0u16; 2560];
     let mut reps = [0u16; 2560];
-    build(s, &starts, &lens, m as u16, &mut refs, &mut reps) < m
+    let texts = Texts {
+        bytes: s,
+        starts: &starts,
+        lens: &lens,
+    };
+    build(texts, m as u16, &mut refs, &mut reps) < m
 }
 
 // The same, of few and of many.

@@ -14,17 +14,17 @@ overflow_add-m c = omega arith
 pub overflow_add-lo : goal.overflow_add-lo
 overflow_add-lo c = omega arith
 
-pub loop-lo-smaller-then-is_less : goal.loop-lo-smaller-then-is_less
-loop-lo-smaller-then-is_less c = omega arith
+pub loop-lo-smaller-then-is_lt : goal.loop-lo-smaller-then-is_lt
+loop-lo-smaller-then-is_lt c = omega arith
 
-pub loop-lo-preserved-then-is_less : goal.loop-lo-preserved-then-is_less
-loop-lo-preserved-then-is_less c = between_up _ _ _ _ _ _ _ _ c.loop-lo.invariant (omega arith) (omega arith) c.compare_entry.ensures c.is_less.ensures c.if-is_less.true
+pub loop-lo-preserved-then-is_lt : goal.loop-lo-preserved-then-is_lt
+loop-lo-preserved-then-is_lt c = between_up _ _ _ _ _ _ _ _ c.loop-lo.invariant (omega arith) (omega arith) c.compare_entry.ensures c.is_lt.ensures c.if-is_lt.true
 
 pub loop-lo-smaller : goal.loop-lo-smaller
 loop-lo-smaller c = omega arith
 
 pub loop-lo-preserved : goal.loop-lo-preserved
-loop-lo-preserved c = between_down _ _ _ _ _ _ _ _ c.loop-lo.invariant (omega arith) (omega arith) c.compare_entry.ensures c.is_less.ensures c.if-is_less.false
+loop-lo-preserved c = between_down _ _ _ _ _ _ _ _ c.loop-lo.invariant (omega arith) (omega arith) c.compare_entry.ensures c.is_lt.ensures c.if-is_lt.false
 
 pub returns : goal.returns
 returns c = ranked_between _ _ _ _ _ c.loop-lo.invariant c.loop-lo-test.false
