@@ -144,6 +144,14 @@ module _ (l : List Node) (x : Node) where
   length_more : length (strings (l ++ (x ∷ []))) ≡ length (strings l) + length (string_of x)
   length_more = ap length strings_more ∙ length-append (strings l) (string_of x)
 
+-- A row has the lowest 16 bits of a number.
+row_narrow : (t c n a b : ℕ) → row_bytes (row_of t c (n % 65536) a b) ≡ row_bytes (row_of t c n a b)
+unfolding row_bytes
+row_narrow t c n a b =
+    let low : n % 65536 % 256 ≡ n % 256 = omega arith in
+    let high : n % 65536 / 256 % 256 ≡ n / 256 % 256 = omega arith in
+    rw (low, high)
+
 length_row : (r : Row) → length (row_bytes r) ≡ 6
 unfolding row_bytes
 length_row r = refl
@@ -184,7 +192,7 @@ module _ (s t : Bytes) (p : Place) (x : TreeNode) (e : Entry) (u v : Bytes) (g :
   unput : (t' : Bytes) → length t' ≡ length t → (Roomy → ⊥) → AddsNode t' p
   unput t' h n = record { long = h; laid = λ l f d. absurd (n (room_there l f d)) }
 
-  pub put_full : (r : Bool) → r ≡ has_room p.count p.end → not r ≡ true → AddsNode t p
+  pub put_full : (r : Bool) → r ≡ has_room p → not r ≡ true → AddsNode t p
   unfolding has_room
   put_full r h n = unput t refl (λ q. false≢true (sym (not-true r n) ∙ h ∙ both_true (lt-ltb p.count 681 q.few) (le-leb p.end 1024 q.short)))
 
@@ -202,8 +210,8 @@ module _ (s t : Bytes) (p : Place) (x : TreeNode) (e : Entry) (u v : Bytes) (g :
       pub put_longer : 64 < j → AddsNode t₂ p
       put_longer l = unput t₂ same_long (λ q. omega (arith, q.second, z.0))
 
-      pub put_is : (t₃ : Bytes) (c : ℕ) → c ≡ comparator_code e.comparator → t₃ ≡ written t₂ (2 + 6 * p.count) (row_bytes (row_of e.tag c e.number i j)) → AddsNode t₃ (record { count = p.count + 1; end = p.end + i + j })
-      put_is t₃ c ec e₃ =
+      pub put_is : (t₃ : Bytes) (c d : ℕ) → c ≡ comparator_code e.comparator → d ≡ e.number % 65536 → t₃ ≡ written t₂ (2 + 6 * p.count) (row_bytes (row_of e.tag c d i j)) → AddsNode t₃ (record { count = p.count + 1; end = p.end + i + j })
+      put_is t₃ c d ec ed e₃ =
           record {
             long = ap length e₃ ∙ length_written t₂ (2 + 6 * p.count) _ ∙ same_long;
             laid = λ l f d. record { bytes = bytes l f d; count = omega (arith, d.count, one_more l y); end = omega (arith, d.end, length_more l y, ap length tells.string, length-append a b, w.0, z.0) };
@@ -223,25 +231,26 @@ module _ (s t : Bytes) (p : Place) (x : TreeNode) (e : Entry) (u v : Bytes) (g :
               strung ∙ ap₂ (λ (h w : Bytes). written h (4088 + p.end) w) d.bytes tells.string
               ∙ written_texts (rows_from 0 l) (strings l) (string_of y) (4088 + p.end) (omega (arith, d.end)) (omega (arith, long, n, few)) (omega (arith, length_more l y, f.short)) in
               let second : t₃ ≡ zeros 2 ++ (padded 4086 (rows_from 0 l ++ row) ++ padded 1024 (strings l ++ string_of y)) =
-              e₃ ∙ ap₂ (λ (h : Bytes) (r : Row). written h (2 + 6 * p.count) (row_bytes r)) first (row_is ∙ ap (λ (m : ℕ). row_at m y) d.end)
+              e₃ ∙ ap (written t₂ (2 + 6 * p.count)) (ap (λ (n : ℕ). row_bytes (row_of e.tag c n i j)) ed ∙ row_narrow e.tag c e.number i j) ∙ ap₂ (λ (h : Bytes) (r : Row). written h (2 + 6 * p.count) (row_bytes r)) first (row_is ∙ ap (λ (m : ℕ). row_at m y) d.end)
               ∙ written_rows (rows_from 0 l) (strings l ++ string_of y) row (2 + 6 * p.count) (omega (arith, d.count, long)) (omega (arith, long, six, n, few)) in
               second ∙ ap₂ (λ (r w : Bytes). zeros 2 ++ (padded 4086 r ++ padded 1024 w)) (sym (rows_more l y)) (sym (strings_more l y))
 
 -- What the room allows.
-pub in_room : (c e : ℕ) (r : Bool) → r ≡ has_room c e → not r ≡ false → (c < 681) × (e ≤ 1024)
+pub in_room : (p : Place) (r : Bool) → r ≡ has_room p → not r ≡ false → (p.count < 681) × (p.end ≤ 1024)
 unfolding has_room
-in_room c e r h k = let a = and_true (ltb c 681) (leb e 1024) (sym h ∙ not-false r k) in (ltb-true c 681 a.0, leb-true e 1024 a.1)
+in_room p r h k = let a = and_true (ltb p.count 681) (leb p.end 1024) (sym h ∙ not-false r k) in (ltb-true p.count 681 a.0, leb-true p.end 1024 a.1)
 
 -- A row, byte by byte.
-pub row_written : (h : Bytes) (at t c n a b : ℕ) → set (set (set (set (set (set h at t) (at + 1) c) (at + 2) (n % 256)) (at + 3) (n / 256 % 256)) (at + 4) a) (at + 5) b ≡ written h at (row_bytes (row_of t c n a b))
+pub row_written : (h : Bytes) (at : ℕ) (r : Row) → r.number < 65536 → set (set (set (set (set (set h at r.tag) (at + 1) r.comparator) (at + 2) (r.number % 256)) (at + 3) (r.number / 256)) (at + 4) r.first) (at + 5) r.second ≡ written h at (row_bytes r)
 unfolding row_bytes written
-row_written h at t c n a b =
+row_written h at r small =
     let one : at + 1 ≡ suc at = omega arith in
     let two : at + 2 ≡ suc (suc at) = omega arith in
     let three : at + 3 ≡ suc (suc (suc at)) = omega arith in
     let four : at + 4 ≡ suc (suc (suc (suc at))) = omega arith in
     let five : at + 5 ≡ suc (suc (suc (suc (suc at)))) = omega arith in
-    rw (one, two, three, four, five)
+    let high : r.number / 256 ≡ r.number / 256 % 256 = omega (arith, small) in
+    rw (one, two, three, four, five, ← high)
 
 -- No nodes are laid into fewer bytes than a tree has.
 pub put_short : (y : Node) (t : Bytes) (p : Place) → length t < 5112 → Adds (y ∷ []) t p t p

@@ -37,9 +37,9 @@ entry_of end (TreeNode.Link p) = entry_with 11 SurfaceComparator.Equal end nowhe
 unfoldable pub string_as : Bool → Bytes → Bytes
 string_as typed s = cond typed s (composed_name s)
 
--- There is room for a node behind count others whose strings have end bytes.
-unfoldable pub has_room : ℕ → ℕ → Bool
-has_room count end = ltb count 681 && leb end 1024
+-- There is room for a node behind those that are there.
+unfoldable pub has_room : Place → Bool
+has_room p = ltb p.count 681 && leb p.end 1024
 
 -- The strings of a node have at most 64 bytes each.
 abbrev pub has_short : Node → Bool

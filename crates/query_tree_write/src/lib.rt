@@ -5,14 +5,15 @@ ghost use Rattle.std.specs.Prelude.{◌≡◌, ◌+◌, ◌≤◌, length};
 ghost use Rattle.buffer.specs.Numbers.{two_bytes};
 ghost use Rattle.buffer.specs.Writing.{written};
 ghost use Rattle.query_tree.specs.Nodes.{composed_node};
-ghost use Rattle.query_tree.specs.Form.{row_of, row_bytes};
+ghost use Rattle.query_tree.specs.Form.{row_bytes};
 ghost use Rattle.query_tree.specs.Reading.{node_by};
 ghost use Rattle.query_tree_write.specs.Laying.{entry_with, entry_of, string_as, has_room, Puts};
 
 use buffer::{put_bytes, put_two};
 use language::{SurfaceComparator, comparator_code};
 use names::put_composed;
-use query_tree::{TreeNode, layout};
+use query_tree::{Row, TreeNode, layout};
+use tables::narrow;
 use text::{Span, part};
 
 // How many nodes a tree has, and how many bytes their strings have.
@@ -76,7 +77,7 @@ fn entry_of(node: TreeNode, end: usize) -> Entry
 fn put_string(tree: &mut [u8], at: usize, typed: bool, s: &[u8]) -> usize
     ensures { (result ≡ length (string_as typed s.now)) × (tree.new ≡ written tree.old at (string_as typed s.now)) }
 {
-    if s.len() == 0 {
+    if s.is_empty() {
         return 0;
     }
     if typed {
@@ -86,32 +87,25 @@ fn put_string(tree: &mut [u8], at: usize, typed: bool, s: &[u8]) -> usize
     put_composed(tree, at, s)
 }
 
-// Whether there is room for a node behind count others whose strings have end bytes.
-fn has_room(count: usize, end: usize) -> bool
-    ensures { result ≡ has_room count end }
+// Whether there is room for a node behind those that are there.
+#[tactic(auto, unfolding(crate::specs::Laying::has_room))]
+fn has_room(at: Place) -> bool
+    ensures { result ≡ has_room at }
 {
-    (count < layout::MOST_NODES) & (end <= layout::STRING_BYTES)
+    (at.count < layout::MOST_NODES) & (at.end <= layout::STRING_BYTES)
 }
 
 // Writes a row. That there is room is tested once a node, so that a compiler writes many bytes at a time.
-fn put_row(
-    tree: &mut [u8],
-    at: usize,
-    tag: u8,
-    comparator: u8,
-    number: usize,
-    first: u8,
-    second: u8,
-)
+fn put_row(tree: &mut [u8], at: usize, row: Row)
     requires { at + 6 ≤ length tree.old }
-    ensures { tree.new ≡ written tree.old at (row_bytes (row_of tag comparator number first second)) }
+    ensures { tree.new ≡ written tree.old at (row_bytes row) }
 {
-    tree[at] = tag;
-    tree[at + 1] = comparator;
-    tree[at + 2] = (number % 256) as u8;
-    tree[at + 3] = (number / 256 % 256) as u8;
-    tree[at + 4] = first;
-    tree[at + 5] = second;
+    tree[at] = row.tag;
+    tree[at + 1] = row.comparator;
+    tree[at + 2] = (row.number % 256) as u8;
+    tree[at + 3] = (row.number / 256) as u8;
+    tree[at + 4] = row.first;
+    tree[at + 5] = row.second;
 }
 
 // Puts a node behind those that are there, where there is room, its names composed. Its strings are places in s; they are written before
@@ -125,13 +119,10 @@ pub fn put_node(s: &[u8], tree: &mut [u8], at: Place, node: TreeNode) -> Place
     let count = at.count;
     let end = at.end;
     let e = entry_of(node, end);
-    let comparator = e.comparator;
-    let first = e.first;
-    let second = e.second;
-    let a = part(s, first.start, first.len);
-    let b = part(s, second.start, second.len);
+    let a = part(s, e.first.start, e.first.len);
+    let b = part(s, e.second.start, e.second.len);
     let typed = e.tag == layout::VALUE;
-    if !has_room(count, end) {
+    if !has_room(at) {
         return at;
     }
     let n = put_string(tree, layout::STRINGS + end, false, a);
@@ -142,15 +133,14 @@ pub fn put_node(s: &[u8], tree: &mut [u8], at: Place, node: TreeNode) -> Place
     if 64 < m {
         return at;
     }
-    put_row(
-        tree,
-        layout::NODES + layout::NODE_BYTES * count,
-        e.tag,
-        comparator_code(comparator),
-        e.number,
-        n as u8,
-        m as u8,
-    );
+    let row = Row {
+        tag: e.tag,
+        comparator: comparator_code(e.comparator),
+        number: narrow(e.number),
+        first: n as u8,
+        second: m as u8,
+    };
+    put_row(tree, layout::NODES + layout::NODE_BYTES * count, row);
     Place {
         count: count + 1,
         end: end + n + m,

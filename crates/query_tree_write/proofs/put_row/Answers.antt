@@ -1,5 +1,6 @@
 use native.Mathlib.Omega.{arith}
 use lib.ListN.{length-set}
+use Rattle.std.proofs.Common.{rules}
 use Rattle.query_tree_write.proofs.Laws.{row_written}
 use Rattle.query_tree_write.proofs.put_row.Goals as goal
 
@@ -19,4 +20,4 @@ pub bounds-tree-at-6 : goal.bounds-tree-at-6
 bounds-tree-at-6 c = simp length-set (omega arith)
 
 pub returns : goal.returns
-returns c = row_written _ _ _ _ _ _ _
+returns c = row_written _ _ _ (search rules)
