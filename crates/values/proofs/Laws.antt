@@ -51,25 +51,25 @@ module _ (s : Bytes) (a d : Bool) (x : ℕ) (e : a ≡ is_sized s) (f : x ≡ fi
 
 -- The two ways to split a text.
 module _ (s : Bytes) (colon : ℕ) (q : colon ≡ 0 + span (is_other 58) s) where
-  pub split_qualified : (n x : Span) → colon < length s → Trimmed s 0 colon n → Trimmed s (colon + 1) (length s) x → Splits s (record { qualified = true; namespace = n; article = x })
+  pub split_qualified : (n x : Span) → colon < length s → Trimmed s 0 colon n → Trimmed s (colon + 1) (length s) x → Splits s (record { namespace = Some n; article = x })
   unfolding reference
   split_qualified n x h t u =
       let e : span (is_other 58) s ≡ colon = omega arith in
       let k = take_all (length s) (drop (colon + 1) s) (omega (arith, length-drop (colon + 1) s)) in
       record { is = rw (e, lt-ltb colon (length s) h, t.is, u.is, k, add-one); namespace = t.within; article = u.within }
 
-  pub split_bare : (x : Span) → length s ≤ colon → Trimmed s 0 (length s) x → Splits s (record { qualified = false; namespace = record { start = 0; len = 0 }; article = x })
+  pub split_bare : (x : Span) → length s ≤ colon → Trimmed s 0 (length s) x → Splits s (record { namespace = None; article = x })
   unfolding reference
   split_bare x h u =
       let e : span (is_other 58) s ≡ colon = omega arith in
-      record { is = rw (e, le-ltb colon (length s) h, u.is, take_all (length s) s (omega arith)); namespace = omega arith; article = u.within }
+      record { is = rw (e, le-ltb colon (length s) h, u.is, take_all (length s) s (omega arith)); namespace = tt; article = u.within }
 
 -- The two ways to judge a reference.
 module _ (s x : Bytes) (r : Split) (n : Bool) (p : Splits s r) (e : x ≡ part_of s r.article) (f : n ≡ is_name x) where
-  pub reference_qualified : (y : Bytes) (m : Bool) → r.qualified ≡ true → y ≡ part_of s r.namespace → m ≡ is_namespace y → (m && n) ≡ is_reference (reference s)
-  reference_qualified y m h g k = rw (← p.is, h, k, f, e, g)
+  pub reference_qualified : (k : Span) (y : Bytes) (m : Bool) → r.namespace ≡ Some k → y ≡ part_of s k → m ≡ is_namespace y → (m && n) ≡ is_reference (reference s)
+  reference_qualified k y m h g i = rw (← p.is, h, i, f, e, g)
 
-  pub reference_bare : r.qualified ≡ false → n ≡ is_reference (reference s)
+  pub reference_bare : r.namespace ≡ None → n ≡ is_reference (reference s)
   reference_bare h = rw (← p.is, h, f, e)
 
 -- Whether bytes, letters small, are a word.

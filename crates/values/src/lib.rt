@@ -39,8 +39,7 @@ pub enum Scalar {
 // A reference as written: where its namespace, if it has one, and its article name lie.
 #[derive(Clone, Copy)]
 pub struct Split {
-    pub qualified: bool,
-    pub namespace: Span,
+    pub namespace: Option<Span>,
     pub article: Span,
 }
 
@@ -81,20 +80,14 @@ pub fn split_reference(s: &[u8]) -> Split
 {
     let colon = scan(s, 0, Class::NoColon);
     if colon < s.len() {
-        let namespace = trimmed(s, 0, colon);
-        let article = trimmed(s, colon + 1, s.len());
         return Split {
-            qualified: true,
-            namespace,
-            article,
+            namespace: Some(trimmed(s, 0, colon)),
+            article: trimmed(s, colon + 1, s.len()),
         };
     }
-    let namespace = Span { start: 0, len: 0 };
-    let article = trimmed(s, 0, s.len());
     Split {
-        qualified: false,
-        namespace,
-        article,
+        namespace: None,
+        article: trimmed(s, 0, s.len()),
     }
 }
 
@@ -103,13 +96,10 @@ pub fn is_reference(s: &[u8]) -> bool
     ensures { result ≡ is_reference (reference s.now) }
 {
     let split = split_reference(s);
-    let n = split.namespace;
     let a = split.article;
     let named = is_name(part(s, a.start, a.len));
-    let qualified = split.qualified;
-    if qualified {
-        is_namespace(part(s, n.start, n.len)) & named
-    } else {
-        named
+    match split.namespace {
+        Some(n) => is_namespace(part(s, n.start, n.len)) & named,
+        None => named,
     }
 }
