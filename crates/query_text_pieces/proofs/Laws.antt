@@ -10,24 +10,25 @@ use native.Mathlib.Numerals.{add-one}
 use lib.Dec.{eqb}
 use lib.ListN.{length, take, drop, length-take, length-drop, drop_of_length-le}
 use lib.Seq.{drop-drop, drop-cons, take-take, take-nil}
+use Rattle.std.specs.Bool.{then_some}
 use Rattle.text.specs.Bytes.{Bytes, bytes, same, is_blank, span, starts, after, trim, part}
 use Rattle.text.specs.Class.{is_free, is_other}
-use Rattle.text.specs.Parts.{part_of, Trimmed}
+use Rattle.text.specs.Parts.{part_of, Within, Trimmed}
 use Rattle.text.specs.declared.Span.{Span}
 use Rattle.text.proofs.Laws.{starts_fits}
 use Rattle.names.specs.Names.{is_name, is_namespace}
-use Rattle.values.specs.Names.{reference, qualified, bare, is_reference}
+use Rattle.values.specs.Names.{Reference, reference, qualified, bare, is_reference}
 use Rattle.values.specs.Values.{map_option}
-use Rattle.values.specs.Answers.{split_of, Splits}
+use Rattle.values.specs.Answers.{reference_at, split_of, Splits}
 use Rattle.values.specs.declared.Split.{Split}
 use Rattle.language.specs.Answer.{only_if}
 use Rattle.language.specs.Comparators.{word, typed, first_typed, is_equal}
-use Rattle.language.specs.Surface.{single, chain}
+use Rattle.language.specs.Surface.{single, chain, Identifiers}
 use Rattle.language.specs.RawQuery.{token, next_term, comparator, piece_at, ends_head, head_length, split_dots, trim_names}
 use Rattle.language.specs.QueryText.{is_category, is_category_of, article_of, is_namespace_piece, is_plus_of, namespace_of, breaks_reference, identifier_of}
 use Rattle.language.specs.declared.SurfaceComparator.{SurfaceComparator}
 use Rattle.language.proofs.AllComparators.{typed_fits}
-use Rattle.query_text_pieces.specs.Places.{from, text_at, rest_of, inner_end, head_at, head_of, last_of, piece_of, SplitsAt, category_told, read_told}
+use Rattle.query_text_pieces.specs.Places.{from, text_at, rest_of, inner_end, head_at, head_of, last_of, piece_of, moved, SplitsAt, category_told, read_told}
 use Rattle.query_text_pieces.specs.declared.Placed.{Placed}
 use Rattle.query_text_pieces.specs.declared.Read.{Read}
 
@@ -197,77 +198,81 @@ unfolding last_of
 last_on s h at len i r p q l e = e ∙ sym (ap last_of (head_dot s h at len i p q l))
 
 -- References by their places.
-pub split_is : (s t : Bytes) (text : Span) (r : Split) → t ≡ part_of s text → Splits t r
-    → SplitsAt s text (record { qualified = r.qualified; namespace = record { start = text.start + r.namespace.start; len = r.namespace.len }; article = record { start = text.start + r.article.start; len = r.article.len } })
-split_is s t text r e h =
-    let f = rw e at h in
-    record {
-      is = rw (← part_part s text.start text.len r.namespace.start r.namespace.len f.namespace, ← part_part s text.start text.len r.article.start r.article.len f.article) f.is;
-      namespace = omega (arith, f.namespace);
-      article = omega (arith, f.article);
-    }
+module _ (s t : Bytes) (text : Span) (r : Split) (e : t ≡ part_of s text) (h : Splits t r) where
+  moved_part : (p : Span) → Within t p → part_of s (moved text.start p) ≡ part_of t p
+  moved_part p w = let u = rw e at w in rw e (sym (part_part s text.start text.len p.start p.len u))
 
-module _ (s : Bytes) (p : Placed) (r : Split) (b m : Bool) (e : split_of s r ≡ reference (part_of s p.text)) (f : b ≡ is_equal p.comparator) where
-  module _ (y : Bytes) (k : y ≡ part_of s r.namespace) (g : m ≡ same y (bytes "Category")) where
-    test : is_category (piece_of s p) ≡ (b && r.qualified && m)
-    test = rw (← e, ← f) (go b r.qualified)
+  ends_by : (p : Span) → Within t p → text.start + p.start + p.len ≤ text.start + length (part_of s text)
+  ends_by p w = let u = rw e at w in omega (arith, u)
+
+  split_is : (o : Option Span) → r.namespace ≡ o → reference_at t o r.article ≡ reference (part_of s text)
+  split_is o q = rw (← q, ← e) h.is
+
+  pub split_qualified : (n : Span) → r.namespace ≡ Some n → SplitsAt s text (record { namespace = Some (moved text.start n); article = moved text.start r.article })
+  split_qualified n q =
+      let w : Within t n = rw q at h.namespace in
+      record { is = rw (moved_part n w, moved_part r.article h.article) (split_is (Some n) q); namespace = ends_by n w; article = ends_by r.article h.article }
+
+  pub split_bare : r.namespace ≡ None → SplitsAt s text (record { namespace = None; article = moved text.start r.article })
+  split_bare q = record { is = rw (moved_part r.article h.article) (split_is None q); namespace = tt; article = ends_by r.article h.article }
+
+module _ (s : Bytes) (p : Placed) (r : Split) (e : split_of s r ≡ reference (part_of s p.text)) where
+  split_as : (o : Option Span) → r.namespace ≡ o → reference (part_of s p.text) ≡ reference_at s o r.article
+  split_as o q = sym e ∙ ap (λ (o : Option Span). reference_at s o r.article) q
+
+  -- The category name that an answer is to tell.
+  abbrev Category : Option Span → Type 0
+  Category x = category_told s x ≡ only_if (is_category (piece_of s p)) (Some (article_of (reference (part_of s p.text))))
+
+  pub category_bare : r.namespace ≡ None → Category None
+  unfolding category_told
+  category_bare q = rw (split_as None q) (go (is_equal p.comparator))
+    where
+      go : (b : Bool) → None ≡ only_if (b && false) (Some (part_of s r.article))
+      go true = refl
+      go false = refl
+
+  module _ (n : Span) (q : r.namespace ≡ Some n) (b m : Bool) (f : b ≡ is_equal p.comparator) (y : Bytes) (k : y ≡ part_of s n) (g : m ≡ same y (bytes "Category")) where
+    pub category_yes : (b && m) ≡ true → Category (Some r.article)
+    unfolding category_told
+    category_yes h = rw (split_as (Some n) q, ← f, ← k, ← g, h) refl
+
+    pub category_no : (b && m) ≡ false → Category None
+    unfolding category_told
+    category_no h = rw (split_as (Some n) q, ← f, ← k, ← g, h) refl
+
+  -- What an answer is to tell of a piece.
+  abbrev Reads : Option Read → Type 0
+  Reads x = read_told s x ≡ only_if (not (breaks_reference (piece_of s p))) (Some (identifier_of (piece_of s p)))
+
+  -- A reference that keeps the rule, or none.
+  abbrev reference_if : Bool → Option Read
+  reference_if fit = then_some fit (Read.Reference p.comparator p.text)
+
+  module _ (y : Bytes) (k : y ≡ part_of s r.article) (u : Bool) (v : u ≡ is_name y) where
+    pub reads_bare : r.namespace ≡ None → (x : Option Read) → x ≡ reference_if u → Reads x
+    unfolding read_told
+    reads_bare q x i = rw (i, split_as None q, ← k, ← v) (go (is_equal p.comparator) u)
       where
-        go : (b q : Bool) → (b && is_category_of (cond q (qualified (part_of s r.namespace) (part_of s r.article)) (bare (part_of s r.article)))) ≡ (b && q && m)
-        go true true = rw (← k) (sym g)
+        go : (b u : Bool) → read_told s (reference_if u) ≡ only_if (not (cond (b && false) (not (is_namespace [])) (not u))) (Some (cond (b && false) (Identifiers.namespace []) (Identifiers.reference p.comparator (bare y))))
+        go true true = ap (λ (z : Reference). Some (Identifiers.reference p.comparator z)) (rw k (split_as None q))
         go true false = refl
-        go false true = refl
+        go false true = ap (λ (z : Reference). Some (Identifiers.reference p.comparator z)) (rw k (split_as None q))
         go false false = refl
 
-    pub category_yes : (b && r.qualified && m) ≡ true → category_told s (Some r.article) ≡ only_if (is_category (piece_of s p)) (Some (article_of (reference (part_of s p.text))))
-    unfolding category_told
-    category_yes h = rw (test, h, ← e) (ap Some (go r.qualified))
-      where
-        go : (q : Bool) → part_of s r.article ≡ article_of (cond q (qualified (part_of s r.namespace) (part_of s r.article)) (bare (part_of s r.article)))
-        go true = refl
-        go false = refl
-
-    pub category_no : (b && r.qualified && m) ≡ false → category_told s None ≡ only_if (is_category (piece_of s p)) (Some (article_of (reference (part_of s p.text))))
-    unfolding category_told
-    category_no h = rw (test, h)
-
-  module _ (y : Bytes) (k : y ≡ part_of s r.article) (g : m ≡ same y (bytes "+")) (x : Bytes) (i : x ≡ part_of s r.namespace) (t : Bool) (l : t ≡ is_namespace x) where
-    plus : is_namespace_piece (piece_of s p) ≡ (b && r.qualified && m)
-    plus = rw (← e, ← f) (go b r.qualified)
-      where
-        go : (b q : Bool) → (b && is_plus_of (cond q (qualified (part_of s r.namespace) (part_of s r.article)) (bare (part_of s r.article)))) ≡ (b && q && m)
-        go true true = rw (← k) (sym g)
-        go true false = refl
-        go false true = refl
-        go false false = refl
-
-    named : (b && r.qualified && m) ≡ true → namespace_of (reference (part_of s p.text)) ≡ part_of s r.namespace
-    named h = rw (← e) (go b r.qualified h)
-      where
-        go : (b q : Bool) → (b && q && m) ≡ true → namespace_of (cond q (qualified (part_of s r.namespace) (part_of s r.article)) (bare (part_of s r.article))) ≡ part_of s r.namespace
-        go b true h = refl
-        go true false h = absurd (false≢true h)
-        go false false h = absurd (false≢true h)
-
-    pub read_namespace : (b && r.qualified && m) ≡ true → t ≡ true → read_told s (Some (Read.Namespace r.namespace)) ≡ only_if (not (breaks_reference (piece_of s p))) (Some (identifier_of (piece_of s p)))
-    unfolding read_told
-    read_namespace h j = rw (plus, h, named h, ← i, ← l, j)
-
-    pub read_no_namespace : (b && r.qualified && m) ≡ true → t ≡ false → read_told s None ≡ only_if (not (breaks_reference (piece_of s p))) (Some (identifier_of (piece_of s p)))
-    unfolding read_told
-    read_no_namespace h j = rw (plus, h, named h, ← i, ← l, j)
-
-    module _ (u : Bool) (v : u ≡ is_name y) (h : (b && r.qualified && m) ≡ false) where
-      judged : is_reference (reference (part_of s p.text)) ≡ ((not r.qualified || t) && u)
-      judged = rw (← e) (go r.qualified)
+    module _ (n : Span) (q : r.namespace ≡ Some n) (b m w : Bool) (f : b ≡ is_equal p.comparator) (g : m ≡ same y (bytes "+")) (z : Bytes) (i : z ≡ part_of s n) (j : w ≡ is_namespace z) where
+      pub reads_namespace : (b && m) ≡ true → (x : Option Read) → x ≡ then_some w (Read.Namespace n) → Reads x
+      unfolding read_told
+      reads_namespace h x o = rw (o, split_as (Some n) q, ← f, ← k, ← g, h, ← i, ← j) (go w)
         where
-          go : (q : Bool) → is_reference (cond q (qualified (part_of s r.namespace) (part_of s r.article)) (bare (part_of s r.article))) ≡ ((not q || t) && u)
-          go true = rw (l, v, i, k)
-          go false = rw (v, k)
+          go : (w : Bool) → read_told s (then_some w (Read.Namespace n)) ≡ only_if (not (not w)) (Some (Identifiers.namespace z))
+          go true = ap (λ (z : Bytes). Some (Identifiers.namespace z)) (sym i)
+          go false = refl
 
-      pub read_reference : ((not r.qualified || t) && u) ≡ true → read_told s (Some (Read.Reference p.comparator p.text)) ≡ only_if (not (breaks_reference (piece_of s p))) (Some (identifier_of (piece_of s p)))
+      pub reads_reference : (b && m) ≡ false → (x : Option Read) → x ≡ reference_if (w && u) → Reads x
       unfolding read_told
-      read_reference j = rw (plus, h, judged, j)
-
-      pub read_no_reference : ((not r.qualified || t) && u) ≡ false → read_told s None ≡ only_if (not (breaks_reference (piece_of s p))) (Some (identifier_of (piece_of s p)))
-      unfolding read_told
-      read_no_reference j = rw (plus, h, judged, j)
+      reads_reference h x o = rw (o, split_as (Some n) q, ← f, ← k, ← g, h, ← i, ← j, ← v) (go (w && u))
+        where
+          go : (t : Bool) → read_told s (reference_if t) ≡ only_if (not (not t)) (Some (Identifiers.reference p.comparator (qualified z y)))
+          go true = ap (λ (z : Reference). Some (Identifiers.reference p.comparator z)) (rw (i, k) (split_as (Some n) q))
+          go false = refl

@@ -46,10 +46,19 @@ last_of (chain x p) = last_of p
 abbrev pub piece_of : Bytes → Placed → Piece
 piece_of s p = record { comparator = p.comparator; text = part_of s p.text }
 
+-- The place so far behind a start.
+abbrev pub moved : ℕ → Span → Span
+moved start p = record { start = start + p.start; len = p.len }
+
+-- A place, if there is one, ends at m at the latest.
+abbrev pub IfEndsBy : ℕ → Option Span → Type 0
+IfEndsBy m None = Unit {0}
+IfEndsBy m (Some n) = n.start + n.len ≤ m
+
 -- Where the two sides of the reference at p lie in a text: neither ends behind the part that p has.
 pub record SplitsAt (s : Bytes) (p : Span) (r : Split) : Type 0 where
   pub is : split_of s r ≡ reference (part_of s p)
-  pub namespace : r.namespace.start + r.namespace.len ≤ p.start + length (part_of s p)
+  pub namespace : IfEndsBy (p.start + length (part_of s p)) r.namespace
   pub article : r.article.start + r.article.len ≤ p.start + length (part_of s p)
 
 -- What each answer tells.

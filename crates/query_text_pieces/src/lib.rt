@@ -1,14 +1,14 @@
 // The words and pieces of the query text: where they stand, and how a piece reads.
 #![tactic(auto)]
 
-ghost use Rattle.std.specs.Prelude.{◌≡◌, not, Some};
+ghost use Rattle.std.specs.Prelude.{◌≡◌, ◌+◌, ◌<◌, ◌^◌, not, Some};
 ghost use Rattle.text.specs.Bytes.{after as after_word};
 ghost use Rattle.text.specs.Parts.{part_of};
 ghost use Rattle.values.specs.Names.{reference};
 ghost use Rattle.language.specs.Answer.{only_if};
 ghost use Rattle.language.specs.RawQuery.{token as token_in, piece_at, ends_head, next_term};
 ghost use Rattle.language.specs.QueryText.{is_category, article_of, is_existence, breaks_reference, identifier_of};
-ghost use Rattle.query_text_pieces.specs.Places.{from, text_at, rest_of, inner_end, head_at, head_of, last_of, piece_of, SplitsAt, category_told, read_told};
+ghost use Rattle.query_text_pieces.specs.Places.{from, text_at, rest_of, inner_end, head_at, head_of, last_of, piece_of, moved, SplitsAt, category_told, read_told};
 
 use language::{SurfaceComparator, comparator_at, is_equal, word_length};
 use names::{is_name, is_namespace};
@@ -126,25 +126,31 @@ pub fn is_existence(s: &[u8], p: Placed) -> bool
     is_equal(p.comparator) & same_bytes(part(s, p.text.start, p.text.len), b"+")
 }
 
+// The place so far behind a start.
+fn moved(start: usize, p: Span) -> Span
+    requires { start + p.start < 2 ^ 64 }
+    ensures { result ≡ moved start p }
+{
+    Span {
+        start: start + p.start,
+        len: p.len,
+    }
+}
+
 // Where the two sides of a piece's reference lie.
 pub fn split_at(s: &[u8], text: Span) -> Split
     ensures { SplitsAt s.now text result }
 {
-    let start = text.start;
-    let split = split_reference(part(s, start, text.len));
-    let n = split.namespace;
-    let a = split.article;
-    let namespace = Span {
-        start: start + n.start,
-        len: n.len,
-    };
-    let article = Span {
-        start: start + a.start,
-        len: a.len,
+    let split = split_reference(part(s, text.start, text.len));
+    let article = moved(text.start, split.article);
+    let Some(n) = split.namespace else {
+        return Split {
+            namespace: None,
+            article,
+        };
     };
     Split {
-        qualified: split.qualified,
-        namespace,
+        namespace: Some(moved(text.start, n)),
         article,
     }
 }
@@ -154,11 +160,12 @@ pub fn category_of(s: &[u8], p: Placed, split: Split) -> Option<Span>
     ensures { SplitsAt s.now p.text split → category_told s.now result
         ≡ only_if (is_category (piece_of s.now p)) (Some (article_of (reference (part_of s.now p.text)))) }
 {
-    let n = split.namespace;
-    let yes = is_equal(p.comparator)
-        & split.qualified
-        & same_bytes(part(s, n.start, n.len), b"Category");
-    if yes { Some(split.article) } else { None }
+    let n = split.namespace?;
+    if is_equal(p.comparator) & same_bytes(part(s, n.start, n.len), b"Category") {
+        Some(split.article)
+    } else {
+        None
+    }
 }
 
 // How a piece outside property bodies reads, by how its reference is split.
@@ -166,22 +173,17 @@ pub fn read_piece(s: &[u8], p: Placed, split: Split) -> Option<Read>
     ensures { SplitsAt s.now p.text split → read_told s.now result
         ≡ only_if (not (breaks_reference (piece_of s.now p))) (Some (identifier_of (piece_of s.now p))) }
 {
-    let n = split.namespace;
     let a = split.article;
-    let qualified = split.qualified;
-    let space = part(s, n.start, n.len);
     let name = part(s, a.start, a.len);
-    let plus = is_equal(p.comparator) & qualified & same_bytes(name, b"+");
-    let spaced = is_namespace(space);
-    if plus {
-        if spaced {
-            return Some(Read::Namespace(n));
-        }
-        return None;
-    }
-    if (!qualified | spaced) & is_name(name) {
-        Some(Read::Reference(p.comparator, p.text))
+    let named = is_name(name);
+    let reference = Read::Reference(p.comparator, p.text);
+    let Some(n) = split.namespace else {
+        return named.then_some(reference);
+    };
+    let spaced = is_namespace(part(s, n.start, n.len));
+    if is_equal(p.comparator) & same_bytes(name, b"+") {
+        spaced.then_some(Read::Namespace(n))
     } else {
-        None
+        (spaced & named).then_some(reference)
     }
 }

@@ -1,14 +1,13 @@
-use Rattle.query_text_pieces.proofs.Laws.{read_namespace, read_no_namespace, read_reference, read_no_reference}
+use Rattle.query_text_pieces.proofs.Laws.{reads_bare, reads_namespace, reads_reference}
 use Rattle.query_text_pieces.proofs.read_piece.Goals as goal
 
-pub returns-then-spaced : goal.returns-then-spaced
-returns-then-spaced c h = read_namespace c.args.s.now c.args.p c.args.split _ _ h.is c.is_equal.ensures _ c.part-name.ensures c.same_bytes.ensures _ c.part-space.ensures _ c.is_namespace-spaced.ensures c.if-plus.true c.if-spaced.true
+pub returns-in_default : goal.returns-in_default
+returns-in_default c h = reads_bare c.args.s.now c.args.p c.args.split h.is _ c.part-name.ensures _ c.is_name-named.ensures c.in_default.is _ c.then_some.ensures
 
-pub returns-then-plus : goal.returns-then-plus
-returns-then-plus c h = read_no_namespace c.args.s.now c.args.p c.args.split _ _ h.is c.is_equal.ensures _ c.part-name.ensures c.same_bytes.ensures _ c.part-space.ensures _ c.is_namespace-spaced.ensures c.if-plus.true c.if-spaced.false
+pub returns-then-is_equal-same_bytes : goal.returns-then-is_equal-same_bytes
+returns-then-is_equal-same_bytes c h =
+    reads_namespace c.args.s.now c.args.p c.args.split h.is _ c.part-name.ensures _ c.is_name-named.ensures _ c.in-Some.is _ _ _ c.is_equal.ensures c.same_bytes.ensures _ c.part.ensures c.is_namespace-spaced.ensures c.if-is_equal-same_bytes.true _ c.then_some-then-is_equal-same_bytes.ensures
 
-pub returns-then-qualified-spaced : goal.returns-then-qualified-spaced
-returns-then-qualified-spaced c h = read_reference c.args.s.now c.args.p c.args.split _ _ h.is c.is_equal.ensures _ c.part-name.ensures c.same_bytes.ensures _ c.part-space.ensures _ c.is_namespace-spaced.ensures _ c.is_name.ensures c.if-plus.false c.if-qualified-spaced.true
-
-pub returns-else-qualified-spaced : goal.returns-else-qualified-spaced
-returns-else-qualified-spaced c h = read_no_reference c.args.s.now c.args.p c.args.split _ _ h.is c.is_equal.ensures _ c.part-name.ensures c.same_bytes.ensures _ c.part-space.ensures _ c.is_namespace-spaced.ensures _ c.is_name.ensures c.if-plus.false c.if-qualified-spaced.false
+pub returns-else-is_equal-same_bytes : goal.returns-else-is_equal-same_bytes
+returns-else-is_equal-same_bytes c h =
+    reads_reference c.args.s.now c.args.p c.args.split h.is _ c.part-name.ensures _ c.is_name-named.ensures _ c.in-Some.is _ _ _ c.is_equal.ensures c.same_bytes.ensures _ c.part.ensures c.is_namespace-spaced.ensures c.if-is_equal-same_bytes.false _ c.then_some-else-is_equal-same_bytes.ensures
