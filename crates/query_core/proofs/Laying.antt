@@ -1,4 +1,5 @@
 -- Laws of nodes laid into a buffer: one more behind others, and the count before them.
+use Rattle.std.specs.Prelude.{Option, Some, None}
 use Prim.Native.Nat.{ℕ, ◌+◌, ◌-◌, ◌*◌, ◌≤◌, ◌<◌}
 use mathlib.Core.Path.{◌≡◌, refl, sym, ap, ap₂, ◌∙◌}
 use mathlib.Core.Bool.{Bool, true, false, cond, not}
@@ -17,7 +18,7 @@ use Rattle.buffer.proofs.Regions.{length_zeros, length_padded}
 use Rattle.buffer.proofs.Written.{length_written, written_none, written_here, written_skip, written_over, next}
 use Rattle.buffer.proofs.Padding.{zeros_add, padded_more}
 use Rattle.values.specs.Names.{Reference, bare, qualified}
-use Rattle.values.specs.Answers.{split_of}
+use Rattle.values.specs.Answers.{reference_at, split_of}
 use Rattle.values.specs.declared.Split.{Split}
 use Rattle.language.specs.declared.SurfaceComparator.{SurfaceComparator}
 use Rattle.language.specs.Comparators.{comparator_code as surface_code}
@@ -33,7 +34,7 @@ use Rattle.query_core.specs.Postfix.{Node}
 use Rattle.query_core.specs.Held.{query_size}
 use Rattle.query_core.specs.Form.{namespace_string, string_of, strings, span_at, no_span, mark_of, link_slot, slot_at, slot_bytes, slots_from, query_bytes}
 use Rattle.query_core.specs.Reading.{joined_over, node_over}
-use Rattle.query_core.specs.Writing.{joined_strings, node_strings, joined_slot, slot_of, joint, written_in, has_room, Fits, Laid, PutsNode, Puts, Finishes, count_of, end_of}
+use Rattle.query_core.specs.Writing.{joined_strings, node_strings, joined_slot, slot_of, joint, written_in, mark_if, has_room, Fits, Laid, PutsNode, Puts, Finishes, count_of, end_of}
 
 -- Strings and slots of one more node.
 pub strings_append : (k l : List Node) → strings (k ++ l) ≡ strings k ++ strings l
@@ -75,28 +76,28 @@ strings_written h at a b c h1 h2 h3 e f g = next h at (a ++ b) c (next h at a b 
 
 -- The strings and the slot of a link whose reference lies in a text of its own.
 module _ (s : Bytes) (p : Span) (t : Bytes) (r : Split) where
-  abbrev reference_if : Bool → Reference
-  reference_if b = cond b (qualified (part_of t r.namespace) (part_of t r.article)) (bare (part_of t r.article))
+  abbrev reference_if : Option Span → Reference
+  reference_if o = reference_at t o r.article
 
-  abbrev written_if : Bool → Bytes
-  written_if b = part_of t (cond b r.namespace no_span)
+  abbrev written_if : Option Span → Bytes
+  written_if o = part_of t (written_in o)
 
-  link_strings : part_of s p ++ part_of t (written_in r) ++ part_of t r.article ≡ part_of s p ++ namespace_string (split_of t r) ++ article_meant (split_of t r)
-  link_strings = go r.qualified
+  link_strings : part_of s p ++ part_of t (written_in r.namespace) ++ part_of t r.article ≡ part_of s p ++ namespace_string (split_of t r) ++ article_meant (split_of t r)
+  link_strings = go r.namespace
     where
-      go : (b : Bool) → part_of s p ++ written_if b ++ part_of t r.article ≡ part_of s p ++ namespace_string (reference_if b) ++ article_meant (reference_if b)
-      go true = refl
-      go false = refl
+      go : (o : Option Span) → part_of s p ++ written_if o ++ part_of t r.article ≡ part_of s p ++ namespace_string (reference_if o) ++ article_meant (reference_if o)
+      go None = refl
+      go (Some n) = refl
 
   link_slots : (c : SurfaceComparator) (at : ℕ)
-      → link_slot (surface_code c) (cond r.qualified (mark_of (length (part_of t (written_in r)))) 0) (span_at at (length (part_of s p) + length (part_of t (written_in r)))) (span_at (at + length (part_of s p) + length (part_of t (written_in r))) (length (part_of t r.article)))
+      → link_slot (surface_code c) (mark_if r.namespace (length (part_of t (written_in r.namespace)))) (span_at at (length (part_of s p) + length (part_of t (written_in r.namespace)))) (span_at (at + length (part_of s p) + length (part_of t (written_in r.namespace))) (length (part_of t r.article)))
       ≡ slot_at at (Node.link (part_of s p) c (split_of t r))
-  link_slots c at = go r.qualified
+  link_slots c at = go r.namespace
     where
-      go : (b : Bool) → link_slot (surface_code c) (cond b (mark_of (length (written_if b))) 0) (span_at at (length (part_of s p) + length (written_if b))) (span_at (at + length (part_of s p) + length (written_if b)) (length (part_of t r.article)))
-          ≡ slot_at at (Node.link (part_of s p) c (reference_if b))
-      go true = refl
-      go false = refl
+      go : (o : Option Span) → link_slot (surface_code c) (mark_if o (length (written_if o))) (span_at at (length (part_of s p) + length (written_if o))) (span_at (at + length (part_of s p) + length (written_if o)) (length (part_of t r.article)))
+          ≡ slot_at at (Node.link (part_of s p) c (reference_if o))
+      go None = refl
+      go (Some n) = refl
 
 -- The strings and the slot of a declared node are those of the node that it is.
 module _ (s t : Bytes) where

@@ -14,7 +14,7 @@ use Rattle.text.specs.Parts.{part_of}
 use Rattle.text.specs.declared.Span.{Span}
 use Rattle.names.specs.Names.{is_composed_name, is_composed_property_name, is_composed_namespace}
 use Rattle.values.specs.Names.{bare, qualified, is_composed_reference, is_value}
-use Rattle.values.specs.Answers.{split_of}
+use Rattle.values.specs.Answers.{reference_at, split_of}
 use Rattle.values.specs.declared.Split.{Split}
 use Rattle.values.specs.Values.{kind_count, kind_from, in_range}
 use Rattle.values.specs.declared.Kind.{Kind}
@@ -32,7 +32,7 @@ use Rattle.query_core.specs.declared.Slot.{Slot}
 use Rattle.query_core.specs.declared.Node.{Node as DeclaredNode}
 use Rattle.query_core.specs.Postfix.{Node}
 use Rattle.query_core.specs.Held.{slot, heap_in, comparator_from, constant_of_kind, constant_from, constant_of, node_from, before, behind, link_from, link_by, node_of, slot_from, slot_in, node_in}
-use Rattle.query_core.specs.Reading.{constant_by, selector_by, keeps_constant, keeps_selector, ConstantReads, selected, joining, ReadsNode}
+use Rattle.query_core.specs.Reading.{is_spaced, constant_by, selector_by, keeps_constant, keeps_selector, ConstantReads, selected, joining, ReadsNode}
 
 -- The constant of a slot, by its kind.
 module _ (s : Bytes) (x : Slot) where
@@ -103,19 +103,12 @@ module _ (s : Bytes) (x : Slot) (q : Option Comparator) (e : q ≡ comparator_fr
           selected_reads s r _ b _ (rw (← e, f, u.is, g, w, p)) (λ h. rw (← p, ← w, h) (rw g at u.keeps)) l
 
 -- Links.
-split_told : (s : Bytes) (r : Split) (n a : Bytes) (spaced named : Bool) → n ≡ part_of s r.namespace → a ≡ part_of s r.article → spaced ≡ is_composed_namespace n → named ≡ is_composed_name a
-    → ((not r.qualified || spaced) && named) ≡ is_composed_reference (split_of s r)
-split_told s r n a spaced named en ea es em = rw (es, em, en, ea) (go r.qualified)
+split_told : (s : Bytes) (r : Split) (a : Bytes) (spaced named : Bool) → a ≡ part_of s r.article → spaced ≡ is_spaced s r.namespace → named ≡ is_composed_name a → (spaced && named) ≡ is_composed_reference (split_of s r)
+split_told s r a spaced named ea es em = rw (es, em, ea) (go r.namespace)
   where
-    x : Bool
-    x = is_composed_namespace (part_of s r.namespace)
-
-    y : Bool
-    y = is_composed_name (part_of s r.article)
-
-    go : (q : Bool) → ((not q || is_composed_namespace (part_of s r.namespace)) && is_composed_name (part_of s r.article)) ≡ is_composed_reference (cond q (qualified (part_of s r.namespace) (part_of s r.article)) (bare (part_of s r.article)))
-    go true = refl
-    go false = refl
+    go : (o : Option Span) → (is_spaced s o && is_composed_name (part_of s r.article)) ≡ is_composed_reference (reference_at s o r.article)
+    go None = refl
+    go (Some n) = refl
 
 link_is : (s : Bytes) (code : ℕ) (name : Span) (r : Split) (p q l : Bool) → p ≡ is_composed_property_name (part_of s name) → q ≡ is_composed_reference (split_of s r) → l ≡ leb code last_comparator
     → link_from code (part_of s name) (split_of s r) ≡ only_if (p && q && l) (Some (selector_by s (Selector.Link name (comparator_of code) r)))
@@ -128,24 +121,24 @@ link_is s code name r p q l ep eq el = rw (← ep, ← eq, ← el) (go p q l)
     go true false l = refl
     go false q l = refl
 
-pub link_reads : (s : Bytes) (code : ℕ) (name : Span) (r : Split) (c : SurfaceComparator) (a x n : Bytes) (named spaced owned : Bool) (k : Option DeclaredNode) → c ≡ comparator_of code → a ≡ part_of s r.article → named ≡ is_composed_name a
-    → n ≡ part_of s r.namespace → spaced ≡ is_composed_namespace n → x ≡ part_of s name → owned ≡ is_composed_property_name x
-    → k ≡ selected (owned && (not r.qualified || spaced) && named && leb code last_comparator) (Selector.Link name c r) → ReadsNode s (link_from code (part_of s name) (split_of s r)) k
-link_reads s code name r c a x n named spaced owned k ec ea em en es ex eo g =
-    let q = split_told s r n a spaced named en ea es em in
+pub link_reads : (s : Bytes) (code : ℕ) (name : Span) (r : Split) (c : SurfaceComparator) (a x : Bytes) (named spaced owned : Bool) (k : Option DeclaredNode) → c ≡ comparator_of code → a ≡ part_of s r.article → named ≡ is_composed_name a
+    → spaced ≡ is_spaced s r.namespace → x ≡ part_of s name → owned ≡ is_composed_property_name x
+    → k ≡ selected (owned && spaced && named && leb code last_comparator) (Selector.Link name c r) → ReadsNode s (link_from code (part_of s name) (split_of s r)) k
+link_reads s code name r c a x named spaced owned k ec ea em es ex eo g =
+    let q = split_told s r a spaced named ea es em in
     let p : owned ≡ is_composed_property_name (part_of s name) = eo ∙ rw ex in
-    let e : (owned && (not r.qualified || spaced) && named && leb code last_comparator) ≡ (owned && ((not r.qualified || spaced) && named) && leb code last_comparator) = ap (λ (t : Bool). t && leb code last_comparator) (and_assoc owned (not r.qualified || spaced) named) in
-    selected_reads s k _ (owned && ((not r.qualified || spaced) && named) && leb code last_comparator) (Selector.Link name (comparator_of code) r) (link_is s code name r owned _ _ p q refl)
+    let e : (owned && spaced && named && leb code last_comparator) ≡ (owned && (spaced && named) && leb code last_comparator) = ap (λ (t : Bool). t && leb code last_comparator) (and_assoc owned spaced named) in
+    selected_reads s k _ (owned && (spaced && named) && leb code last_comparator) (Selector.Link name (comparator_of code) r) (link_is s code name r owned _ _ p q refl)
     (λ h. let t = (and-eq-true_iff _ _).0 h in let u = (and-eq-true_iff _ _).0 t.0 in both_true (sym p ∙ u.0) (sym q ∙ u.1)) (g ∙ rw (e, ec))
 
 module _ (s b : Bytes) (mark : ℕ) (w : mark ≡ get_or b 2 0) (code : ℕ) (v : code ≡ get_or b 1 0) (y : Span) (z : y ≡ (slot_from b).second) (r : Option DeclaredNode) where
-  pub bare_link : mark ≡ 0 → (x n : Span) → x ≡ (slot_from b).first → ReadsNode s (link_from code (part_of s x) (split_of s (record { qualified = false; namespace = n; article = y }))) r → ReadsNode s (node_of s 8 (slot_from b)) r
+  pub bare_link : mark ≡ 0 → (x : Span) → x ≡ (slot_from b).first → ReadsNode s (link_from code (part_of s x) (split_of s (record { namespace = None; article = y }))) r → ReadsNode s (node_of s 8 (slot_from b)) r
   unfolding node_of link_by slot_from
-  bare_link e x n f h =
+  bare_link e x f h =
       let q : node_of s 8 (slot_from b) ≡ link_from code (part_of s x) (bare (part_of s y)) = ap (λ (k : ℕ). link_by s k (slot_from b)) (sym w ∙ e) ∙ rw (v, f, z) in
       rw q h
 
-  pub qualified_link : (mark ≡ 0 → ⊥) → (k : ℕ) → k ≡ mark - 1 → (x n : Span) → x ≡ before k (slot_from b).first → n ≡ behind k (slot_from b).first → ReadsNode s (link_from code (part_of s x) (split_of s (record { qualified = true; namespace = n; article = y }))) r → ReadsNode s (node_of s 8 (slot_from b)) r
+  pub qualified_link : (mark ≡ 0 → ⊥) → (k : ℕ) → k ≡ mark - 1 → (x n : Span) → x ≡ before k (slot_from b).first → n ≡ behind k (slot_from b).first → ReadsNode s (link_from code (part_of s x) (split_of s (record { namespace = Some n; article = y }))) r → ReadsNode s (node_of s 8 (slot_from b)) r
   unfolding node_of link_by slot_from
   qualified_link o k e x n f g h =
       let m : mark ≡ suc k = omega (arith, e) in

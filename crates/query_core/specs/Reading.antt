@@ -4,6 +4,7 @@ use Rattle.std.specs.Bool.{then_some}
 use Rattle.std.specs.Option.{option_map}
 use Rattle.text.specs.Bytes.{Bytes}
 use Rattle.text.specs.Parts.{part_of}
+use Rattle.text.specs.declared.Span.{Span}
 use Rattle.names.specs.Names.{is_composed_name, is_composed_property_name, is_composed_namespace}
 use Rattle.values.specs.Names.{is_composed_reference, is_value}
 use Rattle.values.specs.Answers.{split_of}
@@ -104,3 +105,8 @@ expects_kind (Postfix.link x c r) = true
 -- What is told of a node, where there is one.
 unfoldable pub TestsNode : (Postfix.Node → Bool) → Option Postfix.Node → Bool → Type 0
 TestsNode f o r = (m : Postfix.Node) → o ≡ Some m → r ≡ f m
+
+-- Whether a namespace, if one is written, keeps the rule.
+abbrev pub is_spaced : Bytes → Option Span → Bool
+is_spaced s None = true
+is_spaced s (Some n) = is_composed_namespace (part_of s n)

@@ -1,5 +1,5 @@
 -- Working definitions: a declared node as a slot, the strings that it takes along, and a buffer that nodes are laid into.
-use Rattle.std.specs.Prelude.{ℕ, ◌+◌, ◌/◌, ◌%◌, ◌≤◌, min, ◌≡◌, Bool, true, false, cond, List, [], ◌∷◌, ◌++◌, leb, length}
+use Rattle.std.specs.Prelude.{Option, Some, None, ℕ, ◌+◌, ◌/◌, ◌%◌, ◌≤◌, min, ◌≡◌, Bool, true, false, cond, List, [], ◌∷◌, ◌++◌, leb, length}
 use Rattle.text.specs.Bytes.{Bytes}
 use Rattle.text.specs.declared.Span.{Span}
 use Rattle.buffer.specs.Numbers.{zeros, padded}
@@ -26,8 +26,14 @@ constant_strings p (Constant.Scalar k n) = strings_of p no_span no_span
 constant_strings p (Constant.String q) = strings_of p q no_span
 
 -- The namespace that a reference writes.
-abbrev pub written_in : Split → Span
-written_in r = cond r.qualified r.namespace no_span
+abbrev pub written_in : Option Span → Span
+written_in None = no_span
+written_in (Some n) = n
+
+-- The byte that tells of it in a slot, where it has n bytes.
+abbrev pub mark_if : Option Span → ℕ → ℕ
+mark_if None n = 0
+mark_if (Some p) n = mark_of n
 
 abbrev pub selector_strings : Selector → Strings
 selector_strings (Selector.Category p) = strings_of p no_span no_span
@@ -36,7 +42,7 @@ selector_strings (Selector.Existence p) = strings_of p no_span no_span
 selector_strings (Selector.Subquery p) = strings_of p no_span no_span
 selector_strings (Selector.Article c p) = strings_of no_span p no_span
 selector_strings (Selector.Value p c k) = constant_strings p k
-selector_strings (Selector.Link p c r) = strings_of p (written_in r) r.article
+selector_strings (Selector.Link p c r) = strings_of p (written_in r.namespace) r.article
 
 abbrev pub joined_strings : Connective → Selector → Strings
 joined_strings Connective.And x = strings_of no_span no_span no_span
@@ -58,7 +64,7 @@ selector_slot (Selector.Existence r) p q t = tagged 4 0 p no_span
 selector_slot (Selector.Subquery r) p q t = tagged 5 0 p no_span
 selector_slot (Selector.Article c r) p q t = tagged 6 (comparator_code c) no_span q
 selector_slot (Selector.Value r c k) p q t = constant_slot (comparator_code c) k p q
-selector_slot (Selector.Link r c s) p q t = link_slot (surface_code c) (cond s.qualified (mark_of q.len) 0) (span_at p.start (p.len + q.len)) t
+selector_slot (Selector.Link r c s) p q t = link_slot (surface_code c) (mark_if s.namespace q.len) (span_at p.start (p.len + q.len)) t
 
 abbrev pub joined_slot : Connective → Selector → Span → Span → Span → Slot
 joined_slot Connective.And x p q t = tagged 0 0 no_span no_span

@@ -3,7 +3,7 @@ ghost use Rattle.std.specs.Prelude.{◌≡◌, ◌-◌};
 ghost use Rattle.text.specs.Parts.{part_of};
 ghost use Rattle.values.specs.Answers.{split_of};
 ghost use Rattle.query_core.specs.Held.{slot, slot_from, before, behind, link_from, node_of};
-ghost use Rattle.query_core.specs.Reading.{ReadsNode};
+ghost use Rattle.query_core.specs.Reading.{is_spaced, ReadsNode};
 
 use crate::fields::{first_of, second_of, selected_if};
 use crate::{Node, Selector};
@@ -41,15 +41,24 @@ fn link_namespace(b: &[u8], n: u16) -> Span
     }
 }
 
+// Whether a namespace, if one is written, keeps the rule.
+fn is_spaced(heap: &[u8], namespace: Option<Span>) -> bool
+    ensures { result ≡ is_spaced heap.now namespace }
+{
+    match namespace {
+        Some(n) => is_composed_namespace(part(heap, n.start, n.len)),
+        None => true,
+    }
+}
+
 // A link whose name and reference lie there.
 fn link_at(heap: &[u8], code: u8, name: Span, split: Split) -> Option<Node>
     ensures { ReadsNode heap.now (link_from code (part_of heap.now name) (split_of heap.now split)) result }
 {
     let c = comparator_as_written(code);
-    let n = split.namespace;
     let a = split.article;
     let named = is_composed_name(part(heap, a.start, a.len));
-    let spaced = !split.qualified | is_composed_namespace(part(heap, n.start, n.len));
+    let spaced = is_spaced(heap, split.namespace);
     let fit = is_composed_property_name(part(heap, name.start, name.len))
         & spaced
         & named
@@ -65,19 +74,15 @@ pub fn link_from(heap: &[u8], b: &[u8]) -> Option<Node>
     let mark = get_or(b, 2, 0);
     let article = second_of(b);
     if mark == 0 {
-        let none = Span { start: 0, len: 0 };
         let bare = Split {
-            qualified: false,
-            namespace: none,
+            namespace: None,
             article,
         };
         return link_at(heap, code, first_of(b), bare);
     }
     let n = (mark - 1) as u16;
-    let namespace = link_namespace(b, n);
     let split = Split {
-        qualified: true,
-        namespace,
+        namespace: Some(link_namespace(b, n)),
         article,
     };
     link_at(heap, code, link_name(b, n), split)

@@ -1,8 +1,8 @@
 // Where the strings of a node lie, and its slot.
 ghost use Rattle.std.specs.Prelude.{◌≡◌, cond, ◌+◌, ◌<◌, ◌^◌};
 ghost use Rattle.language.specs.Comparators.{comparator_code as surface_code};
-ghost use Rattle.query_core.specs.Form.{comparator_code, span_at, no_span, tagged, mark_of, link_slot};
-ghost use Rattle.query_core.specs.Writing.{written_in, constant_strings, selector_strings, node_strings, constant_slot, selector_slot, slot_of, joint};
+ghost use Rattle.query_core.specs.Form.{comparator_code, span_at, no_span, tagged, link_slot};
+ghost use Rattle.query_core.specs.Writing.{written_in, mark_if, constant_strings, selector_strings, node_strings, constant_slot, selector_slot, slot_of, joint};
 
 use crate::{Connective, Constant, Node, Selector, Slot, Strings, layout};
 use language::{Comparator, SurfaceComparator, comparator_code};
@@ -56,14 +56,9 @@ fn constant_strings(first: Span, k: Constant) -> Strings
 
 // The namespace that a reference writes.
 fn written(r: Split) -> Span
-    ensures { result ≡ written_in r }
+    ensures { result ≡ written_in r.namespace }
 {
-    let namespace = r.namespace;
-    if r.qualified {
-        namespace
-    } else {
-        Span { start: 0, len: 0 }
-    }
+    r.namespace.unwrap_or(Span { start: 0, len: 0 })
 }
 
 // Where the strings of a selector lie.
@@ -158,20 +153,19 @@ fn constant_slot(code: u8, k: Constant, p: Span, q: Span) -> Slot
 }
 
 // The byte that tells of a link's namespace, of n bytes.
-fn mark_of(qualified: bool, n: usize) -> u8
-    ensures { result ≡ cond qualified (mark_of n) 0 }
+fn mark_of(namespace: Option<Span>, n: usize) -> u8
+    ensures { result ≡ mark_if namespace n }
 {
-    if qualified {
-        ((n % 256 + 1) % 256) as u8
-    } else {
-        0
+    match namespace {
+        Some(_) => ((n % 256 + 1) % 256) as u8,
+        None => 0,
     }
 }
 
 // The slot of a link whose strings lie at p, q and t: the namespace stands behind the property's name.
-fn link_slot(c: SurfaceComparator, qualified: bool, p: Span, q: Span, t: Span) -> Slot
+fn link_slot(c: SurfaceComparator, namespace: Option<Span>, p: Span, q: Span, t: Span) -> Slot
     requires { p.len + q.len < 2 ^ 64 }
-    ensures { result ≡ link_slot (surface_code c) (cond qualified (mark_of q.len) 0) (span_at p.start (p.len + q.len)) t }
+    ensures { result ≡ link_slot (surface_code c) (mark_if namespace q.len) (span_at p.start (p.len + q.len)) t }
 {
     let first = Span {
         start: p.start,
@@ -180,7 +174,7 @@ fn link_slot(c: SurfaceComparator, qualified: bool, p: Span, q: Span, t: Span) -
     Slot {
         tag: layout::LINK,
         comparator: comparator_code(c),
-        kind: mark_of(qualified, q.len),
+        kind: mark_of(namespace, q.len),
         first,
         second: t,
         number: 0,
@@ -200,7 +194,7 @@ fn selector_slot(s: Selector, p: Span, q: Span, t: Span) -> Slot
         Selector::Subquery(_) => tagged_slot(layout::SUBQUERY, 0, p, none),
         Selector::Article(c, _) => tagged_slot(layout::ARTICLE, code_of(c), none, q),
         Selector::Value(_, c, k) => constant_slot(code_of(c), k, p, q),
-        Selector::Link(_, c, r) => link_slot(c, r.qualified, p, q, t),
+        Selector::Link(_, c, r) => link_slot(c, r.namespace, p, q, t),
     }
 }
 
