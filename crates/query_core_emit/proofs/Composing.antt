@@ -1,4 +1,5 @@
 -- A reference's names, composed into a table and put from there.
+use Rattle.std.specs.Prelude.{Option, Some, None}
 use Prim.Native.Nat.{ℕ, ◌≤◌}
 use mathlib.Core.Path.{◌≡◌, refl, ap, ap₂, ◌∙◌}
 use mathlib.Core.Bool.{Bool, true, false}
@@ -13,15 +14,18 @@ use Rattle.buffer.proofs.Joined.{part_below, part_there}
 use Rattle.names.specs.Names.{composed_name, is_name, is_namespace}
 use Rattle.names.proofs.Composed.{composed_le, name_keeps, namespace_short}
 use Rattle.values.specs.Names.{is_reference, composed_reference}
-use Rattle.values.specs.Answers.{split_of}
+use Rattle.std.specs.Option.{unwrap_or, option_and}
+use Rattle.text.specs.declared.Span.{Span}
+use Rattle.values.specs.Answers.{reference_at, split_of}
 use Rattle.values.specs.declared.Split.{Split}
 use Rattle.language.proofs.Members.{and_true}
 use Rattle.language.specs.declared.SurfaceComparator.{SurfaceComparator}
 use Rattle.query_core.specs.declared.Place.{Place}
+use Rattle.query_core.specs.Form.{no_span}
 use Rattle.query_core.specs.Postfix.{Node}
 use Rattle.query_core_emit.specs.Emission.{Adds}
 
-module _ (s : Bytes) (r : Split) (x y t u : Bytes) (i j : ℕ) (ex : x ≡ part_of s r.namespace) (ey : y ≡ part_of s r.article)
+module _ (s : Bytes) (r : Split) (m : Span) (em : m ≡ unwrap_or r.namespace no_span) (x y t u : Bytes) (i j : ℕ) (ex : x ≡ part_of s m) (ey : y ≡ part_of s r.article)
     (n : (i ≡ length (composed_name x)) × (t ≡ written (replicate 128 0) 0 (composed_name x))) (a : (j ≡ length (composed_name y)) × (u ≡ written t 64 (composed_name y))) where
   long : length t ≡ 128
   long = ap length n.1 ∙ length_written (replicate 128 0) 0 (composed_name x) ∙ length-replicate {A = ℕ} 128 0
@@ -36,17 +40,21 @@ module _ (s : Bytes) (r : Split) (x y t u : Bytes) (i j : ℕ) (ex : x ≡ part_
       ∙ ap (λ (b : Bytes). part b 0 (length (composed_name x))) n.1
       ∙ part_there (replicate 128 0) (composed_name x) 0 (omega (arith, composed_le x, length-replicate {A = ℕ} 128 0))
 
-  abbrev typed : Split
-  typed = record { qualified = r.qualified; namespace = record { start = 0; len = i }; article = record { start = 64; len = j } }
+  abbrev place : Span
+  place = record { start = 0; len = i }
 
-  there : (q : Bool) → r.qualified ≡ q → is_reference (split_of s r) ≡ true → split_of u typed ≡ composed_reference (split_of s r)
-  there true e h =
-      let k : (is_namespace x ≡ true) × (is_name y ≡ true) = and_true (is_namespace x) (is_name y) (rw (ex, ey) (rw e at h)) in
-      rw (e, namespace_there (namespace_short x k.0), article_there (name_keeps y k.1).short, ex, ey)
-  there false e h =
-      let k : is_name y ≡ true = rw ey (rw e at h) in
-      rw (e, article_there (name_keeps y k).short, ey)
+  abbrev article : Span
+  article = record { start = 64; len = j }
 
-  pub typed_adds : (v : Bytes) (c : SurfaceComparator) (h h' : Bytes) (p p' : Place) → Adds (Node.link v c (split_of u typed) ∷ []) h p h' p'
+  there : (q : Option Span) → r.namespace ≡ q → is_reference (reference_at s q r.article) ≡ true → reference_at u (option_and q (Some place)) article ≡ composed_reference (reference_at s q r.article)
+  there (Some k) e h =
+      let w : x ≡ part_of s k = ex ∙ ap (part_of s) (rw e at em) in
+      let z : (is_namespace x ≡ true) × (is_name y ≡ true) = and_true (is_namespace x) (is_name y) (rw (w, ey) h) in
+      rw (namespace_there (namespace_short x z.0), article_there (name_keeps y z.1).short, w, ey)
+  there None e h =
+      let z : is_name y ≡ true = rw ey h in
+      rw (article_there (name_keeps y z).short, ey)
+
+  pub typed_adds : (o : Option Span) → o ≡ option_and r.namespace (Some place) → (v : Bytes) (c : SurfaceComparator) (h h' : Bytes) (p p' : Place) → Adds (Node.link v c (split_of u (record { namespace = o; article = article })) ∷ []) h p h' p'
       → is_reference (split_of s r) ≡ true → Adds (Node.link v c (composed_reference (split_of s r)) ∷ []) h p h' p'
-  typed_adds v c h h' p p' d k = rw (← there r.qualified refl k) d
+  typed_adds o eo v c h h' p p' d k = rw (← there r.namespace refl k, ← eo) d

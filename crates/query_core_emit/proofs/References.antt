@@ -12,7 +12,7 @@ use Rattle.values.specs.declared.Scalar.{Scalar}
 use Rattle.values.specs.declared.Split.{Split}
 use Rattle.values.specs.Names.{reference, is_reference, composed_reference}
 use Rattle.values.specs.Values.{map_option, read_constant}
-use Rattle.values.specs.Answers.{split_of}
+use Rattle.values.specs.Answers.{reference_at, split_of}
 use Rattle.language.specs.Comparators.{is_equal, strictly, or_equal, in_any_namespace}
 use Rattle.language.specs.Core.{Core}
 use Rattle.language.specs.Core as Core
@@ -26,13 +26,13 @@ use Rattle.query_core.specs.declared.Place.{Place}
 use Rattle.query_core.specs.Postfix.{Node, post}
 use Rattle.query_core.specs.Form.{no_span}
 use Rattle.query_core.specs.Reading.{selector_by}
-use Rattle.query_core_emit.specs.Emission.{Adds, Emits, connective_node, selector_of, comparing, scope_of, constant_in}
+use Rattle.query_core_emit.specs.Emission.{Adds, Emits, connective_node, selector_of, comparing, scope_in, scope_of, constant_in}
 use Rattle.query_core_emit.specs.declared.Comparison.{Comparison}
 use Rattle.query_core_emit.specs.declared.Scope.{Scope}
 use Rattle.query_core_emit.proofs.Adding.{conjunction_adds, one_adds, either_adds}
 use Rattle.query_core_emit.proofs.Constants.{constant_is}
 
--- Selectors and scopes.
+-- Selectors.
 module _ (w : Comparison) (c : Comparator) where
   pub article_selector : (p : Span) → w ≡ Comparison.Article p → Selector.Article c p ≡ selector_of w c
   article_selector p e = rw e
@@ -40,22 +40,7 @@ module _ (w : Comparison) (c : Comparator) where
   pub value_selector : (p : Span) (k : Constant) → w ≡ Comparison.Value p k → Selector.Value p c k ≡ selector_of w c
   value_selector p k e = rw e
 
-module _ (c : SurfaceComparator) (r : Split) (t : Bool) where
-  module _ (q : r.qualified ≡ true) (e : t ≡ in_any_namespace c) where
-    pub scope_any : t ≡ true → Scope.Any ≡ scope_of c r
-    scope_any h = rw (q, ← e, h)
-
-    pub scope_written : t ≡ false → Scope.Within r.namespace ≡ scope_of c r
-    scope_written h = rw (q, ← e, h)
-
-  module _ (q : r.qualified ≡ false) (e : t ≡ is_equal c) where
-    pub scope_main : t ≡ true → Scope.Within no_span ≡ scope_of c r
-    scope_main h = rw (q, ← e, h)
-
-    pub scope_bare : t ≡ false → Scope.Any ≡ scope_of c r
-    scope_bare h = rw (q, ← e, h)
-
-pub ruleset selectors = (article_selector, value_selector, scope_any, scope_written, scope_main, scope_bare)
+pub ruleset selectors = (article_selector, value_selector)
 
 -- A comparison as written, by its comparator.
 module _ (s : Bytes) (w : Comparison) (c : SurfaceComparator) (h h' : Bytes) (p p' : Place) where
@@ -92,14 +77,14 @@ module _ (s : Bytes) where
   scoped Scope.Any q = q
   scoped (Scope.Within n) q = Core.conjunction (Core.select (Core.namespace (part_of s n))) q
 
-  reference_says : (c : SurfaceComparator) (q : Bool) (n a : Span) → elaborate_reference c (split_of s (record { qualified = q; namespace = n; article = a })) ≡ scoped (scope_of c (record { qualified = q; namespace = n; article = a })) (compared (comparing s (Comparison.Article a)) c)
+  reference_says : (c : SurfaceComparator) (o : Option Span) (a : Span) → elaborate_reference c (reference_at s o a) ≡ scoped (scope_in c o) (compared (comparing s (Comparison.Article a)) c)
   unfolding elaborate_reference
-  reference_says c true n a = go (in_any_namespace c)
+  reference_says c (Some n) a = go (in_any_namespace c)
     where
       go : (t : Bool) → cond t (article_stands (part_of s a) c) (within (part_of s n) (article_stands (part_of s a) c)) ≡ scoped (cond t Scope.Any (Scope.Within n)) (compared (comparing s (Comparison.Article a)) c)
       go true = refl
       go false = refl
-  reference_says c false n a = go (is_equal c)
+  reference_says c None a = go (is_equal c)
     where
       go : (t : Bool) → cond t (within [] (article_stands (part_of s a) c)) (article_stands (part_of s a) c) ≡ scoped (cond t (Scope.Within no_span) Scope.Any) (compared (comparing s (Comparison.Article a)) c)
       go true = refl
@@ -107,7 +92,7 @@ module _ (s : Bytes) where
 
   module _ (c : SurfaceComparator) (r : Split) (k : Scope) (is : k ≡ scope_of c r) (h : Bytes) (p : Place) where
     reference_is : elaborate_reference c (split_of s r) ≡ scoped k (compared (comparing s (Comparison.Article r.article)) c)
-    reference_is = reference_says c r.qualified r.namespace r.article ∙ ap (λ (x : Scope). scoped x (compared (comparing s (Comparison.Article r.article)) c)) (sym is)
+    reference_is = reference_says c r.namespace r.article ∙ ap (λ (x : Scope). scoped x (compared (comparing s (Comparison.Article r.article)) c)) (sym is)
 
     pub any_adds : (h' : Bytes) (p' : Place) → k ≡ Scope.Any → Adds (post (compared (comparing s (Comparison.Article r.article)) c)) h p h' p' → Adds (post (elaborate_reference c (split_of s r))) h p h' p'
     any_adds h' p' e d = rw (reference_is, e) d

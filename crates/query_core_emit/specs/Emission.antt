@@ -46,10 +46,12 @@ comparing s (Comparison.Article p) c = Core.select (Core.article c (part_of s p)
 comparing s (Comparison.Value p k) c = Core.select (Core.value (part_of s p) c (constant_by s k))
 
 -- Where a reference is looked for: definition 5.3.1.
+abbrev pub scope_in : SurfaceComparator → Option Span → Scope
+scope_in c None = cond (is_equal c) (Scope.Within no_span) Scope.Any
+scope_in c (Some n) = cond (in_any_namespace c) Scope.Any (Scope.Within n)
+
 abbrev pub scope_of : SurfaceComparator → Split → Scope
-scope_of c r =
-    cond r.qualified (cond (in_any_namespace c) Scope.Any (Scope.Within r.namespace))
-    (cond (is_equal c) (Scope.Within no_span) Scope.Any)
+scope_of c r = scope_in c r.namespace
 
 -- The constant that the piece at p writes in a kind.
 unfoldable pub constant_in : Bytes → Span → Kind → Option Constant

@@ -100,18 +100,11 @@ fn put_article(s: &[u8], held: &mut [u8], at: Place, p: Span, c: SurfaceComparat
 fn scope_of(c: SurfaceComparator, split: Split) -> Scope
     ensures { result ≡ scope_of c split }
 {
-    let main = Span { start: 0, len: 0 };
-    let namespace = split.namespace;
-    if split.qualified {
-        if in_any_namespace(c) {
-            return Scope::Any;
-        }
-        return Scope::Within(namespace);
-    }
-    if is_equal(c) {
-        Scope::Within(main)
-    } else {
-        Scope::Any
+    match split.namespace {
+        Some(_) if in_any_namespace(c) => Scope::Any,
+        Some(n) => Scope::Within(n),
+        None if is_equal(c) => Scope::Within(Span { start: 0, len: 0 }),
+        None => Scope::Any,
     }
 }
 
@@ -147,7 +140,7 @@ fn put_typed(
 ) -> Place
     ensures { is_reference (split_of s.now split) ≡ true → Adds (link (part_of s.now name) c (composed_reference (split_of s.now split)) ∷ []) held.old at held.new result }
 {
-    let n = split.namespace;
+    let n = split.namespace.unwrap_or(Span { start: 0, len: 0 });
     let a = split.article;
     let x = part(s, n.start, n.len);
     let y = part(s, a.start, a.len);
@@ -163,8 +156,7 @@ fn put_typed(
         len: a_size,
     };
     let typed = Split {
-        qualified: split.qualified,
-        namespace,
+        namespace: split.namespace.and(Some(namespace)),
         article,
     };
     put_select(s, &names, held, at, Selector::Link(name, c, typed))
