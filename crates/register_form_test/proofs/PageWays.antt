@@ -1,7 +1,7 @@
 -- What the functions on pages answer, by what they called.
 use Prim.Native.Nat.{ℕ, zero, suc, ◌+◌, ◌*◌, ◌-◌, ◌≤◌, ◌<◌}
 use mathlib.Core.Path.{◌≡◌, refl, ap, ap₂, sym, ◌∙◌}
-use mathlib.Core.Bool.{Bool, true, false, not, ◌&&◌, ◌||◌, and-false, true≢false}
+use mathlib.Core.Bool.{Bool, true, false, not, ◌&&◌, ◌||◌, and-false, and-true, true≢false}
 use mathlib.Core.List.{List}
 use native.Mathlib.Omega.{arith}
 use native.Mathlib.Numerals.{add-one}
@@ -13,7 +13,6 @@ use Rattle.text.specs.Bytes.{Bytes, part}
 use Rattle.buffer.specs.Numbers.{two_at}
 use Rattle.buffer.proofs.Parts.{length_part, get_d_part}
 use Rattle.buffer.proofs.Regions.{all_to_lem}
-use Rattle.sorting.proofs.Canonical.{right_of}
 use Rattle.register_form.specs.Dictionary.{group_of, is_category}
 use Rattle.register_form.specs.Form.{page_count, term_count, text_count, form_start, form_at, term_at}
 use Rattle.register_form.specs.Tests.{is_laid}
@@ -21,7 +20,7 @@ use Rattle.register_form.proofs.Laying.{laid_facts, rises_to}
 use Rattle.buffer.specs.Tests.{all_to}
 use Rattle.register_form_test.specs.Loops.{sum_to, is_set}
 use Rattle.register_form_test.specs.Stages.{text_length, form_count, form_bytes, form_in, behind_at, form_ok, last_by, form_test, form_length, FormsTested, PagesTested, identifier_at, last_to, places_to, page_ok, page_test, page_length, used_test}
-use Rattle.register_form_test.specs.declared.Tally.{Tally}
+use Rattle.std.specs.Prelude.{Option, Some, None}
 use Rattle.register_form_test.proofs.Loops.{sum_more, length_written, written_length}
 
 all_fails : (f : ℕ → Bool) (n j : ℕ) → j < n → f j ≡ false → false ≡ all_to n f
@@ -106,26 +105,26 @@ module _ (h : Bytes) where
 
       -- One test of form j, by the table as it was left.
       module _ (shown last u : List ℕ) (mark : ℕ) (p : u ≡ last_by h mark i j last) where
-        failed : form_test h mark last i j ≡ false → FormsTested h shown last u mark i (record { ok = false; bytes = 0 })
+        failed : form_test h mark last i j ≡ false → FormsTested h shown last u mark i None
         failed z =
             record {
               ok = all_fails (form_test h mark last i) (form_count h i) j (omega (arith, forms_count)) z;
-              bytes = λ k. absurd (true≢false (sym k));
-              marks = λ k. absurd (true≢false (sym k));
+              bytes = tt;
+              marks = tt;
               size = written_length (form_in h i) (λ j. mark) last j u p;
-              most = omega arith;
+              most = tt;
             }
 
-        pub form_past : (n : ℕ) → n ≡ term_count h → n ≤ f → FormsTested h shown last u mark i (record { ok = false; bytes = 0 })
+        pub form_past : (n : ℕ) → n ≡ term_count h → n ≤ f → FormsTested h shown last u mark i None
         unfolding form_test form_ok
         form_past n a x = failed (rw (← a, ← form_in_lem, le-ltb f n x))
 
-        pub form_again : (w v : ℕ) → w ≡ f → v ≡ get_or u w 0 → v ≡ mark → FormsTested h shown last u mark i (record { ok = false; bytes = 0 })
+        pub form_again : (w v : ℕ) → w ≡ f → v ≡ get_or u w 0 → v ≡ mark → FormsTested h shown last u mark i None
         unfolding form_test form_ok
         form_again w v b c x =
             failed (mid_false (ltb (form_in h i j) (term_count h)) (not (eqb (get_or (last_by h mark i j last) (form_in h i j) 0) mark)) (not (behind_at h i j && is_category (term_at h (form_in h i j)))) (rw (← p, ← form_in_lem, ← b, ← c, eq-eqb v mark x)))
 
-        pub form_behind : (g : ℕ) (behind : Bool) → behind ≡ behind_at h i j → g ≡ group_of (term_at h f) → (behind && eqb g 0) ≡ true → FormsTested h shown last u mark i (record { ok = false; bytes = 0 })
+        pub form_behind : (g : ℕ) (behind : Bool) → behind ≡ behind_at h i j → g ≡ group_of (term_at h f) → (behind && eqb g 0) ≡ true → FormsTested h shown last u mark i None
         unfolding form_test form_ok
         form_behind g behind d m z = failed (rw (← form_in_lem, ← d, ← m, z, and-false))
 
@@ -134,13 +133,13 @@ module _ (h : Bytes) where
       form_passed last u mark n w v g behind p a b c d m x y z ok = rw (add-one j, ok, ← p, ← form_in_lem, ← a, ← d, ← m, z, lt-ltb f n x, ← b, ← c, ne_eqb v mark y)
 
     -- where the loop ends
-    pub forms_passed : (j : ℕ) → 2 * j ≤ length s → length s < 2 * j + 2 → (shown last u : List ℕ) (mark b : ℕ) → all_to j (form_test h mark last i) ≡ true → b ≡ sum_to j (form_length h shown i) → u ≡ last_by h mark i j last → b ≤ 65535 * j → FormsTested h shown last u mark i (record { ok = true; bytes = b })
+    pub forms_passed : (j : ℕ) → 2 * j ≤ length s → length s < 2 * j + 2 → (shown last u : List ℕ) (mark b : ℕ) → all_to j (form_test h mark last i) ≡ true → b ≡ sum_to j (form_length h shown i) → u ≡ last_by h mark i j last → b ≤ 65535 * j → FormsTested h shown last u mark i (Some b)
     forms_passed j x y shown last u mark b ok sum p few =
         let n : j ≡ form_count h i = omega (arith, forms_count) in
         record {
           ok = sym ok ∙ rw n;
-          bytes = λ k. sum ∙ rw n;
-          marks = λ k. p ∙ rw n;
+          bytes = sum ∙ rw n;
+          marks = p ∙ rw n;
           size = written_length (form_in h i) (λ j. mark) last j u p;
           most = omega (arith, forms_few);
         }
@@ -165,50 +164,59 @@ module _ (h : Bytes) where
     pub last_length : (i : ℕ) (u : List ℕ) → u ≡ last_to h i last → length u ≡ length last
     last_length i u e = ap length e ∙ length_last i
 
-    module _ (shown : List ℕ) (i : ℕ) (u w : List ℕ) (r : Tally) (e : u ≡ last_to h i last) (forms : FormsTested h shown u w (i + 1) i r) where
-      pub last_more : (t : Bool) → not (t && r.ok) ≡ false → w ≡ last_to h (i + 1) last
-      unfolding last_to
-      last_more t z = forms.marks (right_of t r.ok (not-false (t && r.ok) z)) ∙ ap (λ (l : List ℕ). last_by h (i + 1) i (form_count h i) l) e ∙ ap (λ (n : ℕ). last_to h n last) (sym (add-one i))
+    module _ (shown : List ℕ) (i : ℕ) (u w : List ℕ) (e : u ≡ last_to h i last) where
+      -- Page i fails by its forms, or by its identifier.
+      module _ (classes places v : List ℕ) (x : ℕ) (k : v ≡ places_to h i places) where
+        failed_page : page_test h classes last places i ≡ false → length w ≡ length u → (n : ℕ) → i < n → n ≡ page_count h → PagesTested h classes shown last places w v None
+        failed_page z q n b m =
+            record {
+              ok = all_fails (page_test h classes last places) (page_count h) i (omega arith) z;
+              bytes = tt;
+              marks = tt;
+              table = tt;
+              size = written_length (identifier_at h) (λ i. i + 1) places i v k;
+              most = tt;
+            }
 
-      pub forms_size : length w ≡ length last
-      forms_size = forms.size ∙ last_length i u e
+        pub forms_failed : FormsTested h shown u w (i + 1) i None → (n : ℕ) → i < n → n ≡ page_count h → PagesTested h classes shown last places w v None
+        unfolding page_test
+        forms_failed forms = failed_page (rw (← e, ← forms.ok, and-false)) forms.size
 
-      page_is_test : (classes places v : List ℕ) (x : ℕ) (t : Bool) → x ≡ identifier_at h i → v ≡ places_to h i places → t ≡ page_ok h classes v x → page_test h classes last places i ≡ (t && r.ok)
-      unfolding page_test
-      page_is_test classes places v x t q k l =
-          let a : t ≡ page_ok h classes (places_to h i places) (identifier_at h i) = l ∙ rw (k, q) in
-          let b : r.ok ≡ all_to (form_count h i) (form_test h (i + 1) (last_to h i last) i) = forms.ok ∙ rw e in
-          rw (a, b)
+        module _ (r : ℕ) (forms : FormsTested h shown u w (i + 1) i (Some r)) (q : x ≡ identifier_at h i) (t : Bool) (l : t ≡ page_ok h classes v x) where
+          page_is_test : page_test h classes last places i ≡ t
+          unfolding page_test
+          page_is_test =
+              let a : page_ok h classes (places_to h i places) (identifier_at h i) ≡ t = sym (l ∙ rw (k, q)) in
+              rw (← e, ← forms.ok, a, and-true)
 
-      pub page_failed : (classes places v : List ℕ) (x n : ℕ) (t : Bool) → x ≡ identifier_at h i → v ≡ places_to h i places → t ≡ page_ok h classes v x → not (t && r.ok) ≡ true → i < n → n ≡ page_count h → PagesTested h classes shown last places w v (record { ok = false; bytes = 0 })
-      page_failed classes places v x n t q k l z b m =
-          record {
-            ok = all_fails (page_test h classes last places) (page_count h) i (omega arith) (page_is_test classes places v x t q k l ∙ not-true (t && r.ok) z);
-            bytes = λ k. absurd (true≢false (sym k));
-            marks = λ k. absurd (true≢false (sym k));
-            table = λ k. absurd (true≢false (sym k));
-            size = written_length (identifier_at h) (λ i. i + 1) places i v k;
-            most = omega arith;
-          }
+          pub page_failed : not t ≡ true → (n : ℕ) → i < n → n ≡ page_count h → PagesTested h classes shown last places w v None
+          page_failed z = failed_page (page_is_test ∙ not-true t z) forms.size
 
-      pub page_passed : (classes places v : List ℕ) (x : ℕ) (t : Bool) → x ≡ identifier_at h i → v ≡ places_to h i places → t ≡ page_ok h classes v x → not (t && r.ok) ≡ false → all_to i (page_test h classes last places) ≡ true → all_to (i + 1) (page_test h classes last places) ≡ true
-      unfolding all_to
-      page_passed classes places v x t q k l z ok = rw (add-one i, ok, page_is_test classes places v x t q k l, not-false (t && r.ok) z)
+          pub page_passed : not t ≡ false → all_to i (page_test h classes last places) ≡ true → all_to (i + 1) (page_test h classes last places) ≡ true
+          unfolding all_to
+          page_passed z ok = rw (add-one i, ok, page_is_test, not-false t z)
 
-    pub page_sum : (shown : List ℕ) (i : ℕ) (u w : List ℕ) (r : Tally) → FormsTested h shown u w (i + 1) i r → (t : Bool) → not (t && r.ok) ≡ false → (s x n m : ℕ) → s ≡ sum_to i (page_length h shown) → x ≡ identifier_at h i → n ≡ text_length h x - 1 → m ≡ n → s + (m + r.bytes) ≡ sum_to (i + 1) (page_length h shown)
-    unfolding page_length
-    page_sum shown i u w r forms t z s x n m p q k l =
-        sum_more (page_length h shown) i s (m + r.bytes) p (ap₂ ◌+◌ (l ∙ k ∙ rw q) (forms.bytes (right_of t r.ok (not-false (t && r.ok) z))))
+      module _ (r : ℕ) (forms : FormsTested h shown u w (i + 1) i (Some r)) where
+        pub last_more : w ≡ last_to h (i + 1) last
+        unfolding last_to
+        last_more = forms.marks ∙ ap (λ (l : List ℕ). last_by h (i + 1) i (form_count h i) l) e ∙ ap (λ (n : ℕ). last_to h n last) (sym (add-one i))
+
+        pub page_sum : (s x n m : ℕ) → s ≡ sum_to i (page_length h shown) → x ≡ identifier_at h i → n ≡ text_length h x - 1 → m ≡ n → s + (m + r) ≡ sum_to (i + 1) (page_length h shown)
+        unfolding page_length
+        page_sum s x n m p q k l = sum_more (page_length h shown) i s (m + r) p (ap₂ ◌+◌ (l ∙ k ∙ rw q) forms.bytes)
+
+    pub forms_size : (shown : List ℕ) (i : ℕ) (u w : List ℕ) (r : Option ℕ) → u ≡ last_to h i last → FormsTested h shown u w (i + 1) i r → length w ≡ length last
+    forms_size shown i u w r e forms = forms.size ∙ last_length i u e
 
     -- where the loop ends
-    pub pages_passed : (shown classes places u v : List ℕ) (i n b : ℕ) → is_laid h ≡ true → n ≡ page_count h → i ≤ n → n ≤ i → all_to i (page_test h classes last places) ≡ true → b ≡ sum_to i (page_length h shown) → u ≡ last_to h i last → v ≡ places_to h i places → b ≤ 4295032831 * i → PagesTested h classes shown last places u v (record { ok = true; bytes = b })
+    pub pages_passed : (shown classes places u v : List ℕ) (i n b : ℕ) → is_laid h ≡ true → n ≡ page_count h → i ≤ n → n ≤ i → all_to i (page_test h classes last places) ≡ true → b ≡ sum_to i (page_length h shown) → u ≡ last_to h i last → v ≡ places_to h i places → b ≤ 4295032831 * i → PagesTested h classes shown last places u v (Some b)
     pages_passed shown classes places u v i n b laid m x y ok sum p q few =
         let e : i ≡ page_count h = omega arith in
         record {
           ok = sym ok ∙ rw e;
-          bytes = λ k. sum ∙ rw e;
-          marks = λ k. p ∙ rw e;
-          table = λ k. q ∙ rw e;
+          bytes = sum ∙ rw e;
+          marks = p ∙ rw e;
+          table = q ∙ rw e;
           size = written_length (identifier_at h) (λ i. i + 1) places i v q;
           most = omega (arith, (laid_facts h laid).counted.pages);
         }

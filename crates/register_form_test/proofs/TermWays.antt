@@ -45,12 +45,12 @@ module _ (j k : Judged) (e : j ≡ k) where
   bytes_of = rw e
 
 -- Terms that differ in their first eight bytes are ordered by these.
-pub term_keyed : (h : Bytes) → Small h → (f w x y : ℕ) → (f ≡ 0 → ⊥) → w ≡ f - 1 → x ≡ key_to 8 (drop (5322 + 9 * w) h) → y ≡ key_to 8 (drop (5322 + 9 * w + 9) h) → (x ≡ y → ⊥) → ltb x y ≡ climbs (term_at h) f
+pub term_keyed : (h : Bytes) → Small h → (f w x y : ℕ) → (f ≡ 0 → ⊥) → w ≡ 5322 + 9 * (f - 1) → x ≡ key_to 8 (drop w h) → y ≡ key_to 8 (drop (w + 9) h) → (x ≡ y → ⊥) → ltb x y ≡ climbs (term_at h) f
 unfolding climbs term_at
 term_keyed h s zero w x y n e p q d = absurd (n refl)
 term_keyed h s (suc f) w x y n e p q d =
-    let v : w ≡ f = omega arith in
-    let z : 5322 + 9 * w + 9 ≡ 5322 + 9 * suc f = omega arith in
+    let v : w ≡ 5322 + 9 * f = omega arith in
+    let z : w + 9 ≡ 5322 + 9 * suc f = omega arith in
     let a : x ≡ key_to 8 (part h (5322 + 9 * f) 9) = p ∙ rw v (sym (key_take 8 9 (drop (5322 + 9 * f) h) (lit≤ tt))) in
     let b : y ≡ key_to 8 (part h (5322 + 9 * suc f) 9) = q ∙ rw z (sym (key_take 8 9 (drop (5322 + 9 * suc f) h) (lit≤ tt))) in
     sym

@@ -58,11 +58,11 @@ module _ (h : Bytes) (small : Small h) where
       → n ≤ length s
       → n ≤ length t
       → u ≡ text_start h (x - 1)
-      → u' ≡ u
+      → u' ≡ 28492 + u
       → v ≡ text_start h x
-      → v' ≡ v
-      → a ≡ key_to n (drop (28492 + u') h)
-      → b ≡ key_to n (drop (28492 + v') h)
+      → v' ≡ 28492 + v
+      → a ≡ key_to n (drop u' h)
+      → b ≡ key_to n (drop v' h)
       → (a ≡ b → ⊥)
       → ltb a b ≡ climbs (text_at h) x
   text_keyed x n u u' v v' a b s t z e f k l p p' q q' m o d =

@@ -1,6 +1,7 @@
 -- What the functions on texts and properties answer, by what they called.
-use Prim.Native.Nat.{ℕ, zero, suc, ◌+◌, ◌-◌}
-use mathlib.Core.Path.{◌≡◌, refl, ap, ◌∙◌}
+use Prim.Native.Nat.{ℕ, zero, suc, ◌+◌, ◌-◌, ◌*◌, ◌≤◌}
+use mathlib.Core.Path.{◌≡◌, refl, ap, sym, ◌∙◌}
+use Rattle.std.specs.Prelude.{Some, None}
 use mathlib.Core.Bool.{Bool, true, false, cond, ◌&&◌, ◌||◌, and_assoc}
 use mathlib.Core.List.{List}
 use native.Mathlib.Omega.{arith}
@@ -18,11 +19,11 @@ use Rattle.language.specs.Rules.{is_identifier}
 use Rattle.sorting.specs.Ascending.{is_less}
 use Rattle.sorting.proofs.Canonical.{less_is_lt}
 use Rattle.register_form.specs.Dictionary.{space_of, name_of, identifier_of}
-use Rattle.register_form.specs.Form.{text_count, text_start, text_at}
+use Rattle.register_form.specs.Form.{property_count, text_count, text_start, text_at}
 use Rattle.register_form.specs.Tests.{is_labelled, is_plain}
 use Rattle.buffer.specs.Tests.{all_to}
 use Rattle.register_form_test.specs.Loops.{sum_to, climbs}
-use Rattle.register_form_test.specs.Stages.{class_of, text_test, Classed, text_length, name_number, property_ok, names_to, property_test, property_length}
+use Rattle.register_form_test.specs.Stages.{class_of, text_test, Classed, PropertiesTested, text_length, name_number, property_ok, names_to, property_test, property_length}
 use Rattle.buffer.proofs.Testing.{all_more}
 use Rattle.register_form_test.proofs.Loops.{sum_more}
 
@@ -102,6 +103,23 @@ module _ (h : Bytes) (p x : ℕ) (e : x ≡ name_number h p) where
   pub property_sum : (n w s : ℕ) → s ≡ sum_to p (property_length h) → n ≡ text_length h x - 1 → w ≡ n → s + w ≡ sum_to (p + 1) (property_length h)
   unfolding property_length
   property_sum n w s f g k = sum_more (property_length h) p s w f (k ∙ g ∙ rw e)
+
+-- where the loop over properties ends
+module _ (h : Bytes) (used u : List ℕ) (i n b : ℕ) (ok : Bool) (e : ok ≡ all_to i (property_test h used)) (p : u ≡ names_to h i used) (a : i ≤ n) (z : n ≤ i) (m : n ≡ property_count h) where
+  pub properties_end : ok ≡ true → b ≡ sum_to i (property_length h) → b ≤ 65535 * i → n ≤ 65535 → PropertiesTested h used u (Some b)
+  properties_end t sum few l =
+      let k : i ≡ property_count h = omega arith in
+      record {
+        ok = sym t ∙ e ∙ rw k;
+        bytes = sum ∙ rw k;
+        marks = p ∙ rw k;
+        most = omega arith;
+      }
+
+  pub properties_fail : ok ≡ false → PropertiesTested h used u None
+  properties_fail t =
+      let k : i ≡ property_count h = omega arith in
+      record { ok = sym t ∙ e ∙ rw k; bytes = tt; marks = p ∙ rw k; most = tt }
 
 pub ruleset texts =
     (labelled_is, climbs_first, climbs_on, text_tested, length_is, property_is, property_more, property_sum)

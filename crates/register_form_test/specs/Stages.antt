@@ -1,5 +1,5 @@
 -- Working definitions: what each function tests and writes, over tables of numbers.
-use Rattle.std.specs.Prelude.{ℕ, zero, suc, ◌+◌, ◌*◌, ◌-◌, ◌≤◌, ◌<◌, ◌≡◌, Bool, true, false, cond, not, ◌&&◌, ◌||◌, List, ltb, leb, eqb, length, get_or}
+use Rattle.std.specs.Prelude.{ℕ, zero, suc, ◌+◌, ◌*◌, ◌-◌, ◌≤◌, ◌<◌, ◌≡◌, Bool, false, cond, not, ◌&&◌, ◌||◌, List, ltb, leb, eqb, length, get_or, Option, is_some, IfSome, OnSome}
 use Rattle.text.specs.Bytes.{Bytes, part}
 use Rattle.values.specs.Values.{in_range, kind_count}
 use Rattle.values.specs.declared.Kind.{Kind}
@@ -14,7 +14,6 @@ use Rattle.register_form.specs.Tests.{is_labelled, is_plain}
 use Rattle.buffer.specs.Tests.{all_to, zeros_at}
 use Rattle.register_form_test.specs.Loops.{written, sum_to, climbs, is_set}
 use Rattle.register_form_test.specs.declared.Judged.{Judged}
-use Rattle.register_form_test.specs.declared.Tally.{Tally}
 
 -- What a text may be: 3 an identifier with a namespace, 2 a name, 1 a value that is no name, 0 none of these.
 unfoldable pub class_of : Bytes → ℕ
@@ -80,11 +79,11 @@ module _ (h : Bytes) where
   unfoldable pub property_length : ℕ → ℕ
   property_length p = text_length (name_number p) - 1
 
-  pub record PropertiesTested (used used' : List ℕ) (r : Tally) : Type 0 where
-    pub ok : r.ok ≡ all_to (property_count h) (property_test used)
-    pub bytes : r.bytes ≡ sum_to (property_count h) property_length
+  pub record PropertiesTested (used used' : List ℕ) (r : Option ℕ) : Type 0 where
+    pub ok : is_some r ≡ all_to (property_count h) (property_test used)
+    pub bytes : IfSome r (λ b. b ≡ sum_to (property_count h) property_length)
     pub marks : used' ≡ names_to (property_count h) used
-    pub most : r.bytes ≤ 4294967296
+    pub most : IfSome r (λ b. b ≤ 4294967296)
 
   -- Of a term, over the table of classes.
   unfoldable pub spelled_length : ℕ → ℕ → ℕ
@@ -157,12 +156,12 @@ module _ (h : Bytes) where
   form_length shown i j = get_or shown (form_in i j) 0
 
   -- What is counted and written is told only where the tests hold: they end with the first that does not.
-  pub record FormsTested (shown last last' : List ℕ) (mark i : ℕ) (r : Tally) : Type 0 where
-    pub ok : r.ok ≡ all_to (form_count i) (form_test mark last i)
-    pub bytes : r.ok ≡ true → r.bytes ≡ sum_to (form_count i) (form_length shown i)
-    pub marks : r.ok ≡ true → last' ≡ last_by mark i (form_count i) last
+  pub record FormsTested (shown last last' : List ℕ) (mark i : ℕ) (r : Option ℕ) : Type 0 where
+    pub ok : is_some r ≡ all_to (form_count i) (form_test mark last i)
+    pub bytes : IfSome r (λ b. b ≡ sum_to (form_count i) (form_length shown i))
+    pub marks : OnSome r (last' ≡ last_by mark i (form_count i) last)
     pub size : length last' ≡ length last
-    pub most : r.bytes ≤ 4294967296
+    pub most : IfSome r (λ b. b ≤ 4294967296)
 
   -- Of the pages, over that table and the table of places.
   abbrev pub identifier_at : ℕ → ℕ
@@ -184,10 +183,10 @@ module _ (h : Bytes) where
   unfoldable pub page_length : List ℕ → ℕ → ℕ
   page_length shown i = (text_length (identifier_at i) - 1) + sum_to (form_count i) (form_length shown i)
 
-  pub record PagesTested (classes shown last places last' places' : List ℕ) (r : Tally) : Type 0 where
-    pub ok : r.ok ≡ all_to (page_count h) (page_test classes last places)
-    pub bytes : r.ok ≡ true → r.bytes ≡ sum_to (page_count h) (page_length shown)
-    pub marks : r.ok ≡ true → last' ≡ last_to (page_count h) last
-    pub table : r.ok ≡ true → places' ≡ places_to (page_count h) places
+  pub record PagesTested (classes shown last places last' places' : List ℕ) (r : Option ℕ) : Type 0 where
+    pub ok : is_some r ≡ all_to (page_count h) (page_test classes last places)
+    pub bytes : IfSome r (λ b. b ≡ sum_to (page_count h) (page_length shown))
+    pub marks : OnSome r (last' ≡ last_to (page_count h) last)
+    pub table : OnSome r (places' ≡ places_to (page_count h) places)
     pub size : length places' ≡ length places
-    pub most : r.bytes ≤ 562949953421312
+    pub most : IfSome r (λ b. b ≤ 562949953421312)

@@ -6,42 +6,16 @@ ghost use Rattle.buffer.specs.Tests.{all_to, zeros_at};
 ghost use Rattle.register_form_test.specs.Stages.{are_rows_padded, kind_test, start_at, rise_test};
 
 use buffer::{two_at, zeros};
+use register_form::layout::{
+    FORM_BYTES, FORM_ENDS, FORM_STARTS, FORMS, MOST_FORMS, MOST_PAGES, MOST_PROPERTIES, MOST_TEXTS,
+    PAGE_BYTES, PAGES, PROPERTIES, PROPERTY_BYTES, TERM_BYTES, TERMS, TEXT_BYTES, TEXT_END_BYTES,
+    TEXT_ENDS, TEXT_STARTS, TEXTS,
+};
 use register_form::{
-    REGISTER_BYTES, form_start, kind_byte, layout, page_count, property_count, term_count,
+    REGISTER_BYTES, form_start, kind_byte, number_at, page_count, property_count, term_count,
     text_count, text_start,
 };
 use values::KIND_COUNT;
-
-// The layout's numbers in 16 bits.
-const FORMS: u16 = layout::FORMS as u16;
-
-const FORM_BYTES: u16 = layout::FORM_BYTES as u16;
-
-const FORM_ENDS: u16 = layout::FORM_ENDS as u16;
-
-const FORM_STARTS: u16 = layout::FORM_STARTS as u16;
-
-const PAGES: u16 = layout::PAGES as u16;
-
-const PAGE_BYTES: u16 = layout::PAGE_BYTES as u16;
-
-const PROPERTIES: u16 = layout::PROPERTIES as u16;
-
-const PROPERTY_BYTES: u16 = layout::PROPERTY_BYTES as u16;
-
-const TERMS: u16 = layout::TERMS as u16;
-
-const TERM_BYTES: u16 = layout::TERM_BYTES as u16;
-
-const TEXTS: u16 = layout::TEXTS as u16;
-
-const TEXT_BYTES: u16 = layout::TEXT_BYTES as u16;
-
-const TEXT_ENDS: u16 = layout::TEXT_ENDS as u16;
-
-const TEXT_END_BYTES: u16 = layout::TEXT_END_BYTES as u16;
-
-const TEXT_STARTS: u16 = layout::TEXT_STARTS as u16;
 
 // Whether a region's bytes behind the first n are 0.
 fn zeros_behind(h: &[u8], base: u16, size: u16, n: usize) -> bool
@@ -59,8 +33,12 @@ fn are_rows_padded(h: &[u8]) -> bool
     ensures { result ≡ are_rows_padded h.now }
 {
     let pages = page_count(h);
-    zeros_behind(h, PROPERTIES, PROPERTY_BYTES, 3 * usize::from(property_count(h)))
-        & zeros_behind(h, PAGES, PAGE_BYTES, 2 * usize::from(pages))
+    zeros_behind(
+        h,
+        PROPERTIES,
+        PROPERTY_BYTES,
+        3 * usize::from(property_count(h)),
+    ) & zeros_behind(h, PAGES, PAGE_BYTES, 2 * usize::from(pages))
         & zeros_behind(h, FORM_ENDS, PAGE_BYTES, 2 * usize::from(pages))
         & zeros_behind(h, FORMS, FORM_BYTES, 2 * usize::from(form_start(h, pages)))
 }
@@ -79,10 +57,10 @@ fn is_padded(h: &[u8]) -> bool
 fn is_counted(h: &[u8]) -> bool
     ensures { result ≡ is_counted h.now }
 {
-    (property_count(h) <= layout::MOST_PROPERTIES)
-        & (page_count(h) <= layout::MOST_PAGES)
-        & (term_count(h) <= layout::MOST_FORMS)
-        & (text_count(h) <= layout::MOST_TEXTS)
+    (property_count(h) <= MOST_PROPERTIES)
+        & (page_count(h) <= MOST_PAGES)
+        & (term_count(h) <= MOST_FORMS)
+        & (text_count(h) <= MOST_TEXTS)
 }
 
 // Whether the byte of property p's kind is one of a kind.
@@ -95,23 +73,14 @@ fn is_kind(h: &[u8], p: u16) -> bool
 fn are_kinds(h: &[u8]) -> bool
     ensures { result ≡ all_to (property_count h.now) (kind_test h.now) }
 {
-    let n = property_count(h);
     let mut ok = true;
-    let mut p: u16 = 0;
-    while p < n {
+    for p in 0..property_count(h) {
         ok = ok & is_kind(h, p);
-        p += 1;
     }
     ok
 }
 
-// Number i of a table of starts; whether the next is no less.
-fn start_at(h: &[u8], table: u16, i: u16) -> u16
-    ensures { result ≡ start_at h.now table i }
-{
-    two_at(h, usize::from(table) + 2 * usize::from(i))
-}
-
+// Whether number i of a table of starts is at most the next.
 fn keeps_up(h: &[u8], table: u16, i: u16) -> bool
     ensures { result ≡ rise_test h.now table i }
 {
@@ -124,10 +93,8 @@ fn never_falls(h: &[u8], table: u16, n: u16) -> bool
     ensures { result ≡ all_to n (rise_test h.now table) }
 {
     let mut ok = true;
-    let mut i: u16 = 0;
-    while i < n {
+    for i in 0..n {
         ok = ok & keeps_up(h, table, i);
-        i += 1;
     }
     ok
 }
@@ -136,7 +103,7 @@ fn never_falls(h: &[u8], table: u16, n: u16) -> bool
 fn rises_to(h: &[u8], table: u16, n: u16, most: u16) -> bool
     ensures { result ≡ rises (start_at h.now table) n most }
 {
-    (start_at(h, table, 0) == 0) & never_falls(h, table, n) & (start_at(h, table, n) <= most)
+    (number_at(h, table, 0) == 0) & never_falls(h, table, n) & (number_at(h, table, n) <= most)
 }
 
 // Whether the bytes are laid out as those of a dictionary.
@@ -150,7 +117,7 @@ pub fn is_laid(h: &[u8]) -> bool
         return false;
     }
     are_kinds(h)
-        & rises_to(h, FORM_STARTS, page_count(h), layout::MOST_FORMS)
+        & rises_to(h, FORM_STARTS, page_count(h), MOST_FORMS)
         & rises_to(h, TEXT_STARTS, text_count(h), TEXT_BYTES)
         & is_padded(h)
 }

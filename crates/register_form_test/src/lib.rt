@@ -1,7 +1,7 @@
 // Whether bytes are the form of a register: layout, texts, terms and pages, each gone over once.
 #![tactic(auto)]
 
-ghost use Rattle.std.specs.Prelude.{◌≡◌, length, replicate};
+ghost use Rattle.std.specs.Prelude.{◌≡◌};
 ghost use Rattle.register_form_test.specs.Opening.{Opens, Tries};
 
 pub mod layout; // layout.rt: the counts, the tables of starts and the zeros behind each region
@@ -15,30 +15,13 @@ use register_form::layout::{FORM_ROOM, MOST_BYTES, TEXT_ROOM};
 use terms::terms_ok;
 use texts::{properties_ok, texts_ok};
 
-// Whether tests hold, and how many bytes were counted.
-#[derive(Clone, Copy)]
-pub struct Tally {
-    pub ok: bool,
-    pub bytes: usize,
-}
-
-// Whether a term keeps the rules, the number of the text that it names, and how many bytes it counts for.
+// Whether a term keeps the rules, the number of the text that it names, and how many bytes it counts for. No Option of the rest, and
+// 65,535 for no text, past every table: the loop over terms never stops, and writes both of a term that breaks a rule too.
 #[derive(Clone, Copy)]
 pub struct Judged {
     pub ok: bool,
     pub text: u16,
     pub bytes: u16,
-}
-
-// Writes 0 into every place.
-fn clear(t: &mut [u16])
-    ensures { t.new ≡ replicate (length t.old) 0 }
-{
-    let mut i: usize = 0;
-    while i < t.len() {
-        t[i] = 0;
-        i += 1;
-    }
 }
 
 // Whether the bytes are the form of a register; writes the places of its pages into a table that is all 0.
@@ -52,18 +35,19 @@ fn try_open(h: &[u8], places: &mut [u16]) -> bool
     let mut used = [0u16; TEXT_ROOM];
     let mut shown = [0u16; FORM_ROOM];
     let mut last = [0u16; FORM_ROOM];
-    let texts = texts_ok(h, &mut classes);
-    let properties = properties_ok(h, &classes, &mut used);
-    let terms = terms_ok(h, &classes, &mut used, &mut shown);
-    let pages = pages_ok(h, &classes, &shown, &mut last, places);
-    let bytes = properties.bytes + pages.bytes;
-    texts
-        & properties.ok
-        & terms
-        & pages.ok
-        & terms_used(h, &last)
-        & texts_used(h, &used, places)
-        & (bytes <= MOST_BYTES)
+    if !texts_ok(h, &mut classes) {
+        return false;
+    }
+    let Some(names) = properties_ok(h, &classes, &mut used) else {
+        return false;
+    };
+    if !terms_ok(h, &classes, &mut used, &mut shown) {
+        return false;
+    }
+    let Some(held) = pages_ok(h, &classes, &shown, &mut last, places) else {
+        return false;
+    };
+    terms_used(h, &last) & texts_used(h, &used, places) & (names + held <= MOST_BYTES)
 }
 
 // Whether the bytes are the form of a register; where they are, a table of 2,368 numbers gets for each text that is the identifier of
@@ -75,6 +59,6 @@ pub fn open(h: &[u8], places: &mut [u16]) -> bool
         let mut table = [0u16; TEXT_ROOM];
         return try_open(h, &mut table);
     }
-    clear(places);
+    places.fill(0);
     try_open(h, places)
 }

@@ -6,12 +6,11 @@ ghost use Rattle.buffer.specs.Tests.{all_to};
 ghost use Rattle.register_form_test.specs.Loops.{is_set};
 ghost use Rattle.register_form_test.specs.Stages.{form_bytes, FormsTested, page_ok, PagesTested, used_test};
 
-use crate::Tally;
 use crate::texts::names_length;
 use buffer::two_at;
 use register_form::layout::FORMS;
 use register_form::{
-    form_end, form_start, group_at, identifier_number, minus, page_count, term_count, text_count,
+    form_end, form_start, group_at, identifier_number, page_count, term_count, text_count,
 };
 use tables::{get_or, put};
 use text::part;
@@ -23,14 +22,14 @@ fn forms_of(h: &[u8], i: u16) -> &[u8]
     let start = form_start(h, i);
     part(
         h,
-        FORMS + 2 * usize::from(start),
-        2 * usize::from(minus(form_end(h, i), start)),
+        usize::from(FORMS) + 2 * usize::from(start),
+        2 * usize::from(form_end(h, i).saturating_sub(start)),
     )
 }
 
-// Whether the forms of page i are terms, none twice, categories before values; writes the page's mark for each. The table had the last
+// How many bytes the forms of page i count for, where they are terms, none twice, categories before values; writes the page's mark for each. The table had the last
 // page that has a term, told by its mark. Each test has a branch of its own, which is quicker here than putting answers together.
-fn forms_ok(h: &[u8], shown: &[u16], last: &mut [u16], i: u16, mark: u16) -> Tally
+fn forms_ok(h: &[u8], shown: &[u16], last: &mut [u16], i: u16, mark: u16) -> Option<usize>
     requires { (is_laid h.now ≡ true) × (i < page_count h.now) }
     ensures { FormsTested h.now shown.now last.old last.new mark i result }
 {
@@ -38,73 +37,58 @@ fn forms_ok(h: &[u8], shown: &[u16], last: &mut [u16], i: u16, mark: u16) -> Tal
     let terms = term_count(h);
     let mut behind = false;
     let mut bytes: usize = 0;
-    let mut j: usize = 0;
-    while 2 * j + 2 <= forms.len() {
+    for j in 0..forms.len() / 2 {
         let f = two_at(forms, 2 * j);
         if terms <= f {
-            return Tally {
-                ok: false,
-                bytes: 0,
-            };
+            return None;
         }
         let at = usize::from(f);
         if get_or(last, at, 0) == mark {
-            return Tally {
-                ok: false,
-                bytes: 0,
-            };
+            return None;
         }
         let category = group_at(h, f) == 0;
         if behind & category {
-            return Tally {
-                ok: false,
-                bytes: 0,
-            };
+            return None;
         }
         put(last, at, mark);
         bytes += usize::from(get_or(shown, at, 0));
         behind = !category;
-        j += 1;
     }
-    Tally { ok: true, bytes }
+    Some(bytes)
 }
 
 // Whether text x is an identifier that no page has yet.
 fn page_ok(h: &[u8], classes: &[u16], places: &[u16], x: u16) -> bool
     ensures { result ≡ page_ok h.now classes.now places.now x }
 {
-    (x < text_count(h)) & (2 <= get_or(classes, usize::from(x), 0)) & (get_or(places, usize::from(x), 0) == 0)
+    (x < text_count(h))
+        & (2 <= get_or(classes, usize::from(x), 0))
+        & (get_or(places, usize::from(x), 0) == 0)
 }
 
-// Whether the pages keep the rules; marks the terms that they have, and writes the place of each.
+// How many bytes the pages count for, where they keep the rules; marks the terms that they have, and writes the place of each.
 pub fn pages_ok(
     h: &[u8],
     classes: &[u16],
     shown: &[u16],
     last: &mut [u16],
     places: &mut [u16],
-) -> Tally
+) -> Option<usize>
     requires { is_laid h.now ≡ true }
     ensures { PagesTested h.now classes.now shown.now last.old places.old last.new places.new result }
 {
-    let n = page_count(h);
     let mut bytes: usize = 0;
-    let mut i: u16 = 0;
-    while i < n {
+    for i in 0..page_count(h) {
         let next = i + 1;
         let x = identifier_number(h, i);
-        let forms = forms_ok(h, shown, last, i, next);
-        if !(page_ok(h, classes, places, x) & forms.ok) {
-            return Tally {
-                ok: false,
-                bytes: 0,
-            };
+        let held = forms_ok(h, shown, last, i, next)?;
+        if !page_ok(h, classes, places, x) {
+            return None;
         }
-        bytes += usize::from(names_length(h, x)) + forms.bytes;
+        bytes += usize::from(names_length(h, x)) + held;
         put(places, usize::from(x), next);
-        i = next;
     }
-    Tally { ok: true, bytes }
+    Some(bytes)
 }
 
 // Whether a table has a number other than 0 in a place.
@@ -123,10 +107,8 @@ pub fn terms_used(h: &[u8], last: &[u16]) -> bool
         return false;
     }
     let mut ok = true;
-    let mut f: usize = 0;
-    while f < n {
+    for f in 0..n {
         ok = ok & (last[f] != 0);
-        f += 1;
     }
     ok
 }
@@ -135,12 +117,9 @@ pub fn terms_used(h: &[u8], last: &[u16]) -> bool
 pub fn texts_used(h: &[u8], used: &[u16], places: &[u16]) -> bool
     ensures { result ≡ all_to (text_count h.now) (used_test used.now places.now) }
 {
-    let n = text_count(h);
     let mut ok = true;
-    let mut x: u16 = 0;
-    while x < n {
+    for x in 0..text_count(h) {
         ok = ok & (is_set(used, x) | is_set(places, x));
-        x += 1;
     }
     ok
 }

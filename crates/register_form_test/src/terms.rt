@@ -8,9 +8,7 @@ ghost use Rattle.register_form_test.specs.Stages.{no_text, spelled_length, judge
 use crate::Judged;
 use crate::texts::text_length;
 use register_form::layout::TERMS;
-use register_form::{
-    code_at, group_at, kind_at, minus, property_count, term_at, term_count, text_count,
-};
+use register_form::{code_at, group_at, kind_at, property_count, term_at, term_count, text_count};
 use tables::{get_or, put};
 use text::{compare, key_at};
 use values::{Kind, Scalar, in_range, scalar_length};
@@ -20,7 +18,7 @@ fn spelled_length(h: &[u8], class: u16, x: u16) -> u16
     ensures { result ≡ spelled_length h.now class x }
 {
     let n = text_length(h, x);
-    if class == 3 { n } else { minus(n, 1) }
+    if class == 3 { n } else { n.saturating_sub(1) }
 }
 
 // A term that names the text x of a class, which is to be of a range.
@@ -103,7 +101,7 @@ fn term_climbs(h: &[u8], f: u16) -> bool
         return true;
     }
     let before = f - 1;
-    let at = TERMS + 9 * usize::from(before);
+    let at = usize::from(TERMS) + 9 * usize::from(before);
     if at + 18 <= h.len() {
         let x = key_at(h, at);
         let y = key_at(h, at + 9);
@@ -118,15 +116,12 @@ fn term_climbs(h: &[u8], f: u16) -> bool
 pub fn terms_ok(h: &[u8], classes: &[u16], used: &mut [u16], shown: &mut [u16]) -> bool
     ensures { TermsTested h.now classes.now used.old shown.old used.new shown.new result }
 {
-    let n = term_count(h);
     let mut ok = true;
-    let mut f: u16 = 0;
-    while f < n {
+    for f in 0..term_count(h) {
         let judged = judge_term(h, classes, f);
         ok = ok & (judged.ok & term_climbs(h, f));
         put(used, usize::from(judged.text), 1);
         put(shown, usize::from(f), judged.bytes);
-        f += 1;
     }
     ok
 }

@@ -8,10 +8,9 @@ ghost use Rattle.buffer.specs.Tests.{all_to};
 ghost use Rattle.register_form_test.specs.Loops.{climbs};
 ghost use Rattle.register_form_test.specs.Stages.{class_of, text_test, classes_to, text_length, Classed, property_ok, PropertiesTested};
 
-use crate::Tally;
 use register_form::layout::TEXTS;
 use register_form::{
-    minus, name_at, name_number, name_of, property_count, space_of, text_at, text_count, text_end,
+    name_at, name_number, name_of, property_count, space_of, text_at, text_count, text_end,
     text_start,
 };
 use tables::{get_or, put};
@@ -29,11 +28,7 @@ fn is_labelled(t: &[u8]) -> bool
 fn common(a: usize, b: usize) -> usize
     ensures { (result ≤ a) × (result ≤ b) × (result ≤ 8) }
 {
-    if a < b {
-        if a < 8 { a } else { 8 }
-    } else {
-        if b < 8 { b } else { 8 }
-    }
+    a.min(b).min(8)
 }
 
 // The key of the n bytes at a place, of which there are 1 to 8.
@@ -56,8 +51,8 @@ fn text_climbs<'a>(h: &'a [u8], t: &'a [u8], x: u16) -> bool
     let before = x - 1;
     let s = text_at(h, before);
     let n = common(s.len(), t.len());
-    let at = TEXTS + usize::from(text_start(h, before));
-    let to = TEXTS + usize::from(text_start(h, x));
+    let at = usize::from(TEXTS) + usize::from(text_start(h, before));
+    let to = usize::from(TEXTS) + usize::from(text_start(h, x));
     if (0 < n) & (at + 8 <= h.len()) & (to + 8 <= h.len()) {
         let a = key_to(h, at, n);
         let b = key_to(h, to, n);
@@ -93,15 +88,12 @@ fn class_of<'a>(t: &'a [u8], rules: &'a [u8]) -> u16
 pub fn texts_ok(h: &[u8], classes: &mut [u16]) -> bool
     ensures { (result ≡ all_to (text_count h.now) (text_test h.now)) × (classes.new ≡ classes_to h.now (text_count h.now) classes.old) }
 {
-    let n = text_count(h);
     let rules = byte_rules();
     let mut ok = true;
-    let mut x: u16 = 0;
-    while x < n {
+    for x in 0..text_count(h) {
         let t = text_at(h, x);
         ok = ok & text_ok(h, t, x);
         put(classes, usize::from(x), class_of(t, &rules));
-        x += 1;
     }
     ok
 }
@@ -110,14 +102,14 @@ pub fn texts_ok(h: &[u8], classes: &mut [u16]) -> bool
 pub fn text_length(h: &[u8], x: u16) -> u16
     ensures { result ≡ text_length h.now x }
 {
-    minus(text_end(h, x), text_start(h, x))
+    text_end(h, x).saturating_sub(text_start(h, x))
 }
 
 // How many bytes the names in text x have.
 pub fn names_length(h: &[u8], x: u16) -> u16
     ensures { result ≡ text_length h.now x - 1 }
 {
-    minus(text_length(h, x), 1)
+    text_length(h, x).saturating_sub(1)
 }
 
 // Whether text x is a property's name that was not used. Its class tells whether it is a name.
@@ -131,21 +123,18 @@ fn property_ok(h: &[u8], classes: &[u16], used: &[u16], x: u16) -> bool
         & (get_or(used, usize::from(x), 0) == 0)
 }
 
-// Whether the properties keep the rules; marks their names as used.
-pub fn properties_ok(h: &[u8], classes: &[u16], used: &mut [u16]) -> Tally
+// How many bytes the properties' names count for, where they keep the rules; marks the names as used.
+pub fn properties_ok(h: &[u8], classes: &[u16], used: &mut [u16]) -> Option<usize>
     requires { Classed h.now classes.now }
     ensures { PropertiesTested h.now used.old used.new result }
 {
-    let n = property_count(h);
     let mut ok = true;
     let mut bytes: usize = 0;
-    let mut p: u16 = 0;
-    while p < n {
+    for p in 0..property_count(h) {
         let x = name_number(h, p);
         ok = ok & property_ok(h, classes, used, x);
         bytes += usize::from(names_length(h, x));
         put(used, usize::from(x), 1);
-        p += 1;
     }
-    Tally { ok, bytes }
+    if ok { Some(bytes) } else { None }
 }

@@ -12,4 +12,4 @@ returns-then-places-ne-TEXT_ROOM c =
 pub returns : goal.returns
 returns c =
     let bytes : (i : ℕ) → get_or c.args.h.now i 0 < 256 = λ i. omega (arith, c.shared_slice_known-1.given i) in
-    open_is _ _ _ _ _ bytes c.if-places-ne-TEXT_ROOM.false c.clear.ensures c.try_open-2.ensures
+    open_is _ _ _ _ _ bytes c.if-places-ne-TEXT_ROOM.false (c.fill.ensures.after (λ y e. e)) c.try_open-2.ensures

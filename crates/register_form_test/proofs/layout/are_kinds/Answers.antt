@@ -1,21 +1,14 @@
-use native.Mathlib.Omega.{arith}
 use borrow.Author.Rules.{rules}
 use Rattle.buffer.proofs.Testing.{tests}
 use Rattle.register_form_test.proofs.Loops.{loops}
 use Rattle.register_form_test.proofs.Ways.{layout}
 use Rattle.register_form_test.proofs.layout.are_kinds.Goals as goal
 
-pub loop-p-init : goal.loop-p-init
-loop-p-init c = search (layout, loops, tests, rules)
-
-pub overflow_add-p : goal.overflow_add-p
-overflow_add-p c = omega arith
-
-pub loop-p-smaller : goal.loop-p-smaller
-loop-p-smaller c = omega arith
-
 pub loop-p-preserved : goal.loop-p-preserved
 loop-p-preserved c = search (layout, loops, tests, rules)
 
 pub returns : goal.returns
 returns c = search (layout, loops, tests, rules)
+
+pub loop-p-init : goal.loop-p-init
+loop-p-init c = search (layout, loops, tests, rules)

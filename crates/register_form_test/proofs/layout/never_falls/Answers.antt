@@ -1,21 +1,14 @@
-use native.Mathlib.Omega.{arith}
 use borrow.Author.Rules.{rules}
 use Rattle.buffer.proofs.Testing.{tests}
 use Rattle.register_form_test.proofs.Loops.{loops}
 use Rattle.register_form_test.proofs.Ways.{layout}
 use Rattle.register_form_test.proofs.layout.never_falls.Goals as goal
 
-pub loop-i-init : goal.loop-i-init
-loop-i-init c = search (layout, loops, tests, rules)
-
-pub overflow_add-i : goal.overflow_add-i
-overflow_add-i c = omega arith
-
-pub loop-i-smaller : goal.loop-i-smaller
-loop-i-smaller c = omega arith
-
 pub loop-i-preserved : goal.loop-i-preserved
 loop-i-preserved c = search (layout, loops, tests, rules)
 
 pub returns : goal.returns
 returns c = search (layout, loops, tests, rules)
+
+pub loop-i-init : goal.loop-i-init
+loop-i-init c = search (layout, loops, tests, rules)

@@ -1,4 +1,4 @@
-use Prim.Native.Nat.{◌≤◌, ◌-◌, ◌*◌}
+use Prim.Native.Nat.{◌≤◌, ◌*◌}
 use mathlib.Core.Path.{◌≡◌}
 use mathlib.Core.Bool.{true}
 use lib.ListN.{length}
@@ -9,6 +9,3 @@ use Rattle.register_form_test.proofs.pages.forms_ok.Given as goal
 
 abbrev pub invariant-loop-j : goal.invariant-loop-j
 invariant-loop-j l = (2 * l.j ≤ length l.forms) × (all_to l.j (form_test l.h l.mark l.initial.last l.i) ≡ true) × (l.behind ≡ behind_at l.h l.i l.j) × (l.bytes ≡ sum_to l.j (form_length l.h l.shown l.i)) × (l.last ≡ last_by l.h l.mark l.i l.j l.initial.last) × (l.bytes ≤ 65535 * l.j) × (length l.forms ≤ 4096)
-
-abbrev pub decreases-loop-j : goal.decreases-loop-j
-decreases-loop-j l = length l.forms - 2 * l.j

@@ -1,4 +1,4 @@
-use Prim.Native.Nat.{◌≤◌, ◌-◌}
+use Prim.Native.Nat.{◌≤◌}
 use mathlib.Core.Path.{◌≡◌}
 use Rattle.buffer.specs.Tests.{all_to}
 use Rattle.register_form_test.specs.Loops.{is_set}
@@ -6,7 +6,4 @@ use lib.ListN.{length}
 use Rattle.register_form_test.proofs.pages.terms_used.Given as goal
 
 abbrev pub invariant-loop-f : goal.invariant-loop-f
-invariant-loop-f l = (l.f ≤ l.n) × (l.ok ≡ all_to l.f (is_set l.last)) × (l.n ≤ length l.last)
-
-abbrev pub decreases-loop-f : goal.decreases-loop-f
-decreases-loop-f l = l.n - l.f
+invariant-loop-f l = (l.ok ≡ all_to l.f (is_set l.last)) × (l.n ≤ length l.last)

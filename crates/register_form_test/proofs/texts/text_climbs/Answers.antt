@@ -14,7 +14,7 @@ pub key_to-b-requires : goal.key_to-b-requires
 key_to-b-requires c = (some_byte _ _ _ c.if-n-at.true, c.common-n.ensures.2)
 
 pub returns-then-a-b : goal.returns-then-a-b
-returns-then-a-b c = text_keyed c.args.h.now (λ i. omega (arith, c.shared_slice_known-1.given i)) c.args.x _ _ _ _ _ _ _ _ _ c.if-x-eq0.false c.text_at-s.ensures c.requires c.common-n.ensures.0 c.common-n.ensures.1 c.text_start.ensures c.from-at.ensures c.text_start-2.ensures c.from-to.ensures c.key_to-a.ensures c.key_to-b.ensures c.if-a-b.true
+returns-then-a-b c = text_keyed c.args.h.now (λ i. omega (arith, c.shared_slice_known-1.given i)) c.args.x _ _ _ _ _ _ _ _ _ c.if-x-eq0.false c.text_at-s.ensures c.requires c.common-n.ensures.0 c.common-n.ensures.1 c.text_start.ensures (omega arith) c.text_start-2.ensures (omega arith) c.key_to-a.ensures c.key_to-b.ensures c.if-a-b.true
 
 pub returns : goal.returns
 returns c = search (texts, rules)
