@@ -1,7 +1,7 @@
 -- The ways through judging: a text that is too long, one that is not lines of the two forms, and one that is.
-use Rattle.std.specs.Prelude.{Option, Some, None}
+use Rattle.std.specs.Prelude.{Option, Some, None, Result, Ok, Err, IsErr, IsErrAnd, ok_or}
 use Prim.Native.Nat.{ℕ, zero, suc, ◌≤◌, ◌<◌}
-use mathlib.Core.Path.{◌≡◌, refl, sym, ◌∙◌}
+use mathlib.Core.Path.{◌≡◌, refl, sym, ap, ◌∙◌}
 use mathlib.Core.Bool.{Bool, true, false, not, ◌&&◌, ◌||◌, or-true, and-false, false≢true}
 use mathlib.Core.List.{List, []}
 use native.Mathlib.Omega.{arith}
@@ -13,16 +13,16 @@ use Rattle.text.proofs.Tables.{count_most}
 use Rattle.values.specs.declared.Kind.{Kind}
 use Rattle.values.specs.Values.{read_value}
 use Rattle.language.specs.Answer.{number_of, found, ◌>>=◌}
+use Rattle.language.specs.Refusals.{refusal_number}
+use Rattle.language.specs.declared.refusals.Refusal.{Refusal}
 use Rattle.language.specs.Register.{Typing}
 use Rattle.language.specs.RegisterText.{Entry, prop, page, cat, val, close, breaks_rule, read_register}
-use Rattle.register_text_entries.specs.declared.Rows.{Rows}
 use Rattle.register_text_entries.specs.Table.{entry_at, entries_in, Filled}
 use Rattle.register_text_entries.proofs.Reading.{filled_none, filled_few, filled_some}
 use Rattle.register_text_verdict.specs.Rows.{any_to}
-use Rattle.register_text_verdict.specs.Checks.{declares, rows_that, Collected, kinds_in, fails, some_fails, twice_in, inner_in, lowest, verdict_of, RowsRead, ReadsRows, JudgesTyped, Prepared, Room, Judges}
+use Rattle.register_text_verdict.specs.Checks.{declares, rows_that, Collected, kinds_in, fails, some_fails, twice_in, inner_in, lowest, verdict_of, RowsRead, ReadsRows, Typed, Prepared, Room, Indexed, counts_of, Judges}
 use Rattle.register_text_verdict.specs.declared.Declared.{Declared}
 use Rattle.register_text_verdict.specs.declared.Check.{Check}
-use Rattle.register_text_verdict.specs.declared.TypedRows.{TypedRows}
 use Rattle.register_text_verdict.proofs.Rows.{places_count}
 use Rattle.register_text_verdict.proofs.Verdict.{too_long, not_lines, not_ruled, verdict_rows, rule_rows}
 
@@ -72,42 +72,33 @@ pub verdict_is : (s : Bytes) (t : List ℕ) (n : ℕ) (props : List ℕ) (np : �
 unfolding verdict_of
 verdict_is s t n props np pages ng p4 g4 b5 b6 k r hp hg h6 h5 hk h = h ∙ rw (hp, hg, h5, h6, hk, both_needed s t n props np)
 
+-- What `?` hands on.
+pub handed : {A : Type 0} (r : Result A Refusal) (e : Refusal) → IsErr r × IsErrAnd r (λ x. x ≡ e) → r ≡ Err e
+handed (Ok a) e h = absurd h.1
+handed (Err x) e h = ap Err h.1
+
 -- Reading a text.
-unread : (s : Bytes) (t : List ℕ) (n : ℕ) → suc n ≡ number_of (read_register s) → ReadsRows s t (record { number = suc n; rows = 0 })
-unread s t n e = record { refused = λ z. e; read = λ z. absurd (omega arith) }
+pub read_long : (s : Bytes) → 32768 < length s → 1 ≡ number_of (read_register s)
+read_long s h = too_long s (lt-ltb 32768 (length s) h)
 
-pub read_long : (s : Bytes) (t : List ℕ) → 32768 < length s → ReadsRows s t (record { number = 1; rows = 0 })
-read_long s t h = unread s t 0 (too_long s (lt-ltb 32768 (length s) h))
-
-module _ (s : Bytes) (t₀ t : List ℕ) (short : length s ≤ 32768) (r : Rows) (f : Filled s t₀ t r) where
-  pub read_broken : not r.ok ≡ true → ReadsRows s t (record { number = 2; rows = 0 })
-  read_broken h = unread s t 1 (not_lines s (le-ltb 32768 (length s) short) (filled_none s t₀ t r f (not-true r.ok h)))
-
-  pub read_whole_lem : not r.ok ≡ false → 27500 ≤ length t₀ → ReadsRows s t (record { number = 0; rows = r.count })
-  read_whole_lem h room =
-      let ok = not-false r.ok h in
-      record { refused = λ z. absurd (z refl); read = λ z. record { short = short; read = filled_some s t₀ t r f ok short room; few = filled_few s t₀ t r f ok short } }
+pub read_told : (s : Bytes) (t₀ t : List ℕ) → length s ≤ 32768 → (o : Option ℕ) → Filled s t₀ t o → 27500 ≤ length t₀ → (r : Result ℕ Refusal) → r ≡ ok_or o Refusal.TextUnread → ReadsRows s t r
+read_told s t₀ t short None f room r e = rw e (not_lines s (le-ltb 32768 (length s) short) (filled_none s t₀ t None f refl))
+read_told s t₀ t short (Some n) f room r e = rw e (record { short = short; read = filled_some s t₀ t (Some n) f n refl short room; few = filled_few s t₀ t (Some n) f n refl short })
 
 -- A text that breaks a rule.
 pub rule_broken : (s : Bytes) (t : List ℕ) (n : ℕ) → RowsRead s t n → any breaks_rule (entries_in s t n) ≡ true → 3 ≡ number_of (read_register s)
 rule_broken s t n r h = not_ruled s (entries_in s t n) (le-ltb 32768 (length s) r.short) r.read h
 
 -- Judging a text as typed.
-module _ (s : Bytes) (t : List ℕ) (r : TypedRows) (f : ReadsRows s t r) where
-  pub typed_refused : (r.number ≡ 0 → ⊥) → JudgesTyped s t r
-  typed_refused h = record { refused = f.refused; typed = λ z. absurd (h z) }
+module _ (s : Bytes) (t : List ℕ) (n : ℕ) (f : RowsRead s t n) (props : List ℕ) (b : Bool) (e : b ≡ some_fails Check.Rule s t n props 0) where
+  told : any breaks_rule (entries_in s t n) ≡ b
+  told = sym (rule_rows s t props n 0) ∙ sym e
 
-  module _ (h : r.number ≡ 0) (props : List ℕ) (b : Bool) (e : b ≡ some_fails Check.Rule s t r.rows props 0) where
-    told : any breaks_rule (entries_in s t r.rows) ≡ b
-    told = sym (rule_rows s t props r.rows 0) ∙ sym e
+  pub typed_unruled : b ≡ true → 3 ≡ number_of (read_register s)
+  typed_unruled k = rule_broken s t n f (told ∙ k)
 
-    pub typed_unruled : b ≡ true → JudgesTyped s t (record { number = 3; rows = 0 })
-    typed_unruled k = record { refused = λ z. rule_broken s t r.rows (f.read h) (told ∙ k); typed = λ z. absurd (omega arith) }
-
-    pub typed_ruled : b ≡ false → JudgesTyped s t r
-    typed_ruled k =
-        let y = f.read h in
-        record { refused = f.refused; typed = λ z. record { short = y.short; read = y.read; ruled = told ∙ k; few = y.few } }
+  pub typed_ruled : b ≡ false → Typed s t n
+  typed_ruled k = record { short = f.short; read = f.read; ruled = told ∙ k; few = f.few }
 
 -- Judging rows.
 module _ (s : Bytes) (t : List ℕ) (n : ℕ) (props₀ props pages₀ pages : List ℕ) (np ng : ℕ) (P : Collected Declared.Property t n props₀ props np) (G : Collected Declared.Page t n pages₀ pages ng) (room : Room props₀ pages₀) (r : Bytes) (p : Prepared r s t n) where
@@ -120,13 +111,18 @@ module _ (s : Bytes) (t : List ℕ) (n : ℕ) (props₀ props pages₀ pages : L
   places_listed : take ng pages ≡ rows_that Declared.Page t n
   places_listed = G.rows (omega (arith, p.few)) (omega (arith, p.few, room.places))
 
-  pub judge_read : (v : ℕ) → v ≡ verdict_of s t n props np pages ng → Judges r t n props pages (record { number = v; props = np; pages = ng })
-  judge_read v e =
-      record {
-        number =
-            e
-            ∙ verdict_rows s t props pages n np ng rows_listed places_listed r p P.count G.count
-            (omega (arith, P.count, P.size, room.properties, most Declared.Property))
-            (omega (arith, G.count, G.size, room.places, most Declared.Page));
-        index = record { properties = rows_listed; places = places_listed; property_count = P.count; page_count = G.count };
-      }
+  index : Indexed t n props pages (counts_of t n)
+  index = record { properties = rw (← P.count) rows_listed; places = rw (← G.count) places_listed; property_count = refl; page_count = refl }
+
+  number : (v : ℕ) → v ≡ verdict_of s t n props np pages ng → v ≡ number_of (read_register r)
+  number v e =
+      e
+      ∙ verdict_rows s t props pages n np ng rows_listed places_listed r p P.count G.count
+      (omega (arith, P.count, P.size, room.properties, most Declared.Property))
+      (omega (arith, G.count, G.size, room.places, most Declared.Page))
+
+  pub judge_refused : (e : Refusal) → refusal_number e ≡ verdict_of s t n props np pages ng → Judges r t n props pages (Err e)
+  judge_refused e h = record { number = number (refusal_number e) h; index = index; counts = tt }
+
+  pub judge_accepted : 0 ≡ verdict_of s t n props np pages ng → Judges r t n props pages (Ok (record { props = np; pages = ng }))
+  judge_accepted h = record { number = number 0 h; index = index; counts = rw (P.count, G.count) }

@@ -1,16 +1,17 @@
 -- The loops over rows: what holds after a turn, and at the end.
-use Prim.Native.Nat.{ℕ, ◌+◌, ◌%◌, ◌≤◌, ◌<◌}
+use Prim.Native.Nat.{ℕ, zero, suc, ◌+◌, ◌%◌, ◌≤◌, ◌<◌}
 use mathlib.Core.Path.{◌≡◌, refl, sym, ap, ap₂, ◌∙◌}
-use mathlib.Core.Bool.{Bool, true, false, cond, ◌||◌}
+use mathlib.Core.Bool.{Bool, true, false, cond, ◌||◌, or-false, or_assoc}
 use mathlib.Core.List.{List, [], ◌∷◌, ◌++◌, append-nil}
 use native.Mathlib.Nat.{mod-eq_of_lt, add-zero}
 use native.Mathlib.Numerals.{add-one}
 use native.Mathlib.Omega.{arith}
 use lib.ListN.{length, take, set, length-set, length-append}
 use lib.Seq.{take-suc-set, take-set-le}
+use Rattle.std.specs.List.{list_any, filter, range_with_len}
 use Rattle.text.specs.Bytes.{Bytes}
 use Rattle.text.specs.Table.{bit, count_to}
-use Rattle.text.proofs.Tables.{count_more, count_most}
+use Rattle.text.proofs.Tables.{count_most}
 use Rattle.values.specs.declared.Kind.{Kind}
 use Rattle.language.specs.RegisterText.{is_inner}
 use Rattle.register_text_entries.specs.Items.{entry_by, entry_in}
@@ -22,54 +23,47 @@ use Rattle.register_text_verdict.specs.Checks.{declares, declares_tag, inner_tag
 use Rattle.register_text_verdict.specs.declared.Declared.{Declared}
 use Rattle.register_text_verdict.proofs.Rows.{places_count}
 
--- Some of the first n.
-module _ (g : ℕ → Bool) where
-  pub any_start : (n : ℕ) → (0 ≤ n) × (false ≡ any_to 0 g)
-  unfolding any_to
-  any_start n = (omega arith, refl)
+-- A test of the numbers below n, by the library's words for a range.
+range_last : (g : ℕ → Bool) (a n : ℕ) → list_any g (range_with_len a (suc n)) ≡ list_any g (range_with_len a n) || g (a + n)
+range_last g a zero = rw add-zero (or-false (g a))
+range_last g a (suc n) =
+    let k : a + 1 + n ≡ a + suc n = omega arith in
+    ap (λ b. g a || b) (range_last g (a + 1) n ∙ ap (λ i. list_any g (range_with_len (a + 1) n) || g i) k) ∙ sym (or_assoc (g a) (list_any g (range_with_len (a + 1) n)) (g (a + suc n)))
 
-  module _ (i n : ℕ) (b : Bool) (h : (i ≤ n) × (b ≡ any_to i g)) where
-    pub any_more : i < n → (r : Bool) → r ≡ g i → (i + 1 ≤ n) × (b || r ≡ any_to (i + 1) g)
-    unfolding any_to
-    any_more l r e = (omega arith, rw (add-one i) (ap₂ ◌||◌ h.1 e))
+pub any_range : (g : ℕ → Bool) (n : ℕ) → list_any g (range_with_len 0 n) ≡ any_to n g
+unfolding any_to
+any_range g zero = refl
+any_range g (suc n) = let k : 0 + n ≡ n = omega arith in range_last g 0 n ∙ ap₂ ◌||◌ (any_range g n) (ap g k)
 
-    pub any_end : n ≤ i → b ≡ any_to n g
-    any_end l = let e : i ≡ n = omega (arith, h.0) in rw e at h.1
-
--- Two of the first n.
-module _ (q : ℕ → ℕ → Bool) where
-  pub twice_start : (n : ℕ) → (0 ≤ n) × (false ≡ twice_to 0 q)
-  unfolding twice_to
-  twice_start n = (omega arith, refl)
-
-  module _ (i n : ℕ) (b : Bool) (h : (i ≤ n) × (b ≡ twice_to i q)) where
-    pub twice_more : i < n → (r : Bool) → r ≡ any_to i (λ j. q j i) → (i + 1 ≤ n) × (b || r ≡ twice_to (i + 1) q)
-    unfolding twice_to
-    twice_more l r e = (omega arith, rw (add-one i) (ap₂ ◌||◌ h.1 e))
-
-    pub twice_end : n ≤ i → b ≡ twice_to n q
-    twice_end l = let e : i ≡ n = omega (arith, h.0) in rw e at h.1
+pub any_twice : (q : ℕ → ℕ → Bool) (n : ℕ) → any_to n (λ i. any_to i (λ j. q j i)) ≡ twice_to n q
+unfolding any_to twice_to
+any_twice q zero = refl
+any_twice q (suc n) = ap (λ b. b || any_to n (λ j. q j n)) (any_twice q n)
 
 -- How many of the first n.
 bit_most : (b : Bool) → bit b ≤ 1
 bit_most true = omega arith
 bit_most false = omega arith
 
-module _ (g : ℕ → Bool) where
-  pub count_start : (n : ℕ) → (0 ≤ n) × (0 ≡ count_to 0 g)
-  unfolding count_to
-  count_start n = (omega arith, refl)
+count_last : (g : ℕ → Bool) (a n : ℕ) → length (filter g (range_with_len a (suc n))) ≡ length (filter g (range_with_len a n)) + bit (g (a + n))
+count_last g a zero = rw add-zero (one (g a))
+  where
+    one : (b : Bool) → length (cond b (a ∷ []) []) ≡ 0 + bit b
+    one true = omega arith
+    one false = omega arith
+count_last g a (suc n) =
+    let k : a + 1 + n ≡ a + suc n = omega arith in
+    more (g a) (count_last g (a + 1) n ∙ ap (λ i. length (filter g (range_with_len (a + 1) n)) + bit (g i)) k)
+  where
+    more : (b : Bool) → length (filter g (range_with_len (a + 1) (suc n))) ≡ length (filter g (range_with_len (a + 1) n)) + bit (g (a + suc n))
+        → length (cond b (a ∷ filter g (range_with_len (a + 1) (suc n))) (filter g (range_with_len (a + 1) (suc n)))) ≡ length (cond b (a ∷ filter g (range_with_len (a + 1) n)) (filter g (range_with_len (a + 1) n))) + bit (g (a + suc n))
+    more true rest = omega arith
+    more false rest = rest
 
-  module _ (i n m : ℕ) (h : (i ≤ n) × (m ≡ count_to i g)) where
-    module _ (l : i < n) (r : Bool) (d : ℕ) (f : d ≡ bit r) where
-      pub count_fits : m + d ≤ n
-      count_fits = omega (arith, h.1, count_most i g, bit_most r)
-
-      pub count_on : r ≡ g i → (i + 1 ≤ n) × (m + d ≡ count_to (i + 1) g)
-      count_on e = (omega arith, ap₂ ◌+◌ h.1 (f ∙ ap bit e) ∙ sym (count_more g i))
-
-    pub count_end : n ≤ i → m ≡ count_to n g
-    count_end l = let e : i ≡ n = omega (arith, h.0) in rw e at h.1
+pub count_range : (g : ℕ → Bool) (n : ℕ) → length (filter g (range_with_len 0 n)) ≡ count_to n g
+unfolding count_to
+count_range g zero = refl
+count_range g (suc n) = let k : 0 + n ≡ n = omega arith in count_last g 0 n ∙ ap₂ (λ m b. m + bit b) (count_range g n) (ap g k)
 
 inner_tag_lem : (g : Tag) (k : Kind) (a b : Bytes) → inner_tag g ≡ is_inner (entry_by g k a b)
 inner_tag_lem Tag.Prop k a b = refl
@@ -77,7 +71,6 @@ inner_tag_lem Tag.Page k a b = refl
 inner_tag_lem Tag.Cat k a b = refl
 inner_tag_lem Tag.Val k a b = refl
 inner_tag_lem Tag.Close k a b = refl
-inner_tag_lem Tag.Broken k a b = refl
 
 pub inner_row : (t : List ℕ) (i : ℕ) (x : Item) → ((s : Bytes) → entry_in s x ≡ entry_at s t i) → (r : Bool) → r ≡ inner_tag x.tag → r ≡ is_inner (entry_at [] t i)
 inner_row t i x f r e = e ∙ inner_tag_lem x.tag x.kind _ _ ∙ ap is_inner (f [])
@@ -89,13 +82,11 @@ declares_tag_lem Declared.Property Tag.Page k a b = refl
 declares_tag_lem Declared.Property Tag.Cat k a b = refl
 declares_tag_lem Declared.Property Tag.Val k a b = refl
 declares_tag_lem Declared.Property Tag.Close k a b = refl
-declares_tag_lem Declared.Property Tag.Broken k a b = refl
 declares_tag_lem Declared.Page Tag.Prop k a b = refl
 declares_tag_lem Declared.Page Tag.Page k a b = refl
 declares_tag_lem Declared.Page Tag.Cat k a b = refl
 declares_tag_lem Declared.Page Tag.Val k a b = refl
 declares_tag_lem Declared.Page Tag.Close k a b = refl
-declares_tag_lem Declared.Page Tag.Broken k a b = refl
 
 -- After i rows: u is the list, o what it was.
 pub record Collecting (what : Declared) (t : List ℕ) (n : ℕ) (o u : List ℕ) (m i : ℕ) : Type 0 where

@@ -1,4 +1,5 @@
 -- What rows declare, as parts of the text: entries are alike exactly where these are equal.
+use Rattle.std.specs.Prelude.{Option, Some, None}
 use Prim.Native.Nat.{ℕ, ◌+◌, ◌-◌, ◌%◌, ◌≤◌, ◌<◌}
 use mathlib.Core.Path.{◌≡◌, refl, sym, ap, ap₂, ◌∙◌}
 use mathlib.Core.Bool.{Bool, true, false, not, ◌&&◌, ◌||◌, false≢true, and-false}
@@ -25,7 +26,6 @@ use Rattle.register_text_entries.specs.Table.{entry_at}
 use Rattle.register_text_entries.specs.declared.Tag.{Tag}
 use Rattle.register_text_entries.specs.declared.Item.{Item}
 use Rattle.register_text_verdict.specs.Names.{Closed, declared, is_plain, Joins, TellsName, Pieces, Names}
-use Rattle.register_text_verdict.specs.declared.Piece.{Piece}
 
 -- The bytes that a scan passes pass its test.
 passed : (p : ℕ → Bool) (s : Bytes) → all p (take (span p s) s) ≡ true
@@ -52,7 +52,7 @@ module _ (s : Bytes) (a b : Span) (t : Bool) (k : t ≡ true → Closed s a (byt
   pub joined_fits : a.start + a.len + 3 ≤ length s
   joined_fits = word_end (bytes "\" \"") s (a.start + a.len) (omega arith) closed.behind
 
-  pub joined_is : b.start ≡ a.start + a.len + 3 → b.len ≤ length s - (a.start + a.len + 3) → Joins s a b (Piece.At (record { start = a.start; len = a.len + 3 + b.len }))
+  pub joined_is : b.start ≡ a.start + a.len + 3 → b.len ≤ length s - (a.start + a.len + 3) → Joins s a b (Some (record { start = a.start; len = a.len + 3 + b.len }))
   joined_is e l =
       record {
         plain = closed.plain;
@@ -72,15 +72,15 @@ module _ (s : Bytes) (a b : Span) (t : Bool) (k : t ≡ true → Closed s a (byt
 
 -- The part that says what an entry declares.
 module _ (s : Bytes) (i : Item) where
-  pub piece_prop : i.tag ≡ Tag.Prop → (t : Bool) → (t ≡ true → Closed s i.first (bytes "\"")) → t ≡ true → Pieces s (entry_in s i) (Piece.At i.first)
+  pub piece_prop : i.tag ≡ Tag.Prop → (t : Bool) → (t ≡ true → Closed s i.first (bytes "\"")) → t ≡ true → Pieces s (entry_in s i) (Some i.first)
   piece_prop e t k h =
       let c = k h in
       let l : i.first.start + i.first.len + 1 ≤ length s = word_end (bytes "\"") s (i.first.start + i.first.len) (omega arith) c.behind in
       rw e (record { plain = c.plain; is = refl; within = omega arith })
 
-  pub piece_page : i.tag ≡ Tag.Page → (q : Piece) → Joins s i.first i.second q → Pieces s (entry_in s i) q
-  piece_page e (Piece.At p) j = rw e (record { plain = j.plain; is = j.is; within = j.within })
-  piece_page e Piece.Nothing j = tt
+  pub piece_page : i.tag ≡ Tag.Page → (q : Option Span) → Joins s i.first i.second q → Pieces s (entry_in s i) q
+  piece_page e (Some p) j = rw e (record { plain = j.plain; is = j.is; within = j.within })
+  piece_page e None j = tt
 
 pub ruleset piece = (piece_prop, piece_page)
 
@@ -107,7 +107,7 @@ module _ (s : Bytes) (t rows : List ℕ) (m : ℕ) (o l starts lens : List ℕ) 
   listing_all h = let e : k ≡ m = omega (arith, old.below) in rw e at old.names
 
   module _ (room : ltb 65535 (length s) || ltb (length o) m || ltb (length l) m ≡ false) (lt : k < m) (row : ℕ) (e : row ≡ get_or rows k 0) (x : Item) (f : (s : Bytes) → entry_in s x ≡ entry_at s t row)
-      (r : Piece) (g : Pieces s (entry_in s x) r) (a : Span) (h : r ≡ Piece.At a) (u v : List ℕ) (hu : u ≡ set starts k (a.start % 65536)) (hv : v ≡ set lens k (a.len % 65536)) where
+      (r : Option Span) (g : Pieces s (entry_in s x) r) (a : Span) (h : r ≡ Some a) (u v : List ℕ) (hu : u ≡ set starts k (a.start % 65536)) (hv : v ≡ set lens k (a.len % 65536)) where
     fits : (length s ≤ 65535) × (m ≤ length starts) × (m ≤ length lens)
     fits =
         let all = or_false (ltb 65535 (length s) || ltb (length o) m) (ltb (length l) m) room in

@@ -65,13 +65,11 @@ declares_any what s t i = go what (tag_from (get_or t (5 * i) 0)) _ _ _ _ _
     go Declared.Property Tag.Cat k a b c d = refl
     go Declared.Property Tag.Val k a b c d = refl
     go Declared.Property Tag.Close k a b c d = refl
-    go Declared.Property Tag.Broken k a b c d = refl
     go Declared.Page Tag.Prop k a b c d = refl
     go Declared.Page Tag.Page k a b c d = refl
     go Declared.Page Tag.Cat k a b c d = refl
     go Declared.Page Tag.Val k a b c d = refl
     go Declared.Page Tag.Close k a b c d = refl
-    go Declared.Page Tag.Broken k a b c d = refl
 
 -- nor whether it is an inner form
 inner_any : (s : Bytes) (t : List ℕ) (i : ℕ) → is_inner (entry_at [] t i) ≡ is_inner (entry_at s t i)
@@ -84,7 +82,6 @@ inner_any s t i = go (tag_from (get_or t (5 * i) 0)) _ _ _ _ _
     go Tag.Cat k a b c d = refl
     go Tag.Val k a b c d = refl
     go Tag.Close k a b c d = refl
-    go Tag.Broken k a b c d = refl
 
 places_ext : (n : ℕ) (g h : ℕ → Bool) → ((i : ℕ) → g i ≡ h i) → places_to n g ≡ places_to n h
 unfolding places_to

@@ -1,9 +1,12 @@
 -- Working definitions: what the functions over rows answer.
-use Rattle.std.specs.Prelude.{ℕ, ◌≤◌, ◌≡◌, Bool, true, false, cond, ◌||◌, List, [], ltb, length, take, get_or, Some}
+use Rattle.std.specs.Prelude.{ℕ, ◌≤◌, ◌≡◌, Bool, true, false, cond, ◌||◌, List, [], ltb, length, take, get_or, Some, Result, Ok, Err}
 use Rattle.text.specs.Bytes.{Bytes, any}
 use Rattle.text.specs.Table.{count_to}
 use Rattle.values.specs.Values.{read_value}
 use Rattle.language.specs.Answer.{number_of, ◌>>=◌, found}
+use Rattle.language.specs.Refusals as refusals
+use Rattle.language.specs.Refusals.{refusal_number}
+use Rattle.language.specs.declared.refusals.Refusal.{Refusal}
 use Rattle.language.specs.Register.{Typing}
 use Rattle.language.specs.RegisterText.{Entry, prop, page, cat, val, close, is_page, is_inner, breaks_rule, composed_entries, same_declared, entries, read_register}
 use Rattle.register_text_entries.specs.Table.{entry_at, entries_in}
@@ -12,7 +15,6 @@ use Rattle.register_text_verdict.specs.Rows.{any_to, twice_to, places_to, is_pro
 use Rattle.register_text_verdict.specs.declared.Declared.{Declared}
 use Rattle.register_text_verdict.specs.declared.Check.{Check}
 use Rattle.register_text_verdict.specs.declared.Judged.{Judged}
-use Rattle.register_text_verdict.specs.declared.TypedRows.{TypedRows}
 
 -- The entry declares a property, or a page.
 abbrev pub declares : Declared → Entry → Bool
@@ -25,13 +27,11 @@ declares_tag Declared.Property Tag.Page = false
 declares_tag Declared.Property Tag.Cat = false
 declares_tag Declared.Property Tag.Val = false
 declares_tag Declared.Property Tag.Close = false
-declares_tag Declared.Property Tag.Broken = false
 declares_tag Declared.Page Tag.Prop = false
 declares_tag Declared.Page Tag.Page = true
 declares_tag Declared.Page Tag.Cat = false
 declares_tag Declared.Page Tag.Val = false
 declares_tag Declared.Page Tag.Close = false
-declares_tag Declared.Page Tag.Broken = false
 
 -- The rows that do.
 abbrev pub rows_that : Declared → List ℕ → ℕ → List ℕ
@@ -49,7 +49,6 @@ inner_tag Tag.Page = false
 inner_tag Tag.Cat = true
 inner_tag Tag.Val = true
 inner_tag Tag.Close = false
-inner_tag Tag.Broken = false
 
 -- The kinds that the first m of a list of rows declare.
 abbrev pub kinds_in : Bytes → List ℕ → List ℕ → ℕ → Typing
@@ -85,10 +84,10 @@ pub record RowsRead (s : Bytes) (t : List ℕ) (n : ℕ) : Type 0 where
   pub read : entries s ≡ Some (entries_in s t n)
   pub few : n ≤ 5500
 
--- What reading a text answers, where its table has room: 1 or 2, or its entries are in the table.
-pub record ReadsRows (s : Bytes) (t : List ℕ) (r : TypedRows) : Type 0 where
-  pub refused : (r.number ≡ 0 → ⊥) → r.number ≡ number_of (read_register s)
-  pub read : r.number ≡ 0 → RowsRead s t r.rows
+-- What reading a text answers, where its table has room: refusal 1 or 2, or its entries are in the table.
+abbrev pub ReadsRows : Bytes → List ℕ → Result ℕ Refusal → Type 0
+ReadsRows s t (Ok n) = RowsRead s t n
+ReadsRows s t (Err e) = refusal_number e ≡ number_of (read_register s)
 
 -- The same, and their names and values keep their rules as typed.
 pub record Typed (s : Bytes) (t : List ℕ) (n : ℕ) : Type 0 where
@@ -97,10 +96,10 @@ pub record Typed (s : Bytes) (t : List ℕ) (n : ℕ) : Type 0 where
   pub ruled : any breaks_rule (entries_in s t n) ≡ false
   pub few : n ≤ 5500
 
--- What judging a text as typed answers, where its table has room: 1 to 3, or its entries are in the table.
-pub record JudgesTyped (s : Bytes) (t : List ℕ) (r : TypedRows) : Type 0 where
-  pub refused : (r.number ≡ 0 → ⊥) → r.number ≡ number_of (read_register s)
-  pub typed : r.number ≡ 0 → Typed s t r.rows
+-- What judging a text as typed answers, where its table has room: refusal 1 to 3, or its entries are in the table.
+abbrev pub JudgesTyped : Bytes → List ℕ → Result ℕ Refusal → Type 0
+JudgesTyped s t (Ok n) = Typed s t n
+JudgesTyped s t (Err e) = refusal_number e ≡ number_of (read_register s)
 
 -- The first n rows of t, over the text c, are the entries of such a text s, their names composed.
 pub record Prepared (s c : Bytes) (t : List ℕ) (n : ℕ) : Type 0 where
@@ -137,7 +136,16 @@ verdict_of s t n props np pages ng =
     (some_fails Check.Undeclared s t n props np) (some_fails Check.Unfit s t n props np)
     (ltb 64 np || ltb 256 ng || ltb 2048 (inner_in t n))
 
+-- How many of the first n rows are properties and pages.
+abbrev pub counts_of : List ℕ → ℕ → Judged
+counts_of t n = record { props = length (rows_that Declared.Property t n); pages = length (rows_that Declared.Page t n) }
+
+abbrev pub Counts : List ℕ → ℕ → Result Judged Refusal → Type 0
+Counts t n (Ok c) = c ≡ counts_of t n
+Counts t n (Err e) = Unit {0}
+
 -- What judging prepared rows answers, where the tables have room; they are those at the end.
-pub record Judges (s : Bytes) (t : List ℕ) (n : ℕ) (props pages : List ℕ) (r : Judged) : Type 0 where
-  pub number : r.number ≡ number_of (read_register s)
-  pub index : Indexed t n props pages r
+pub record Judges (s : Bytes) (t : List ℕ) (n : ℕ) (props pages : List ℕ) (r : Result Judged Refusal) : Type 0 where
+  pub number : refusals.number_of r ≡ number_of (read_register s)
+  pub index : Indexed t n props pages (counts_of t n)
+  pub counts : Counts t n r

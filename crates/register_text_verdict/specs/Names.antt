@@ -1,5 +1,5 @@
 -- Working definitions: what rows declare, each in one part of the text. Entries are alike exactly where these parts are equal.
-use Rattle.std.specs.Prelude.{ℕ, ◌+◌, ◌≤◌, ◌<◌, ◌≡◌, Bool, true, false, List, [], ◌++◌, length, drop, get_or}
+use Rattle.std.specs.Prelude.{ℕ, ◌+◌, ◌≤◌, ◌<◌, ◌≡◌, Bool, true, false, List, [], ◌++◌, length, drop, get_or, Option, Some, None}
 use Rattle.text.specs.Bytes.{Bytes, bytes, all, starts}
 use Rattle.text.specs.Class.{is_quotable}
 use Rattle.text.specs.Parts.{part_of, Within}
@@ -7,7 +7,6 @@ use Rattle.text.specs.declared.Span.{Span}
 use Rattle.language.specs.RegisterText.{Entry, prop, page, cat, val, close}
 use Rattle.dictionary.specs.Items.{text_at}
 use Rattle.register_text_entries.specs.Table.{entry_at}
-use Rattle.register_text_verdict.specs.declared.Piece.{Piece}
 
 -- A part without a quotation mark, and the word w behind it.
 pub record Closed (s : Bytes) (p : Span) (w : Bytes) : Type 0 where
@@ -35,9 +34,9 @@ pub record Joined (s : Bytes) (a b p : Span) : Type 0 where
   pub is : part_of s p ≡ part_of s a ++ (bytes "\" \"" ++ part_of s b)
   pub within : Within s p
 
-abbrev pub Joins : Bytes → Span → Span → Piece → Type 0
-Joins s a b (Piece.At p) = Joined s a b p
-Joins s a b Piece.Nothing = Unit {0}
+abbrev pub Joins : Bytes → Span → Span → Option Span → Type 0
+Joins s a b (Some p) = Joined s a b p
+Joins s a b None = Unit {0}
 
 -- The part p says what an entry declares.
 pub record TellsName (s : Bytes) (e : Entry) (p : Span) : Type 0 where
@@ -45,9 +44,9 @@ pub record TellsName (s : Bytes) (e : Entry) (p : Span) : Type 0 where
   pub is : part_of s p ≡ declared e
   pub within : Within s p
 
-abbrev pub Pieces : Bytes → Entry → Piece → Type 0
-Pieces s e (Piece.At p) = TellsName s e p
-Pieces s e Piece.Nothing = Unit {0}
+abbrev pub Pieces : Bytes → Entry → Option Span → Type 0
+Pieces s e (Some p) = TellsName s e p
+Pieces s e None = Unit {0}
 
 -- The tables have for each of the first m of a list of rows the part that says what it declares.
 pub record Names (s : Bytes) (t rows : List ℕ) (m : ℕ) (starts lens : List ℕ) : Type 0 where

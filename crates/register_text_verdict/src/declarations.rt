@@ -1,12 +1,11 @@
 // What rows declare, each in one part of the text: a property's name; a page's namespace and name, with `" "` between.
-ghost use Rattle.std.specs.Prelude.{◌≡◌, true, ◌%◌, set};
+ghost use Rattle.std.specs.Prelude.{◌≡◌, true};
 ghost use Rattle.register_text_entries.specs.Items.{entry_in};
 ghost use Rattle.register_text_verdict.specs.Names.{Closed, Joins, Pieces, Names};
 
-use super::Piece;
 use register_text_entries::table::{item_at, put};
 use register_text_entries::{Item, Tag};
-use tables::get_or;
+use tables::{get_or, narrow};
 use text::{Class, Span, scan, word_at};
 
 // Whether a part has no quotation mark and the word w stands behind it.
@@ -19,54 +18,40 @@ fn is_closed(s: &[u8], p: Span, w: &[u8]) -> bool
 }
 
 // The part from the start of a to the end of b, where `" "` stands between them.
-fn joined(s: &[u8], a: Span, b: Span) -> Piece
+fn joined(s: &[u8], a: Span, b: Span) -> Option<Span>
     ensures { Joins s.now a b result }
 {
     if !is_closed(s, a, b"\" \"") {
-        return Piece::Nothing;
+        return None;
     }
     let next = a.start + a.len + 3;
     if b.start != next {
-        return Piece::Nothing;
+        return None;
     }
     if s.len() - next < b.len {
-        return Piece::Nothing;
+        return None;
     }
-    Piece::At(Span {
+    Some(Span {
         start: a.start,
         len: a.len + 3 + b.len,
     })
 }
 
 // The part that says what an entry declares.
-fn piece_of(s: &[u8], item: Item) -> Piece
+fn piece_of(s: &[u8], item: Item) -> Option<Span>
     ensures { Pieces s.now (entry_in s.now item) result }
 {
-    let tag = item.tag;
-    let a = item.first;
-    let b = item.second;
-    match tag {
+    let name = item.first;
+    match item.tag {
         Tag::Prop => {
-            if is_closed(s, a, b"\"") {
-                Piece::At(a)
+            if is_closed(s, name, b"\"") {
+                Some(name)
             } else {
-                Piece::Nothing
+                None
             }
         }
-        Tag::Page => joined(s, a, b),
-        Tag::Cat => Piece::Nothing,
-        Tag::Val => Piece::Nothing,
-        Tag::Close => Piece::Nothing,
-        Tag::Broken => Piece::Nothing,
-    }
-}
-
-// Writes a start, of 32 bits, where there is room.
-fn put_start(t: &mut [u32], at: usize, v: usize)
-    ensures { t.new ≡ set t.old at (v % 65536) }
-{
-    if at < t.len() {
-        t[at] = (v % 65536) as u32;
+        Tag::Page => joined(s, name, item.second),
+        Tag::Cat | Tag::Val | Tag::Close => None,
     }
 }
 
@@ -84,14 +69,12 @@ pub fn list_names(
     if (65535 < s.len()) | (starts.len() < m) | (lens.len() < m) {
         return false;
     }
-    let mut k: usize = 0;
-    while k < m {
-        let Piece::At(p) = piece_of(s, item_at(t, usize::from(get_or(rows, k, 0)))) else {
+    for k in 0..m {
+        let Some(p) = piece_of(s, item_at(t, usize::from(get_or(rows, k, 0)))) else {
             return false;
         };
-        put_start(starts, k, p.start);
+        tables::put(starts, k, u32::from(narrow(p.start)));
         put(lens, k, p.len);
-        k += 1;
     }
     true
 }

@@ -3,6 +3,7 @@
 
 ghost use Rattle.std.specs.Prelude.{◌≡◌, ◌&&◌, ◌≤◌, length};
 ghost use Rattle.text.specs.Bytes.{Bytes};
+ghost use Rattle.language.specs.Refusals.{number_of};
 ghost use Rattle.register_text_verdict.specs.Checks.{Collected, some_fails, lowest, verdict_of, row_room, ReadsRows, JudgesTyped, Prepared, Judges, Room};
 ghost use Rattle.register_text_verdict.specs.declared.Check.TheVariants.{Undeclared};
 
@@ -10,45 +11,30 @@ pub mod checks; // checks.rt: what one row, or two, must keep
 pub mod declarations; // declarations.rt: what rows declare, as parts of the text
 pub mod tests; // tests.rt: some row fails, two rows are alike, how many are inner forms
 
-use checks::{bit_of, is_declared};
+use checks::is_declared;
+use language::Refusal;
 use register_text_entries::read_all;
 use register_text_entries::table::{item_at, put};
 use tests::{count_inner, some_row, twice};
-use text::Span;
 
 // What a row declares.
-#[derive(Clone, Copy)]
+#[derive(Clone, Copy, Debug, PartialEq, Eq)]
 pub enum Declared {
     Property,
     Page,
 }
 
-// What a row is tested for: 3, 5 or 6.
-#[derive(Clone, Copy)]
+// What a row is tested for: refusal 3, 5 or 6.
+#[derive(Clone, Copy, Debug, PartialEq, Eq)]
 pub enum Check {
     Rule,
     Undeclared,
     Unfit,
 }
 
-// Where what a row declares lies in one part of the text, if it does.
-#[derive(Clone, Copy)]
-pub enum Piece {
-    At(Span),
-    Nothing,
-}
-
-// A number that refuses a text as typed, or 0, and how many rows it has.
-#[derive(Clone, Copy)]
-pub struct TypedRows {
-    pub number: usize,
-    pub rows: usize,
-}
-
-// The verdict on rows, and how many properties and pages they are.
+// How many properties and pages rows declare.
 #[derive(Clone, Copy)]
 pub struct Judged {
-    pub number: usize,
     pub props: usize,
     pub pages: usize,
 }
@@ -58,31 +44,35 @@ pub fn collect(t: &[u16], n: usize, what: Declared, out: &mut [u16]) -> usize
     ensures { Collected what t.now n out.old out.new result }
 {
     let mut m: usize = 0;
-    let mut i: usize = 0;
-    while i < n {
-        let item = item_at(t, i);
-        let tag = item.tag;
+    for i in 0..n {
         put(out, m, i);
-        m += bit_of(is_declared(what, tag));
-        i += 1;
+        m += usize::from(is_declared(what, item_at(t, i).tag));
     }
     m
 }
 
-// The lowest of 4 to 7 whose condition holds, else 0.
-pub fn lowest_of(a: bool, b: bool, c: bool, d: bool) -> usize
-    ensures { result ≡ lowest a b c d }
+// The first refusal whose condition holds.
+pub fn lowest_of(
+    declared_twice: bool,
+    undeclared: bool,
+    unfit: bool,
+    over_limit: bool,
+) -> Result<(), Refusal>
+    ensures { number_of result ≡ lowest declared_twice undeclared unfit over_limit }
 {
-    if a {
-        return 4;
+    if declared_twice {
+        return Err(Refusal::DeclaredTwice);
     }
-    if b {
-        return 5;
+    if undeclared {
+        return Err(Refusal::UndeclaredValue);
     }
-    if c {
-        return 6;
+    if unfit {
+        return Err(Refusal::UnfitValue);
     }
-    if d { 7 } else { 0 }
+    if over_limit {
+        return Err(Refusal::OverLimit);
+    }
+    Ok(())
 }
 
 // Whether some val has no declared property. Such a val is unfit too, so that most texts are not gone through again.
@@ -104,8 +94,8 @@ pub fn judge_rows(
     np: usize,
     pages: &[u16],
     ng: usize,
-) -> usize
-    ensures { result ≡ verdict_of s.now t.now n props.now np pages.now ng }
+) -> Result<(), Refusal>
+    ensures { number_of result ≡ verdict_of s.now t.now n props.now np pages.now ng }
 {
     let alike = twice(s, t, props, np) | twice(s, t, pages, ng);
     let unfit = some_row(s, t, n, props, np, Check::Unfit);
@@ -114,48 +104,44 @@ pub fn judge_rows(
     lowest_of(alike, undeclared, unfit, over)
 }
 
-// Reads a text into the rows of a table: 0, or 1 or 2.
-pub fn read_rows(s: &[u8], t: &mut [u16]) -> TypedRows
+// Reads a text into the rows of a table: how many, or refusal 1 or 2.
+pub fn read_rows(s: &[u8], t: &mut [u16]) -> Result<usize, Refusal>
     ensures { row_room ≤ length t.old → ReadsRows s.now t.new result }
 {
     if 32768 < s.len() {
-        return TypedRows { number: 1, rows: 0 };
+        return Err(Refusal::TextTooLong);
     }
-    let read = read_all(s, t);
-    if !read.ok {
-        return TypedRows { number: 2, rows: 0 };
-    }
-    TypedRows {
-        number: 0,
-        rows: read.count,
-    }
+    read_all(s, t).ok_or(Refusal::TextUnread)
 }
 
-// The same, and judges its names and values as typed: 0, or the lowest of 1 to 3.
-pub fn judge_typed(s: &[u8], t: &mut [u16]) -> TypedRows
+// The same, and judges its names and values as typed: the lowest refusal of 1 to 3.
+pub fn judge_typed(s: &[u8], t: &mut [u16]) -> Result<usize, Refusal>
     ensures { row_room ≤ length t.old → JudgesTyped s.now t.new result }
 {
-    let read = read_rows(s, t);
-    if read.number != 0 {
-        return read;
-    }
+    let n = read_rows(s, t)?;
     let none = [0u16; 1]; // the rule asks for no property
-    if some_row(s, t, read.rows, &none, 0, Check::Rule) {
-        return TypedRows { number: 3, rows: 0 };
+    if some_row(s, t, n, &none, 0, Check::Rule) {
+        return Err(Refusal::RuleBroken);
     }
-    read
+    Ok(n)
 }
 
-// The verdict on the first n rows, whose names are composed: 0, or the lowest of 4 to 7. Which rows are properties and pages is then in
-// the tables.
-pub fn judge(s: &[u8], t: &[u16], n: usize, props: &mut [u16], pages: &mut [u16]) -> Judged
+// The verdict on the first n rows, whose names are composed: the lowest refusal of 4 to 7. Which rows are properties and pages is then
+// in the tables.
+pub fn judge(
+    s: &[u8],
+    t: &[u16],
+    n: usize,
+    props: &mut [u16],
+    pages: &mut [u16],
+) -> Result<Judged, Refusal>
     ensures { Room props.old pages.old → (typed : Bytes) → Prepared typed s.now t.now n → Judges typed t.now n props.new pages.new result }
 {
     let np = collect(t, n, Declared::Property, props);
     let ng = collect(t, n, Declared::Page, pages);
-    Judged {
-        number: judge_rows(s, t, n, props, np, pages, ng),
+    judge_rows(s, t, n, props, np, pages, ng)?;
+    Ok(Judged {
         props: np,
         pages: ng,
-    }
+    })
 }

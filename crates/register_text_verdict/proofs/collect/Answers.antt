@@ -6,16 +6,10 @@ pub loop-i-init : goal.loop-i-init
 loop-i-init c = collect_start _ _ _ _
 
 pub overflow_add-m : goal.overflow_add-m
-overflow_add-m c = omega (arith, collect_fits _ _ _ _ _ _ _ c.loop-i.invariant c.loop-i-test.true c.item_at-item.result c.item_at-item.ensures _ c.is_declared.ensures _ c.bit_of-m.ensures)
-
-pub overflow_add-i : goal.overflow_add-i
-overflow_add-i c = omega (arith, c.loop-i-test.true)
-
-pub loop-i-smaller : goal.loop-i-smaller
-loop-i-smaller c = omega (arith, c.loop-i-test.true)
+overflow_add-m c = omega (arith, collect_fits _ _ _ _ _ _ _ c.loop-i.invariant c.loop-i-test.true c.item_at.result c.item_at.ensures _ c.is_declared.ensures _ c.from-m.ensures)
 
 pub loop-i-preserved : goal.loop-i-preserved
-loop-i-preserved c = collect_more _ _ _ _ _ _ _ c.loop-i.invariant c.loop-i-test.true c.item_at-item.result c.item_at-item.ensures _ c.is_declared.ensures _ c.bit_of-m.ensures _ c.put.ensures
+loop-i-preserved c = collect_more _ _ _ _ _ _ _ c.loop-i.invariant c.loop-i-test.true c.item_at.result c.item_at.ensures _ c.is_declared.ensures _ c.from-m.ensures _ c.put.ensures
 
 pub shape_of-out : goal.shape_of-out
 shape_of-out c = c.loop-i.invariant.size

@@ -1,5 +1,5 @@
+use mathlib.Core.Path.{◌∙◌}
 use mathlib.Core.Bool.{false≢true}
-use native.Mathlib.Omega.{arith}
 use Rattle.register_text_verdict.proofs.Naming.{listing_none, listing_more, listing_all}
 use Rattle.register_text_verdict.proofs.declarations.list_names.Goals as goal
 
@@ -18,11 +18,8 @@ shape_of-lens-in_default c = c.loop-k.invariant.sizes.1
 pub returns-in_default : goal.returns-in_default
 returns-in_default c = λ e. absurd (false≢true e)
 
-pub overflow_add-k : goal.overflow_add-k
-overflow_add-k c = omega (arith, c.loop-k-test.true, c.ranges)
-
 pub loop-k-preserved : goal.loop-k-preserved
-loop-k-preserved c = listing_more _ _ _ _ _ _ _ _ _ c.loop-k.invariant c.if-s-starts.false c.loop-k-test.true _ c.get_or.ensures c.item_at.result c.item_at.ensures _ c.piece_of.ensures _ c.in-At.is _ _ c.put_start.ensures c.put.ensures
+loop-k-preserved c = listing_more _ _ _ _ _ _ _ _ _ c.loop-k.invariant c.if-s-starts.false c.loop-k-test.true _ (c.from.ensures ∙ c.get_or.ensures) c.item_at.result c.item_at.ensures _ c.piece_of.ensures _ c.in-Some.is _ _ (rw (c.from-in-loop-k.ensures, c.narrow.ensures) at c.put.ensures) c.put-in-loop-k.ensures
 
 pub shape_of-starts : goal.shape_of-starts
 shape_of-starts c = c.loop-k.invariant.sizes.0

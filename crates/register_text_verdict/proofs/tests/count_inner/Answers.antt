@@ -1,15 +1,16 @@
-use Rattle.register_text_verdict.proofs.Loops.{count_start, count_fits, count_on, count_end, inner_row}
+use mathlib.Core.List.{[]}
+use mathlib.Core.Path.{◌∙◌}
 use native.Mathlib.Omega.{arith}
+use Rattle.std.proofs.Common.{rules, tests}
+use Rattle.std.proofs.lemmas.Iterator.{YieldsList-from_range}
+use Rattle.std.proofs.lemmas.Iterator.Consumers.{YieldsList-from_filter, count_from_yields_List}
+use Rattle.language.specs.RegisterText.{is_inner}
+use Rattle.register_text_entries.specs.Table.{entry_at}
+use Rattle.register_text_verdict.proofs.Loops.{count_range}
 use Rattle.register_text_verdict.proofs.tests.count_inner.Goals as goal
 
-pub loop-i-init : goal.loop-i-init
-loop-i-init c = count_start _ _
-
-pub overflow_add-m : goal.overflow_add-m
-overflow_add-m c = omega (arith, count_fits _ _ _ _ c.loop-i.invariant c.loop-i-test.true c.is_inner.result _ c.bit_of-m.ensures)
-
-pub loop-i-preserved : goal.loop-i-preserved
-loop-i-preserved c = count_on _ _ _ _ c.loop-i.invariant c.loop-i-test.true c.is_inner.result _ c.bit_of-m.ensures (inner_row _ _ c.item_at-item.result c.item_at-item.ensures _ c.is_inner.ensures)
-
 pub returns : goal.returns
-returns c = count_end _ _ _ _ c.loop-i.invariant c.loop-i-test.false
+returns c =
+    let a = c.args in
+    count_from_yields_List c.filter.result _ c.count.ensures.ran (YieldsList-from_filter _ (λ i. is_inner (entry_at [] a.t.now i)) (YieldsList-from_range 0 a.n a.n (cc) (omega arith)) c.filter.ensures.closure (λ x b q k. search (rules, tests)))
+    ∙ count_range _ _

@@ -1,6 +1,0 @@
-use mathlib.Core.Path.{sym}
-use lib.Seq.{set_out}
-use Rattle.register_text_verdict.proofs.declarations.put_start.Goals as goal
-
-pub returns-else-at-t : goal.returns-else-at-t
-returns-else-at-t c = sym (set_out _ _ _ c.if-at-t.false)
