@@ -1,4 +1,5 @@
 -- What the term of a value tells: the value, and the page that it leads to.
+use Rattle.std.specs.Prelude.{Option, Some, None}
 use Prim.Native.Nat.{ℕ, zero, suc, ◌<◌}
 use mathlib.Core.Path.{◌≡◌, refl, sym, ap, ap₂, ◌∙◌}
 use mathlib.Core.Bool.{Bool, true, false, cond, not, ◌&&◌, ◌||◌, or-false, true≢false}
@@ -9,7 +10,8 @@ use lib.Dec.{eqb}
 use lib.ListN.{length, get_or}
 use Rattle.text.specs.Bytes.{Bytes, order_of, any}
 use Rattle.text.specs.Parts.{part_of}
-use Rattle.values.specs.Answers.{split_of}
+use Rattle.text.specs.declared.Span.{Span}
+use Rattle.values.specs.Answers.{reference_at, split_of}
 use Rattle.values.specs.declared.Split.{Split}
 use Rattle.values.specs.Names.{Identifier, same_identifier}
 use Rattle.values.specs.Values.{scalar, string, Value, plain, link, kind_of}
@@ -53,7 +55,11 @@ ident_back i = λ j. record { namespace = space_back i.namespace i.article j; ar
 
 -- The article name of a split's reference.
 article_split : (q : Bytes) (s : Split) → article_meant (split_of q s) ≡ part_of q s.article
-article_split q s = by_test s.qualified (λ t. rw t) (λ t. rw t)
+article_split q s = go s.namespace
+  where
+    go : (n : Option Span) → article_meant (reference_at q n s.article) ≡ part_of q s.article
+    go None = refl
+    go (Some p) = refl
 
 module _ {h : Bytes} {R : Register} (d : Known h R) {p : Page} {v : Held} (m : Memᴰ p R.pages) (n : Memᴰ v p.values) where
   -- the number of the value's term

@@ -1,9 +1,11 @@
 -- The terms of a page: what is asked of one, and of one after the other.
 use Rattle.std.specs.Prelude.{Some, None}
+use Rattle.std.proofs.Common.{nat_cmp}
 use Prim.Native.Nat.{ℕ, zero, suc, ◌+◌, ◌*◌, ◌-◌, ◌/◌, ◌≤◌, ◌<◌}
 use mathlib.Core.Path.{◌≡◌, refl, sym, ap, ap₂, ◌∙◌}
 use mathlib.Core.Bool.{Bool, true, false, cond, not, ◌&&◌, ◌||◌, or-false, and-true}
 use mathlib.Core.List.{List, [], ◌∷◌}
+use native.Mathlib.Numerals.{add-one}
 use native.Mathlib.Omega.{arith}
 use borrow.Author.Tests.{lt-ltb, le-ltb, le-leb, lt-leb, ne_eqb}
 use lib.Dec.{leb, ltb, eqb}
@@ -13,7 +15,7 @@ use Rattle.text.specs.Parts.{part_of}
 use Rattle.text.specs.Table.{tabulate}
 use Rattle.std.specs.declared.cmp.Ordering.{Ordering}
 use Rattle.text.specs.declared.Span.{Span}
-use Rattle.text.proofs.Laws.{any_append}
+use Rattle.text.proofs.Laws.{any_append, numbers_cmp}
 use Rattle.values.specs.declared.Kind.{Kind}
 use Rattle.values.specs.declared.Scalar.{Scalar}
 use Rattle.values.specs.declared.Split.{Split}
@@ -55,9 +57,9 @@ module _ (h : Bytes) (f : ℕ) (k : Kind) (c : Comparator) (w : Constant) (q : B
       go (Constant.String p) = refl
 
   module _ (j : Scalar) (e : k ≡ Kind.Scalar j) where
-    pub stands_scalar : (l : Scalar) (a b : ℕ) (o : Ordering) (s r : Bool) → w ≡ Constant.Scalar l b → s ≡ same_scalar j l → a ≡ term_code (term_at h f) → o ≡ numbers a b → r ≡ stands c o → Stands (s && r)
+    pub stands_scalar : (l : Scalar) (a b : ℕ) (o : Ordering) (s r : Bool) → w ≡ Constant.Scalar l b → s ≡ same_scalar j l → a ≡ term_code (term_at h f) → o ≡ nat_cmp a b → r ≡ stands c o → Stands (s && r)
     unfolding Cv
-    stands_scalar l a b o s r v same is g u = rw (e, v, same, u, g, is) (go (same_scalar j l))
+    stands_scalar l a b o s r v same is g u = rw (e, v, same, u, g, is, numbers_cmp) (go (same_scalar j l))
       where
         go : (t : Bool) → (t && stands c (numbers (term_code (term_at h f)) b)) ≡ found (cond t (Some (numbers (term_code (term_at h f)) b)) None) (stands c) false
         go true = refl
@@ -86,15 +88,15 @@ pub ruleset standing = (number_of_text, stands_page, stands_scalar, scalar_strin
 
 -- has_namespace
 module _ (q : Bytes) (c : SurfaceComparator) (s : Split) (n t : Bytes) (at : t ≡ n) where
-  pub written_fits : (b r : Bool) (x : Bytes) → s.qualified ≡ true → b ≡ in_any_namespace c → x ≡ part q s.namespace.start s.namespace.len → r ≡ same t x → (b || r) ≡ namespace_fits c (split_of q s) n
+  pub written_fits : (b r : Bool) (x : Bytes) (p : Span) → s.namespace ≡ Some p → b ≡ in_any_namespace c → x ≡ part q p.start p.len → r ≡ same t x → (b || r) ≡ namespace_fits c (split_of q s) n
   unfolding namespace_meant
-  written_fits b r x e f lies g = rw (e, f, g, at, lies, mark_word c) (go (in_any_namespace c))
+  written_fits b r x p e f lies g = rw (e, f, g, at, lies, mark_word c) (go (in_any_namespace c))
     where
-      go : (m : Bool) → (m || same n (part_of q s.namespace)) ≡ found (only_if (not m) (Some (part_of q s.namespace))) (λ y. same n y) true
+      go : (m : Bool) → (m || same n (part_of q p)) ≡ found (only_if (not m) (Some (part_of q p))) (λ y. same n y) true
       go true = refl
       go false = refl
 
-  pub bare_fits : (b : Bool) → s.qualified ≡ false → b ≡ is_equal c → (not b || eqb (length t) 0) ≡ namespace_fits c (split_of q s) n
+  pub bare_fits : (b : Bool) → s.namespace ≡ None → b ≡ is_equal c → (not b || eqb (length t) 0) ≡ namespace_fits c (split_of q s) n
   unfolding namespace_meant same
   bare_fits b e f = rw (e, f, at) (go (is_equal c) n)
     where
@@ -180,37 +182,25 @@ any_one : (p : ℕ → Bool) (n : ℕ) → any p (n ∷ []) ≡ p n
 unfolding any
 any_one p n = or-false (p n)
 
--- The loops over the bytes of a page's forms: whether one of the numbers before a place passes.
+-- The loop over a page's forms: whether one of the first numbers passes.
 module _ (b : Bytes) (p : ℕ → Bool) where
-  pub record Looked (at : ℕ) (Some : Bool) : Type 0 where
-    pub even : at ≡ 2 * (at / 2)
-    pub most : at ≤ length b
-    pub is : Some ≡ any p (tabulate (at / 2) (λ k. two_at b (2 * k)))
+  abbrev pub Looked : ℕ → Bool → Type 0
+  Looked k some = some ≡ any p (tabulate k (λ j. two_at b (2 * j)))
 
-  pub looked_start : Looked 0 false
+  pub looked_none : Looked 0 false
   unfolding tabulate any
-  looked_start = record { even = omega arith; most = omega arith; is = refl }
+  looked_none = refl
 
-  module _ (at : ℕ) (Some : Bool) (a : Looked at Some) where
-    pub looked_more : (f : ℕ) (r : Bool) → at + 2 ≤ length b → f ≡ two_at b at → r ≡ p f → Looked (at + 2) (Some || r)
-    unfolding tabulate
-    looked_more f r l there is =
-        let half : (at + 2) / 2 ≡ suc (at / 2) = omega arith in
-        let here : r ≡ p (two_at b (2 * (at / 2))) = is ∙ ap p there ∙ ap (λ (k : ℕ). p (two_at b k)) a.even in
-        record {
-          even = omega (arith, a.even);
-          most = omega arith;
-          is =
-              rw half
-              (ap₂ ◌||◌ a.is (here ∙ sym (any_one p (two_at b (2 * (at / 2)))))
-              ∙ sym (any_append p (tabulate (at / 2) (λ k. two_at b (2 * k))) (two_at b (2 * (at / 2)) ∷ [])));
-        }
+  pub looked_more : (k : ℕ) (some : Bool) (f : ℕ) (r : Bool) → Looked k some → f ≡ two_at b (2 * k) → r ≡ p f → Looked (k + 1) (some || r)
+  unfolding tabulate
+  looked_more k some f r a there is =
+      rw (add-one k)
+      (ap₂ ◌||◌ a (is ∙ ap p there ∙ sym (any_one p (two_at b (2 * k))))
+      ∙ sym (any_append p (tabulate k (λ j. two_at b (2 * j))) (two_at b (2 * k) ∷ [])))
 
-    pub looked_end : length b < at + 2 → Some ≡ any p (numbers_in b)
-    unfolding numbers_in
-    looked_end l =
-        let half : length b / 2 ≡ at / 2 = omega (arith, a.even, a.most) in
-        rw half a.is
+  pub looked_all : (k : ℕ) (some : Bool) → Looked k some → k ≡ length b / 2 → some ≡ any p (numbers_in b)
+  unfolding numbers_in
+  looked_all k some a e = rw (← e) a
 
 -- forms_between
 pub forms_cut : (h b : Bytes) (start end s d c : ℕ) → s ≡ start → d ≡ end - start → c ≡ d → b ≡ part h (1226 + 2 * s) (2 * c) → b ≡ form_bytes h start end

@@ -1,11 +1,11 @@
 -- Tables of marks that are filled from one place on, up to another or to the table's end.
-use Prim.Native.Nat.{ℕ, suc, ◌+◌, ◌-◌, ◌≤◌, ◌<◌}
+use Prim.Native.Nat.{ℕ, suc, ◌+◌, ◌≤◌, ◌<◌, min}
 use mathlib.Core.Path.{◌≡◌, refl, sym, ap, ◌∙◌}
-use mathlib.Core.Bool.{Bool, true, false, ◌&&◌, true≢false}
+use mathlib.Core.Bool.{Bool, true, false, ◌&&◌}
 use mathlib.Core.List.{List}
 use native.Mathlib.Omega.{arith}
 use borrow.Author.Tests.{lt-ltb, le-ltb, ltb-true, ltb-false, eqb-true, eqb-false}
-use lib.Dec.{ltb, eqb}
+use lib.Dec.{leb, ltb, eqb}
 use lib.ListN.{length, get_or, set, replicate, length-set}
 use lib.Seq.{get_or-set_same, get_or-set_other}
 use Rattle.text.specs.Bytes.{Bytes, any}
@@ -14,9 +14,9 @@ use Rattle.text.proofs.Tables.{length_tabulate, get_d_tabulate, tabulate_ext, is
 use Rattle.pageset.specs.declared.PageSet.{PageSet}
 use Rattle.pageset.specs.Marks.{marks_from}
 use Rattle.pageset.proofs.Laws.{tabulate_none}
-use Rattle.language.proofs.Members.{and_true}
 use Rattle.register_form.specs.Form.{form_start}
 use Rattle.register_form_view.specs.View.{form_bytes, numbers_in, form_passes}
+use Rattle.register_form_view.proofs.Looking.{range_below, range_above, range_at}
 
 -- another place is below i where it is below i + 1
 ltb_next : (j i : ℕ) → (j ≡ i → ⊥) → ltb j (i + 1) ≡ ltb j i
@@ -52,26 +52,12 @@ module _ (m : ℕ) (f : ℕ → Bool) (l : List Bool) where
       at j true p = rw (eqb-true j i p, le-ltb i i (omega arith), lt-ltb i (i + 1) (omega arith)) (sym q)
       at j false p = rw (ltb_next j i (eqb-false j i p))
 
-  pub marks_all : (i n : ℕ) → ((j : ℕ) → n ≤ j → f j ≡ false) → ltb i n && ltb i m ≡ false → l ≡ tabulate m (λ j. ltb j i && f j) → l ≡ tabulate m f
+  pub marks_all : (i n : ℕ) → ((j : ℕ) → n ≤ j → j < m → f j ≡ false) → n ≤ i → l ≡ tabulate m (λ j. ltb j i && f j) → l ≡ tabulate m f
   marks_all i n above stop e = e ∙ tabulate_ext m _ _ (λ j h. go j h (ltb j i) refl)
     where
-      past : (j : ℕ) → j < m → i ≤ j → (b : Bool) → ltb i n ≡ b → b && ltb i m ≡ false → n ≤ j
-      past j h k true p s = absurd (true≢false (sym (lt-ltb i m (omega arith)) ∙ s))
-      past j h k false p s = omega (arith, ltb-false i n p)
-
       go : (j : ℕ) → j < m → (b : Bool) → ltb j i ≡ b → (b && f j) ≡ f j
       go j h true p = refl
-      go j h false p = sym (above j (past j h (ltb-false j i p) (ltb i n) refl stop))
-
--- the loop's test
-pub goes_on : (i n m : ℕ) → ltb i n && ltb i m ≡ true → (i < n) × (i < m)
-goes_on i n m e = let t = and_true (ltb i n) (ltb i m) e in (ltb-true i n t.0, ltb-true i m t.1)
-
-pub goes_place : (i n m at : ℕ) → ltb i n && ltb i m ≡ true → at ≡ i → at < m
-goes_place i n m at e w = let l : i < m = (goes_on i n m e).1 in omega arith
-
-pub goes_less : (i n m : ℕ) → ltb i n && ltb i m ≡ true → n - (i + 1) < n - i
-goes_less i n m e = let l : i < n = (goes_on i n m e).0 in omega arith
+      go j h false p = sym (above j (omega (arith, ltb-false j i p)) h)
 
 -- A loop that takes into a set each of the first n pages that passes: at its start, after a turn, and at its end.
 abbrev pub Taken : ℕ → (ℕ → Bool) → ℕ → PageSet → Type 0
@@ -82,19 +68,34 @@ taken_none n f s e = marks_none 256 _ (marks_from s.words) 0 (λ j l. absurd (om
 
 module _ (n : ℕ) (f : ℕ → Bool) (s : PageSet) (i : ℕ) (so_far : Taken n f i s) where
   -- the page in place i passes, or not
-  module _ (t : ltb i n && ltb i 256 ≡ true) (b : Bool) (is : b ≡ f i) (u : PageSet) where
+  module _ (below : i < min n 256) (b : Bool) (is : b ≡ f i) (u : PageSet) where
     here : (ltb i n && f i) ≡ b
-    here = rw (lt-ltb i n (goes_on i n 256 t).0) (sym is)
+    here = rw (lt-ltb i n (omega arith)) (sym is)
 
     pub taken_with : (r : PageSet) (at : ℕ) → b ≡ true → at ≡ i → marks_from r.words ≡ set (marks_from s.words) at true → u ≡ r → Taken n f (i + 1) u
     taken_with r at y w g q =
-        ap (λ (v : PageSet). marks_from v.words) q ∙ g ∙ rw w (marks_more 256 _ (marks_from s.words) i true (goes_on i n 256 t).1 (sym (here ∙ y)) so_far)
+        ap (λ (v : PageSet). marks_from v.words) q ∙ g ∙ rw w (marks_more 256 _ (marks_from s.words) i true (omega arith) (sym (here ∙ y)) so_far)
 
     pub taken_same : b ≡ false → u ≡ s → Taken n f (i + 1) u
     taken_same y q = ap (λ (v : PageSet). marks_from v.words) q ∙ marks_skip 256 _ (marks_from s.words) i (here ∙ y) so_far
 
-  pub taken_all : (c : ℕ) → ltb i n && ltb i 256 ≡ false → n ≡ c → marks_from s.words ≡ tabulate 256 (λ j. ltb j c && f j)
-  taken_all c stop e = rw (← e) (marks_all 256 _ (marks_from s.words) i n (λ j k. rw (le-ltb j n k)) stop so_far)
+  pub taken_all : min n 256 ≤ i → marks_from s.words ≡ tabulate 256 (λ j. ltb j n && f j)
+  taken_all stop = (marks_all 256 _ (marks_from s.words) i (min n 256) (λ j k b. rw (le-ltb j n (omega arith))) stop so_far)
+
+-- A loop that marks each term of a range that passes, of the first 2,048: after a turn, and at its end.
+abbrev pub Marked : ℕ → ℕ → (ℕ → Bool) → ℕ → List Bool → Type 0
+Marked low high p i marks = marks ≡ tabulate 2048 (λ j. ltb j i && ((leb low j && ltb j high) && p j))
+
+module _ (low high : ℕ) (p : ℕ → Bool) where
+  pub marked_none : (l : List Bool) → l ≡ replicate 2048 false → Marked low high p low l
+  marked_none l e = marks_none 2048 _ l low (range_below low high p) e
+
+  module _ (l : List Bool) (i : ℕ) (so_far : Marked low high p i l) where
+    pub marked_more : (at : ℕ) (b : Bool) → low ≤ i → i < min high 2048 → at ≡ i → b ≡ p i → Marked low high p (i + 1) (set l at b)
+    marked_more at b k h w is = rw w (marks_more 2048 _ l i b (omega arith) (range_at low high p i b k (omega arith) is) so_far)
+
+    pub marked_all : min high 2048 ≤ i → l ≡ tabulate 2048 (λ j. (leb low j && ltb j high) && p j)
+    marked_all stop = marks_all 2048 _ l i (min high 2048) (λ j k b. range_above low high p j (omega arith)) stop so_far
 
 -- One of the numbers in the bytes of page i's forms passes.
 pub form_passes_lem : (h : Bytes) (p : ℕ → Bool) (i start end : ℕ) (forms : Bytes) (b : Bool) → start ≡ form_start h i → end ≡ form_start h (suc i) → forms ≡ form_bytes h start end → b ≡ any p (numbers_in forms) → b ≡ form_passes h p i

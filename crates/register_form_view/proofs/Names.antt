@@ -20,7 +20,6 @@ use Rattle.register_form.specs.Dictionary.{space_of, name_of, text_in, no_proper
 use Rattle.register_form.specs.Encoding.{place_among}
 use Rattle.register_form.specs.Form.{page_count, property_count, text_count, property_at, page_at, text_at, dictionary_in, register_in}
 use Rattle.register_form.specs.Opened.{page_in}
-use Rattle.register_form_view.specs.View.{kind_of}
 
 -- space_in, name_in
 module _ (h : Bytes) (x n : ℕ) (c : n ≡ text_count h) (r : Bytes) where

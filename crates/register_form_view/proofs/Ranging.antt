@@ -1,4 +1,5 @@
 -- The ranges that the functions answer, for opened bytes.
+use Rattle.std.specs.Prelude.{Option, Some, None}
 use Prim.Native.Nat.{ℕ, suc, ◌+◌, ◌≤◌, ◌<◌}
 use mathlib.Core.Path.{◌≡◌, sym, ap, ◌∙◌, subst}
 use mathlib.Core.Bool.{Bool, true, not, ◌&&◌}
@@ -19,7 +20,6 @@ use Rattle.register_form.specs.Opened.{Opened}
 use Rattle.register_form.proofs.Decoded.{texts_up, terms_up_lem}
 use Rattle.register_form_view.specs.Ranges.{term_number, Ranked, Located, CategoryRange, PropertyRange}
 use Rattle.register_form_view.specs.declared.Index.{Index}
-use Rattle.register_form_view.specs.declared.Found.{Found}
 use Rattle.register_form_view.specs.declared.TermRange.{TermRange}
 use Rattle.register_form_view.proofs.Names.{property_total}
 use Rattle.register_form_view.proofs.Opening.{Known, known, property_row, terms_are, texts_are}
@@ -27,21 +27,21 @@ use Rattle.register_form_view.proofs.Covering.{undeclared, none_declared, proper
 
 -- category_range
 module _ (h x : Bytes) where
-  module _ (text : Found) (is : Located h Index.Names x text) where
-    pub range_no_text : (z : TermRange) → text ≡ Found.Nothing → (z.low ≡ 0) × (z.high ≡ 0) → (places : List ℕ) (R : Register) → Opened h places R → CategoryRange R x z
+  module _ (text : Option ℕ) (is : Located h Index.Names x text) where
+    pub range_no_text : (z : TermRange) → text ≡ None → (z.low ≡ 0) × (z.high ≡ 0) → (places : List ℕ) (R : Register) → Opened h places R → CategoryRange R x z
     unfolding Located
     range_no_text z e empty places R o =
         let d = known o in
         let absent : ascends order_of (texts_of R) ≡ true → Memᴰ (plain_text x) (texts_of R) → ⊥ = subst (λ (l : List Bytes). ascends order_of l ≡ true → Memᴰ (plain_text x) l → ⊥) (texts_are d) (subst (Located h Index.Names x) e is) in
         no_text_lem R d.keeps d.limits x z (absent (texts_up R)) empty.0 empty.1
 
-    module _ (k : ℕ) (e : text ≡ Found.At k) where
+    module _ (k : ℕ) (e : text ≡ Some k) where
       text_found : (R : Register) → Known h R → (k < length (texts_of R)) × (get_or (texts_of R) k [] ≡ plain_text x)
       unfolding Located
       text_found R d = subst (λ (l : List Bytes). (k < length l) × (get_or l k [] ≡ plain_text x)) (texts_are d) (subst (Located h Index.Names x) e is)
 
-      module _ (term : Found) (at : Located h Index.Terms (term_of 0 k) term) where
-        pub range_no_term : (z : TermRange) → term ≡ Found.Nothing → (z.low ≡ 0) × (z.high ≡ 0) → (places : List ℕ) (R : Register) → Opened h places R → CategoryRange R x z
+      module _ (term : Option ℕ) (at : Located h Index.Terms (term_of 0 k) term) where
+        pub range_no_term : (z : TermRange) → term ≡ None → (z.low ≡ 0) × (z.high ≡ 0) → (places : List ℕ) (R : Register) → Opened h places R → CategoryRange R x z
         unfolding Located
         range_no_term z g empty places R o =
             let d = known o in
@@ -49,7 +49,7 @@ module _ (h x : Bytes) where
             let absent : ascends order_of (terms_of R) ≡ true → Memᴰ (term_of 0 k) (terms_of R) → ⊥ = subst (λ (l : List Bytes). ascends order_of l ≡ true → Memᴰ (term_of 0 k) l → ⊥) (terms_are d) (subst (Located h Index.Terms (term_of 0 k)) g at) in
             no_term R d.keeps d.limits x k t.0 t.1 z (absent (terms_up_lem R)) empty.0 empty.1
 
-        pub range_category : (f : ℕ) (z : TermRange) → term ≡ Found.At f → z.low ≡ f → z.high ≡ f + 1 → (places : List ℕ) (R : Register) → Opened h places R → CategoryRange R x z
+        pub range_category : (f : ℕ) (z : TermRange) → term ≡ Some f → z.low ≡ f → z.high ≡ f + 1 → (places : List ℕ) (R : Register) → Opened h places R → CategoryRange R x z
         unfolding Located
         range_category f z g low high places R o =
             let d = known o in
@@ -87,7 +87,7 @@ module _ (h x : Bytes) where
             (subst (λ (l : List Bytes). ascends order_of l ≡ true → r ≡ rank order_of (g ∷ []) l) (terms_are d) f) (terms_up_lem R)
             ∙ ap (λ (j : ℕ). term_number R (j ∷ [])) e
 
-  pub range_other : (kind : Kind) (z : TermRange) (b : Bool) → ((places : List ℕ) (R : Register) → Opened h places R → PropertyRange R x z) → b ≡ same_kind z.kind kind → (places : List ℕ) (R : Register) → Opened h places R → (not b && ltb z.low z.high) ≡ some_other R x kind
+  pub range_other : (kind : Kind) (z : TermRange) (b : Bool) → ((places : List ℕ) (R : Register) → Opened h places R → PropertyRange R x z) → b ≡ not (same_kind z.kind kind) → (places : List ℕ) (R : Register) → Opened h places R → (b && ltb z.low z.high) ≡ some_other R x kind
   range_other kind z b f e places R o =
       let d = known o in
       rw e (other_is R d.keeps d.limits x kind z (f places R o))

@@ -1,4 +1,6 @@
 -- Entries that ascend: halving finds where a key belongs.
+use Rattle.std.specs.Prelude.{Option, Some, None}
+use Rattle.std.specs.Bool.{then_some}
 use Prim.Native.Nat.{ℕ, ◌+◌, ◌/◌, ◌%◌, ◌≤◌, ◌<◌}
 use mathlib.Core.Path.{◌≡◌, refl, sym, ap, ◌∙◌, subst}
 use mathlib.Core.Bool.{Bool, true, false, true≢false}
@@ -24,7 +26,6 @@ use Rattle.buffer.proofs.Numbers.{two_small}
 use Rattle.register_form.proofs.Lists.{number_back, number_small}
 use Rattle.register_form_view.specs.Ranges.{entries_in, entry_at, key_of, Ranked, Located}
 use Rattle.register_form_view.specs.declared.Index.{Index}
-use Rattle.register_form_view.specs.declared.Found.{Found}
 
 -- compare_plain
 module _ (t x : Bytes) where
@@ -112,7 +113,7 @@ module _ (h : Bytes) (index : Index) (key : Bytes) where
 
   -- binary_search
   module _ (m n : ℕ) (f : Ranked h index key m) (c : n ≡ length (entries_in h index)) where
-    pub located_past : n ≤ m → Located h index key Found.Nothing
+    pub located_past : n ≤ m → Located h index key None
     unfolding Located Ranked
     located_past l p k = omega (arith, f p, number_small (entries_in h index) p (key_of index key) k)
 
@@ -120,25 +121,32 @@ module _ (h : Bytes) (index : Index) (key : Bytes) where
       order_there : r ≡ order_of (get_or (entries_in h index) m []) (key_of index key)
       order_there = rw (entry_in_lem h index m (omega arith)) e
 
-      pub located_at : b ≡ true → Located h index key (Found.At m)
+      located_at : b ≡ true → Located h index key (Some m)
       unfolding Located
       located_at t = (omega arith, order_eq _ _ (sym order_there ∙ equal_is r (sym (g ∙ equal_is_eq r) ∙ t)))
 
-      pub located_none : b ≡ false → Located h index key Found.Nothing
+      located_none : b ≡ false → Located h index key None
       unfolding Located Ranked
       located_none t p k =
           let at : get_or (entries_in h index) m [] ≡ key_of index key = ap (λ (j : ℕ). get_or (entries_in h index) j []) (f p) ∙ number_back (entries_in h index) p (key_of index key) k in
           absurd (true≢false (sym (g ∙ equal_is_eq r ∙ ap is_equal (order_there ∙ ap (λ (z : Bytes). order_of z (key_of index key)) at ∙ order_refl (key_of index key))) ∙ t))
 
+      pub located_told : (o : Option ℕ) → o ≡ then_some b m → Located h index key o
+      located_told o told = go b refl told
+        where
+          go : (c : Bool) → b ≡ c → o ≡ then_some c m → Located h index key o
+          go true t f = rw f (located_at t)
+          go false t f = rw f (located_none t)
+
 -- The place of a term that was found has one behind it.
-pub place_small : (h key : Bytes) (r : Found) (f : ℕ) → ((i : ℕ) → get_or h i 0 < 256) → Located h Index.Terms key r → r ≡ Found.At f → f + 1 < 65536
+pub place_small : (h key : Bytes) (r : Option ℕ) (f : ℕ) → ((i : ℕ) → get_or h i 0 < 256) → Located h Index.Terms key r → r ≡ Some f → f + 1 < 65536
 unfolding Located dictionary_in
 place_small h key r f bytes at e = omega (arith, (subst (Located h Index.Terms key) e at).0, length_tabulate (term_count h) (term_at h), two_small h 4 bytes)
 
-pub ruleset searching = (plain_empty, plain_spaced, plain_name, entry_name, entry_text, entry_term, count_names, count_texts, count_terms, located_past, located_at, located_none)
+pub ruleset searching = (plain_empty, plain_spaced, plain_name, entry_name, entry_text, entry_term, count_names, count_texts, count_terms, located_past, located_told)
 
 -- category_term: the bytes of its key
-pub category_located : (h : Bytes) (k : ℕ) (r : Found) → k < 65536 → Located h Index.Terms (set (set (replicate 9 0) 1 (k % 256)) 2 (k / 256)) r → Located h Index.Terms (term_of 0 k) r
+pub category_located : (h : Bytes) (k : ℕ) (r : Option ℕ) → k < 65536 → Located h Index.Terms (set (set (replicate 9 0) 1 (k % 256)) 2 (k / 256)) r → Located h Index.Terms (term_of 0 k) r
 category_located h k r l at =
     let a : k / 65536 ≡ 0 = omega arith in
     let b : k / 256 % 256 ≡ k / 256 = omega arith in

@@ -1,5 +1,5 @@
 -- Working definitions: entries by their numbers, and which terms a range has.
-use Rattle.std.specs.Prelude.{ℕ, ◌+◌, ◌*◌, ◌≤◌, ◌<◌, ◌≡◌, Bool, true, false, cond, ◌&&◌, leb, ltb, length, get_or}
+use Rattle.std.specs.Prelude.{ℕ, ◌+◌, ◌*◌, ◌≤◌, ◌<◌, ◌≡◌, Bool, true, false, cond, ◌&&◌, leb, ltb, length, get_or, Option, Some, None}
 use mathlib.Core.List.{List, [], Memᴰ}
 use Rattle.text.specs.Bytes.{Bytes, numbers, order_of, same}
 use Rattle.text.specs.Parts.{part_of}
@@ -12,7 +12,6 @@ use Rattle.register_form.specs.Dictionary.{labelled, name_of}
 use Rattle.register_form.specs.Encoding.{plain_text, category_term, value_term, terms_of}
 use Rattle.register_form.specs.Form.{term_at, text_at, dictionary_in}
 use Rattle.register_form_view.specs.declared.Index.{Index}
-use Rattle.register_form_view.specs.declared.Found.{Found}
 use Rattle.register_form_view.specs.declared.Rank.{Rank}
 use Rattle.register_form_view.specs.declared.TermRange.{TermRange}
 use Rattle.register_form_view.specs.declared.ValueTest.{ValueTest}
@@ -39,9 +38,9 @@ unfoldable pub Ranked : Bytes → Index → Bytes → ℕ → Type 0
 Ranked h index key r = ascends order_of (entries_in h index) ≡ true → r ≡ rank order_of (key_of index key) (entries_in h index)
 
 -- The entry in the place r is the key; where there is none, no entry of a list that ascends is.
-unfoldable pub Located : Bytes → Index → Bytes → Found → Type 0
-Located h index key (Found.At r) = (r < length (entries_in h index)) × (get_or (entries_in h index) r [] ≡ key_of index key)
-Located h index key Found.Nothing = ascends order_of (entries_in h index) ≡ true → Memᴰ (key_of index key) (entries_in h index) → ⊥
+unfoldable pub Located : Bytes → Index → Bytes → Option ℕ → Type 0
+Located h index key (Some r) = (r < length (entries_in h index)) × (get_or (entries_in h index) r [] ≡ key_of index key)
+Located h index key None = ascends order_of (entries_in h index) ≡ true → Memᴰ (key_of index key) (entries_in h index) → ⊥
 
 -- Where the texts ascend, each stands to that of the name x as 1 + 2 n stands to k, n being its number.
 unfoldable pub Keyed : Bytes → Bytes → ℕ → Type 0

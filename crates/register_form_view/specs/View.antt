@@ -1,5 +1,5 @@
 -- Working definitions: what the functions over the terms of a page answer.
-use Rattle.std.specs.Prelude.{ℕ, zero, suc, ◌+◌, ◌*◌, ◌-◌, ◌/◌, ◌<◌, ◌≡◌, Bool, true, false, ◌&&◌, List, ltb, length, get_or, Option, Some, None}
+use Rattle.std.specs.Prelude.{ℕ, zero, suc, ◌+◌, ◌*◌, ◌-◌, ◌/◌, ◌<◌, ◌≡◌, Bool, true, false, ◌&&◌, List, ltb, length, get_or}
 use Rattle.text.specs.Bytes.{Bytes, part, same, any}
 use Rattle.text.specs.Parts.{part_of}
 use Rattle.text.specs.Table.{tabulate}
@@ -82,6 +82,10 @@ form_bytes h start end = part h (1226 + 2 * start) (2 * (end - start))
 
 unfoldable pub numbers_in : Bytes → List ℕ
 numbers_in b = tabulate (length b / 2) (λ k. two_at b (2 * k))
+
+-- A test whose calls answer what p says, of numbers of 16 bits.
+unfoldable pub Tells : (ℕ → Bool → Type 0) → (ℕ → Bool) → Type 0
+Tells post p = (f : ℕ) (r : Bool) → f < 65536 → post f r → r ≡ p f
 
 -- One of page i's forms passes a test.
 abbrev pub form_passes : Bytes → (ℕ → Bool) → ℕ → Bool

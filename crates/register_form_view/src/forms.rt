@@ -1,5 +1,5 @@
 // What is asked of a term, and of the terms of a page.
-ghost use Rattle.std.specs.Prelude.{◌≡◌, false, ◌&&◌, get_or};
+ghost use Rattle.std.specs.Prelude.{ℕ, ◌≡◌, Bool, ◌&&◌};
 ghost use Rattle.text.specs.Bytes.{any};
 ghost use Rattle.text.specs.Table.{tabulate};
 ghost use Rattle.pageset.specs.Marks.{marks_from};
@@ -9,7 +9,7 @@ ghost use Rattle.register_form_view.specs.Ranges.{name_order, within};
 ghost use Rattle.values.specs.Answers.{split_of};
 ghost use Rattle.register_form.specs.Dictionary.{space_of};
 ghost use Rattle.register_form.specs.Form.{text_at};
-ghost use Rattle.register_form_view.specs.View.{text_number, stands_at, namespace_fits, meant_at, passes_at, marked, leads_into, form_bytes, numbers_in};
+ghost use Rattle.register_form_view.specs.View.{text_number, stands_at, namespace_fits, meant_at, passes_at, marked, leads_into, form_bytes, numbers_in, Tells};
 
 use crate::ranks::{compare_name, order_by};
 use crate::{Rank, TermRange, TermSet, ValueTest, stands_as, stands_as_typed};
@@ -17,10 +17,10 @@ use buffer::two_at;
 use language::{Comparator, SurfaceComparator, in_any_namespace, is_equal};
 use pageset::mark_at;
 use query_core::Constant;
-use register_form::{code_at, minus, space_at, term_at};
+use register_form::{code_at, layout, space_at, term_at};
 use tables::get_or;
 use text::{Span, part, same_bytes};
-use values::{Kind, Split, same_scalar};
+use values::{Kind, Split};
 
 // The number of the text that term f names.
 fn text_number(h: &[u8], f: u16) -> u16
@@ -36,8 +36,7 @@ fn value_stands(h: &[u8], f: u16, k: Kind, c: Comparator, w: Constant, q: &[u8],
     match k {
         Kind::Page => false,
         Kind::Scalar(j) => match w {
-            Constant::Scalar(l, b) => same_scalar(j, l)
-                & stands_as(c, code_at(h, f).cmp(&b)),
+            Constant::Scalar(l, b) => (j == l) & stands_as(c, code_at(h, f).cmp(&b)),
             Constant::String(_) => false,
         },
         Kind::String => match w {
@@ -58,12 +57,11 @@ fn value_stands(h: &[u8], f: u16, k: Kind, c: Comparator, w: Constant, q: &[u8],
 fn has_namespace(h: &[u8], n: u16, c: SurfaceComparator, split: Split, q: &[u8]) -> bool
     ensures { result ≡ namespace_fits c (split_of q.now split) (space_of (text_at h.now n)) }
 {
-    if split.qualified {
-        let p = split.namespace;
-        return in_any_namespace(c) | same_bytes(space_at(h, n), part(q, p.start, p.len));
-    }
     let space = space_at(h, n);
-    !is_equal(c) | (space.len() == 0)
+    match split.namespace {
+        Some(p) => in_any_namespace(c) | same_bytes(space, part(q, p.start, p.len)),
+        None => !is_equal(c) | space.is_empty(),
+    }
 }
 
 // Whether the name of text n stands to that of a reference, which has a rank.
@@ -104,7 +102,7 @@ fn link_meant(
 }
 
 // Whether the value of term f, of a kind, passes a test, which has a rank.
-fn value_passes(h: &[u8], f: u16, k: Kind, test: ValueTest, q: &[u8], rank: Rank) -> bool
+pub fn value_passes(h: &[u8], f: u16, k: Kind, test: ValueTest, q: &[u8], rank: Rank) -> bool
     ensures { result ≡ passes_at h.now q.now rank test k f }
 {
     match test {
@@ -124,11 +122,14 @@ fn marked_at(words: &[u64], place: usize) -> bool
 }
 
 // Whether the value of term f, of a kind, leads to a page of a set.
-fn leads_into(h: &[u8], places: &[u16], f: u16, k: Kind, words: &[u64]) -> bool
+pub fn leads_into(h: &[u8], places: &[u16], f: u16, k: Kind, words: &[u64]) -> bool
     ensures { result ≡ leads_into h.now places.now (marks_from words.now) k f }
 {
     match k {
-        Kind::Page => marked_at(words, usize::from(get_or(places, usize::from(text_number(h, f)), 0))),
+        Kind::Page => marked_at(
+            words,
+            usize::from(get_or(places, usize::from(text_number(h, f)), 0)),
+        ),
         Kind::Scalar(_) => false,
         Kind::String => false,
     }
@@ -138,78 +139,40 @@ fn leads_into(h: &[u8], places: &[u16], f: u16, k: Kind, words: &[u64]) -> bool
 pub fn forms_between(h: &[u8], start: u16, end: u16) -> &[u8]
     ensures { result.now ≡ form_bytes h.now start end }
 {
-    part(h, 1226 + 2 * usize::from(start), 2 * usize::from(minus(end, start)))
+    part(
+        h,
+        usize::from(layout::FORMS) + 2 * usize::from(start),
+        2 * usize::from(end.saturating_sub(start)),
+    )
 }
 
 // Whether term f is of a range.
-fn is_within(range: TermRange, f: u16) -> bool
+pub fn is_within(range: TermRange, f: u16) -> bool
     ensures { result ≡ within range f }
 {
     (range.low <= f) & (f < range.high)
 }
 
 // Which terms are of a range and pass a test: each is tested once.
-pub fn terms_passing(h: &[u8], range: TermRange, test: ValueTest, q: &[u8], rank: Rank) -> TermSet
-    ensures { result.marks ≡ tabulate 2048 (λ f. within range f && passes_at h.now q.now rank test range.kind f) }
+pub fn terms_where<F: Fn(u16) -> bool>(range: TermRange, test: F) -> TermSet
+    requires { F.IsAlwaysCallable test }
+    ensures { (p : ℕ → Bool) → Tells (F.post test) p → result.marks ≡ tabulate 2048 (λ f. within range f && p f) }
 {
-    let k = range.kind;
-    let high = range.high;
-    let mut wanted = [false; 2048];
-    let mut f = range.low;
-    while (f < high) & (f < 2048) {
-        let at = usize::from(f);
-        wanted[at] = value_passes(h, f, k, test, q, rank);
-        f += 1;
+    let mut marks = [false; layout::FORM_ROOM];
+    for f in range.low..range.high.min(layout::MOST_FORMS) {
+        marks[usize::from(f)] = test(f);
     }
-    TermSet { marks: wanted }
+    TermSet { marks }
 }
 
-// Which terms are of a range and lead to a page of a set.
-pub fn terms_leading(h: &[u8], places: &[u16], range: TermRange, words: &[u64]) -> TermSet
-    ensures { result.marks ≡ tabulate 2048 (λ f. within range f && leads_into h.now places.now (marks_from words.now) range.kind f) }
-{
-    let k = range.kind;
-    let high = range.high;
-    let mut wanted = [false; 2048];
-    let mut f = range.low;
-    while (f < high) & (f < 2048) {
-        let at = usize::from(f);
-        wanted[at] = leads_into(h, places, f, k, words);
-        f += 1;
-    }
-    TermSet { marks: wanted }
-}
-
-// Whether one of the terms whose numbers stand in the bytes is of a range. All are looked at: leaving at the first gains
-// nothing.
-pub fn some_within(forms: &[u8], range: TermRange) -> bool
-    ensures { result ≡ any (within range) (numbers_in forms.now) }
+// Whether one of the terms whose numbers stand in the bytes passes a test. All are looked at: leaving at the first gains nothing.
+pub fn some_form<F: Fn(u16) -> bool>(forms: &[u8], test: &F) -> bool
+    requires { F.IsAlwaysCallable test.now }
+    ensures { (p : ℕ → Bool) → Tells (F.post test.now) p → result ≡ any p (numbers_in forms.now) }
 {
     let mut some = false;
-    let mut at: usize = 0;
-    while at + 2 <= forms.len() {
-        some = some | is_within(range, two_at(forms, at));
-        at += 2;
-    }
-    some
-}
-
-// The mark of a term; there is none past the end.
-fn wanted_at(wanted: &[bool], f: usize) -> bool
-    ensures { result ≡ get_or wanted.now f false }
-{
-    if f < wanted.len() { wanted[f] } else { false }
-}
-
-// Whether one of them is marked.
-pub fn some_marked(forms: &[u8], wanted: &[bool]) -> bool
-    ensures { result ≡ any (λ f. get_or wanted.now f false) (numbers_in forms.now) }
-{
-    let mut some = false;
-    let mut at: usize = 0;
-    while at + 2 <= forms.len() {
-        some = some | wanted_at(wanted, usize::from(two_at(forms, at)));
-        at += 2;
+    for k in 0..forms.len() / 2 {
+        some = some | test(two_at(forms, 2 * k));
     }
     some
 }

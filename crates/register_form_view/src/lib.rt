@@ -37,13 +37,6 @@ pub enum Index {
     Terms,
 }
 
-// The number of what was looked up, if it is there.
-#[derive(Clone, Copy)]
-pub enum Found {
-    At(u16),
-    Nothing,
-}
-
 // The terms from low to high, without the last: those of a category, or those of a property, with its kind.
 #[derive(Clone, Copy)]
 pub struct TermRange {
@@ -85,26 +78,10 @@ pub fn stands_as(c: Comparator, o: Ordering) -> bool
     ensures { result ≡ stands c o }
 {
     match c {
-        Comparator::Equal => match o {
-            Ordering::Less => false,
-            Ordering::Equal => true,
-            Ordering::Greater => false,
-        },
-        Comparator::Unequal => match o {
-            Ordering::Less => true,
-            Ordering::Equal => false,
-            Ordering::Greater => true,
-        },
-        Comparator::Greater => match o {
-            Ordering::Less => false,
-            Ordering::Equal => false,
-            Ordering::Greater => true,
-        },
-        Comparator::Less => match o {
-            Ordering::Less => true,
-            Ordering::Equal => false,
-            Ordering::Greater => false,
-        },
+        Comparator::Equal => o.is_eq(),
+        Comparator::Unequal => o.is_ne(),
+        Comparator::Greater => o.is_gt(),
+        Comparator::Less => o.is_lt(),
     }
 }
 
@@ -112,31 +89,13 @@ pub fn stands_as(c: Comparator, o: Ordering) -> bool
 pub fn stands_as_typed(c: SurfaceComparator, o: Ordering) -> bool
     ensures { result ≡ stands_as c o }
 {
-    match o {
-        Ordering::Less => match c {
-            SurfaceComparator::Equal => false,
-            SurfaceComparator::Unequal => true,
-            SurfaceComparator::Greater => false,
-            SurfaceComparator::Less => true,
-            SurfaceComparator::AtLeast => false,
-            SurfaceComparator::AtMost => true,
-        },
-        Ordering::Equal => match c {
-            SurfaceComparator::Equal => true,
-            SurfaceComparator::Unequal => false,
-            SurfaceComparator::Greater => false,
-            SurfaceComparator::Less => false,
-            SurfaceComparator::AtLeast => true,
-            SurfaceComparator::AtMost => true,
-        },
-        Ordering::Greater => match c {
-            SurfaceComparator::Equal => false,
-            SurfaceComparator::Unequal => true,
-            SurfaceComparator::Greater => true,
-            SurfaceComparator::Less => false,
-            SurfaceComparator::AtLeast => true,
-            SurfaceComparator::AtMost => false,
-        },
+    match c {
+        SurfaceComparator::Equal => o.is_eq(),
+        SurfaceComparator::Unequal => o.is_ne(),
+        SurfaceComparator::Greater => o.is_gt(),
+        SurfaceComparator::Less => o.is_lt(),
+        SurfaceComparator::AtLeast => o.is_ge(),
+        SurfaceComparator::AtMost => o.is_le(),
     }
 }
 
@@ -164,12 +123,10 @@ pub fn property_place(h: &[u8], x: &[u8]) -> u16
     ensures { result ≡ place_among (register_in h.now).properties x.now }
 {
     let n = property_count(h);
-    let mut p: u16 = 0;
-    while p < n {
+    for p in 0..n {
         if same_bytes(name_in(h, name_number(h, p)), x) {
             return p;
         }
-        p += 1;
     }
     n
 }

@@ -9,18 +9,18 @@ ghost use Rattle.register_form.specs.Opened.{Opened};
 ghost use Rattle.register_form_view.specs.declared.Index.TheVariants.{Terms as TermIndex};
 ghost use Rattle.register_form_view.specs.Ranges.{entries_in, entry_at, key_of, Ranked, Located, CategoryRange, PropertyRange};
 
-use crate::{Found, Index, TermRange, property_place};
+use crate::{Index, TermRange, property_place};
 use register_form::{kind_at, property_count, term_at, term_count, text_at, text_count};
 use std::cmp::Ordering;
 use tables::get_or;
 use text::{compare, part};
-use values::{Kind, same_kind};
+use values::Kind;
 
 // How a text stands to that of a name with no namespace.
 fn compare_plain(t: &[u8], x: &[u8]) -> Ordering
     ensures { result ≡ order_of t.now (plain_text x.now) }
 {
-    if t.len() == 0 {
+    if t.is_empty() {
         return Ordering::Less;
     }
     if 0 < get_or(t, 0, 0) {
@@ -69,18 +69,14 @@ pub fn find(h: &[u8], index: Index, key: &[u8]) -> u16
 }
 
 // The number of a key in a list, which ascends.
-pub fn binary_search(h: &[u8], index: Index, key: &[u8]) -> Found
+pub fn binary_search(h: &[u8], index: Index, key: &[u8]) -> Option<u16>
     ensures { Located h.now index key.now result }
 {
     let m = find(h, index, key);
     if entry_count(h, index) <= m {
-        return Found::Nothing;
+        return None;
     }
-    if compare_entry(h, index, m, key).is_eq() {
-        Found::At(m)
-    } else {
-        Found::Nothing
-    }
+    compare_entry(h, index, m, key).is_eq().then_some(m)
 }
 
 // No terms.
@@ -95,7 +91,7 @@ pub fn no_terms() -> TermRange
 }
 
 // The number of the term of the category whose name is text k.
-fn category_term(h: &[u8], k: u16) -> Found
+fn category_term(h: &[u8], k: u16) -> Option<u16>
     ensures { Located h.now TermIndex (term_of 0 k) result }
 {
     let mut key = [0u8; 9];
@@ -108,12 +104,10 @@ fn category_term(h: &[u8], k: u16) -> Found
 pub fn category_range(h: &[u8], x: &[u8]) -> TermRange
     ensures { (places : List ℕ) (R : Register) → Opened h.now places R → CategoryRange R x.now result }
 {
-    let text = binary_search(h, Index::Names, x);
-    let Found::At(k) = text else {
+    let Some(k) = binary_search(h, Index::Names, x) else {
         return no_terms();
     };
-    let term = category_term(h, k);
-    let Found::At(f) = term else {
+    let Some(f) = category_term(h, k) else {
         return no_terms();
     };
     TermRange {
@@ -154,6 +148,5 @@ pub fn other_kind(h: &[u8], x: &[u8], kind: Kind) -> bool
     ensures { (places : List ℕ) (R : Register) → Opened h.now places R → result ≡ some_other R x.now kind }
 {
     let range = property_range(h, x);
-    let k = range.kind;
-    !same_kind(k, kind) & (range.low < range.high)
+    (range.kind != kind) & (range.low < range.high)
 }

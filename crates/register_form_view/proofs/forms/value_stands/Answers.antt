@@ -1,4 +1,6 @@
+use mathlib.Core.Path.{◌≡◌}
 use borrow.Author.Rules.{rules}
+use Rattle.values.specs.Values.{same_scalar}
 use Rattle.register_form_view.proofs.Looking.{standing}
 use Rattle.register_form_view.proofs.forms.value_stands.Goals as goal
 
@@ -6,7 +8,7 @@ pub returns-in-Page : goal.returns-in-Page
 returns-in-Page c = search (standing, rules)
 
 pub returns-in-Scalar-w : goal.returns-in-Scalar-w
-returns-in-Scalar-w c = search (standing, rules)
+returns-in-Scalar-w c = let same : c.eq.result ≡ same_scalar c.in-Scalar.j c.in-Scalar-w.l = search rules in search (standing, rules)
 
 pub returns-in-String-w : goal.returns-in-String-w
 returns-in-String-w c = search (standing, rules)

@@ -5,8 +5,5 @@ use Rattle.register_form_view.proofs.ranges.binary_search.Goals as goal
 pub returns-then-entry_count-m : goal.returns-then-entry_count-m
 returns-then-entry_count-m c = search (searching, rules)
 
-pub returns-then-is_eq : goal.returns-then-is_eq
-returns-then-is_eq c = search (searching, rules)
-
-pub returns-else-is_eq : goal.returns-else-is_eq
-returns-else-is_eq c = search (searching, rules)
+pub returns : goal.returns
+returns c = search (searching, rules)

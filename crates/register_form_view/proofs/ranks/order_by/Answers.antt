@@ -1,5 +1,5 @@
-use mathlib.Core.Path.{◌∙◌}
+use Rattle.text.proofs.Laws.{numbers_cmp}
 use Rattle.register_form_view.proofs.ranks.order_by.Goals as goal
 
 pub returns : goal.returns
-returns c = (c.cmp.ensures ∙ numbers_cmp _ _) ∙ rw c.from.ensures
+returns c = rw (c.cmp.ensures, numbers_cmp, c.from.ensures)
