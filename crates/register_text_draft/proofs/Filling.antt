@@ -2,7 +2,6 @@
 use Rattle.std.specs.Prelude.{Option, Some, None}
 use Prim.Native.Nat.{ℕ, suc, ◌+◌, ◌%◌, ◌≤◌, ◌<◌}
 use mathlib.Core.Path.{◌≡◌, refl, sym, ap, ap₂, ◌∙◌, subst}
-use mathlib.Core.Bool.{true, false}
 use mathlib.Core.List.{List, [], ◌∷◌, ◌++◌, append_assoc, append-nil}
 use native.Mathlib.Nat.{mod-eq_of_lt}
 use native.Mathlib.Numerals.{add-one}
@@ -12,6 +11,7 @@ use lib.ListN.{length, get_or, take, drop, set, length-append, length-set, get_o
 use lib.Seq.{sets-eq, take_at, take-suc-set, take-length, drop-append_seam, get_or-append_seam, get_or-set_same, get_or-set_other, length-take-le}
 use borrow.Author.Tests.{ltb-true, ltb-false}
 use Rattle.text.specs.Bytes.{Bytes, part}
+use Rattle.text.specs.declared.Span.{Span}
 use Rattle.values.specs.declared.Kind.{Kind}
 use Rattle.values.specs.declared.Scalar.{Scalar}
 use Rattle.values.specs.declared.Split.{Split}
@@ -130,7 +130,7 @@ module _ (heap starts lens : List ℕ) (m at : ℕ) (space name : Bytes)
     text_pushed short = record { texts = pushed short }
 
 -- Names composed where they lie: the length before the first is written behind it.
-written_copied : (b v b' : Bytes) (at : ℕ) → b' ≡ Buffers.written b at v → Copied b at v b'
+pub written_copied : (b v b' : Bytes) (at : ℕ) → b' ≡ Buffers.written b at v → Copied b at v b'
 unfolding Buffers.written
 written_copied b v b' at e =
     record {
@@ -169,10 +169,10 @@ module _ (heap starts lens : List ℕ) (m at : ℕ) (h s n : List ℕ) (r : Ends
         let near : (length (composed_name space) ≤ 64) × (length (composed_name name) ≤ 64) = subst (λ (j : Identifier). Spaced (link j)) is short in
         rw is (f near.0)
 
-    pub link_qualified : i.qualified ≡ true → (space : Bytes) → space ≡ part v i.namespace.start i.namespace.len → Named space name → Spaced (link (link_of v)) → Pushes (identifier_text (link_of v) ∷ [])
-    link_qualified e space es = by_split space (ap (λ (r : Reference). identifier (composed_reference r)) (sym p.is) ∙ rw (e, es, en))
+    pub link_qualified : (a : Span) → i.namespace ≡ Some a → (space : Bytes) → space ≡ part v a.start a.len → Named space name → Spaced (link (link_of v)) → Pushes (identifier_text (link_of v) ∷ [])
+    link_qualified a e space es = by_split space (ap (λ (r : Reference). identifier (composed_reference r)) (sym p.is) ∙ rw (e, es, en))
 
-    pub link_bare : i.qualified ≡ false → (space : Bytes) → space ≡ [] → Named space name → Spaced (link (link_of v)) → Pushes (identifier_text (link_of v) ∷ [])
+    pub link_bare : i.namespace ≡ None → (space : Bytes) → space ≡ [] → Named space name → Spaced (link (link_of v)) → Pushes (identifier_text (link_of v) ∷ [])
     link_bare e space es = by_split space (ap (λ (r : Reference). identifier (composed_reference r)) (sym p.is) ∙ rw (e, es, en, composed_empty))
 
   module _ (k : Kind) (v : Bytes) (w : Value) (e : read_value k v ≡ Some w) (short : Spaced w) where

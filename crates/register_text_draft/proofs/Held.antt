@@ -1,5 +1,5 @@
 -- What the tables hold after an entry.
-use Rattle.std.specs.Prelude.{Option, Some}
+use Rattle.std.specs.Prelude.{Option, Some, None}
 use Prim.Native.Nat.{ℕ, suc, ◌+◌, ◌%◌, ◌≤◌, ◌<◌}
 use mathlib.Core.Path.{◌≡◌, sym, ap, ◌∙◌, subst}
 use mathlib.Core.Bool.{true, ◌&&◌}
@@ -26,7 +26,6 @@ use Rattle.register_form.specs.Encoding.{plain_text, value_texts, place_among}
 use Rattle.register_form.specs.Form.{joined}
 use Rattle.register_text_draft.specs.declared.Counts.{Counts}
 use Rattle.register_text_draft.specs.declared.Ends.{Ends}
-use Rattle.register_text_draft.specs.declared.PropertyFound.{PropertyFound}
 use Rattle.register_text_draft.specs.Drafting.{code_in, with_value, added}
 use Rattle.register_text_draft.specs.Sizes.{Fits, Valued, Spaced}
 use Rattle.register_text_draft.specs.Lookup.{found_in, property_found, Lists}
@@ -123,25 +122,28 @@ spaced (link i) h =
     let t = and_true (is_composed_namespace i.namespace) (is_composed_name i.article) (and_true (is_composed_namespace i.namespace && is_composed_name i.article) (is_value (spelling (link i))) h).0 in
     (namespace_short i.namespace t.0, (composed_named i.article t.1).short)
 
-module _ (s : Bytes) (t props : List ℕ) (np : ℕ) (x v : Bytes) (ps : List Property) (i : Lists s t props np ps) (q : Valued ps x v) (r : PropertyFound) (er : r ≡ property_found (found_in s t props np x)) where
+module _ (s : Bytes) (t props : List ℕ) (np : ℕ) (x v : Bytes) (ps : List Property) (i : Lists s t props np ps) (q : Valued ps x v) (r : Option (Kind × ℕ)) (er : r ≡ property_found (found_in s t props np x)) where
   -- the property is found
-  found_at : r ≡ PropertyFound.At (kind_of q.value) (place_among ps x % 65536)
+  found_at : r ≡ Some (kind_of q.value, place_among ps x % 65536)
   found_at = er ∙ ap property_found (i.found x ∙ ap (λ (o : Option Kind). o >>= λ k. Some (k, place_among ps x)) q.kind)
 
-  pub val_lost : {A : Type 0} → r ≡ PropertyFound.Nothing → A
+  pub val_lost : {A : Type 0} → r ≡ None → A
   val_lost e = absurd (let z : ◌≡◌ {A = ℕ} 0 1 = (let f = found_at in cc) in omega arith)
 
-  module _ (k : Kind) (p : ℕ) (e : r ≡ PropertyFound.At k p) (p' g : ℕ) (ep : p' ≡ p) (eg : g ≡ (p' + 1) % 256) where
+  module _ (k : Kind) (p : ℕ) (e : r ≡ Some (k, p)) (p' g : ℕ) (ep : p' ≡ p) (eg : g ≡ (p' + 1) % 256) where
+    found_is : ◌≡◌ {A = Kind × ℕ} (kind_of q.value, place_among ps x % 65536) (k, p)
+    found_is = let f = found_at in cc
+
     kind_is : kind_of q.value ≡ k
-    kind_is = let f = found_at in cc
+    kind_is = ap (λ y. y.0) found_is
 
     place_is : place_among ps x % 65536 ≡ p
-    place_is = let f = found_at in cc
+    place_is = ap (λ y. y.1) found_is
 
     group_is : g ≡ suc (place_among ps x)
     group_is =
-        let None : Property = record { name = []; kind = Kind.Page } in
-        let b = (stands ps x (kind_of q.value) None q.kind).below in
+        let none : Property = record { name = []; kind = Kind.Page } in
+        let b = (stands ps x (kind_of q.value) none q.kind).below in
         let few = i.few in
         let a : p' ≡ place_among ps x = ep ∙ sym place_is ∙ mod-eq_of_lt (omega arith) in
         let z : p' + 1 ≡ suc (place_among ps x) = omega arith in

@@ -26,7 +26,6 @@ use Rattle.register_text_verdict.specs.declared.Declared.{Declared}
 use Rattle.register_text_verdict.proofs.Ways.{kind_by}
 use Rattle.register_text_verdict.proofs.Verdict.{rows_that_lem}
 use Rattle.register_form.specs.Encoding.{place_among}
-use Rattle.register_text_draft.specs.declared.PropertyFound.{PropertyFound}
 use Rattle.register_text_draft.specs.Lookup.{found_from, found_in, property_found, Lists}
 
 -- The ways through the loop.
@@ -35,15 +34,15 @@ unfolding found_in
 found_start s t rows m x = refl
 
 module _ (s : Bytes) (t rows : List ℕ) (m : ℕ) (x : Bytes) (k : ℕ) (inv : found_in s t rows m x ≡ found_from (λ i. declared_kind x (entry_at s t i)) k (drop k (take m rows))) where
-  none_left : length (take m rows) ≤ k → PropertyFound.Nothing ≡ property_found (found_in s t rows m x)
+  none_left : length (take m rows) ≤ k → None ≡ property_found (found_in s t rows m x)
   unfolding found_from
   none_left h =
       ap property_found (sym (inv ∙ ap (found_from (λ i. declared_kind x (entry_at s t i)) k) (drop_of_length-le (take m rows) h)))
 
-  pub found_past : length rows ≤ k → PropertyFound.Nothing ≡ property_found (found_in s t rows m x)
+  pub found_past : length rows ≤ k → None ≡ property_found (found_in s t rows m x)
   found_past h = none_left (simp length-take (omega arith))
 
-  pub found_none : m ≤ k → PropertyFound.Nothing ≡ property_found (found_in s t rows m x)
+  pub found_none : m ≤ k → None ≡ property_found (found_in s t rows m x)
   found_none h = none_left (simp length-take (omega arith))
 
   module _ (below : k < m) (within : k < length rows) (n : ℕ) (e : n ≡ get_or rows k 0) (i : Item) (f : (u : Bytes) → entry_in u i ≡ entry_at u t n)
@@ -57,7 +56,7 @@ module _ (s : Bytes) (t rows : List ℕ) (m : ℕ) (x : Bytes) (k : ℕ) (inv : 
         let l : k < length (take m rows) = simp length-take (omega arith) in
         inv ∙ rw (add-one k, drop-cons (take m rows) k 0 l, get_or-take m rows k 0 below, row)
 
-    pub found_here : b && r ≡ true → (p : ℕ) → p ≡ k % 65536 → PropertyFound.At i.kind p ≡ property_found (found_in s t rows m x)
+    pub found_here : b && r ≡ true → (p : ℕ) → p ≡ k % 65536 → Some (i.kind, p) ≡ property_found (found_in s t rows m x)
     found_here h p q = let z : found_in s t rows m x ≡ Some (i.kind, k) = step ∙ rw h in rw q (ap property_found (sym z))
 
     pub found_later : b && r ≡ false → found_in s t rows m x ≡ found_from (λ j. declared_kind x (entry_at s t j)) (k + 1) (drop (k + 1) (take m rows))

@@ -47,6 +47,3 @@ module _ (s : Bytes) (i : Item) (ps : List Property) (H : Counts → Dictionary 
 
   pub entry_close : i.tag ≡ Tag.Close → Extends H H c c (λ d. added ps d (entry_in s i))
   entry_close h = no_entry (rw h)
-
-  pub entry_broken : i.tag ≡ Tag.Broken → Extends H H c c (λ d. added ps d (entry_in s i))
-  entry_broken h = no_entry (rw h)

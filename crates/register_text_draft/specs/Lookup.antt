@@ -7,7 +7,6 @@ use Rattle.language.specs.Register.{Property, kind_among}
 use Rattle.register_text_entries.specs.Table.{entry_at}
 use Rattle.register_text_verdict.specs.Rows.{declared_kind}
 use Rattle.register_form.specs.Encoding.{place_among}
-use Rattle.register_text_draft.specs.declared.PropertyFound.{PropertyFound}
 
 -- The first kind that is found in a list of rows, and its place, counted from k on.
 unfoldable pub found_from : (ℕ → Option Kind) → ℕ → List ℕ → Option (Kind × ℕ)
@@ -18,9 +17,10 @@ found_from g k (i ∷ l) = found (g i) (λ j. Some (j, k)) (found_from g (suc k)
 unfoldable pub found_in : Bytes → List ℕ → List ℕ → ℕ → Bytes → Option (Kind × ℕ)
 found_in s t rows m x = found_from (λ i. declared_kind x (entry_at s t i)) 0 (take m rows)
 
-abbrev pub property_found : Option (Kind × ℕ) → PropertyFound
-property_found None = PropertyFound.Nothing
-property_found (Some (k, p)) = PropertyFound.At k (p % 65536)
+-- The place, in two bytes.
+abbrev pub property_found : Option (Kind × ℕ) → Option (Kind × ℕ)
+property_found None = None
+property_found (Some x) = Some (x.0, x.1 % 65536)
 
 -- The rows are those of the properties ps.
 pub record Lists (s : Bytes) (t rows : List ℕ) (m : ℕ) (ps : List Property) : Type 0 where

@@ -9,9 +9,9 @@ ghost use Rattle.register_text_draft.specs.Sizes.{Valued, Spaced};
 ghost use Rattle.register_text_draft.specs.Lookup.{Lists};
 ghost use Rattle.register_text_draft.specs.Tables.{Properties, Pages, Terms, FormsPushed, Holding, Extends};
 
+use super::Counts;
 use super::lookup::property_place;
 use super::texts::{byte, push_text, push_value, value_code};
-use super::{Counts, PropertyFound};
 use tables::{narrow, next, put};
 use text::part;
 use values::{Kind, kind_code};
@@ -148,7 +148,7 @@ pub fn draft_val(
 ) -> Counts
     ensures { (ps : List Property) (kinds names identifiers : List ℕ) → Lists s.now t.now props.now np ps → Valued ps x.now v.now → Extends (Holding heap.old starts.old lens.old kinds names identifiers firsts.old groups.old codes.old) (Holding heap.new starts.new lens.new kinds names identifiers firsts.new groups.new codes.new) c result (λ d. added ps d (val x.now v.now)) }
 {
-    let PropertyFound::At(kind, place) = property_place(s, t, props, np, x) else {
+    let Some((kind, place)) = property_place(s, t, props, np, x) else {
         return c;
     };
     let group = byte(usize::from(place) + 1);

@@ -24,13 +24,6 @@ use tables::put;
 use text::part;
 use values::Kind;
 
-// A property's kind and its place among the properties, or none.
-#[derive(Clone, Copy)]
-pub enum PropertyFound {
-    At(Kind, u16),
-    Nothing,
-}
-
 // How many texts there are, and how many bytes they have.
 #[derive(Clone, Copy)]
 pub struct Ends {
@@ -93,7 +86,6 @@ fn draft_entry(
             s, t, props, np, x, y, heap, starts, lens, firsts, groups, codes, c,
         ),
         Tag::Close => c,
-        Tag::Broken => c,
     }
 }
 
@@ -124,8 +116,7 @@ pub fn draft_text(
         pages: 0,
         forms: 0,
     };
-    let mut i: usize = 0;
-    while i < n {
+    for i in 0..n {
         let item = item_at(t, i);
         c = draft_entry(
             s,
@@ -144,7 +135,6 @@ pub fn draft_text(
             codes,
             c,
         );
-        i += 1;
     }
     c
 }

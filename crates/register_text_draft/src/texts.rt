@@ -7,42 +7,20 @@ ghost use Rattle.register_form.specs.Dictionary.{PropertyRow, PageRow, labelled}
 ghost use Rattle.register_form.specs.Encoding.{identifier_text, value_texts};
 ghost use Rattle.register_text_draft.specs.Drafting.{code_in};
 ghost use Rattle.register_text_draft.specs.Sizes.{Spaced};
-ghost use Rattle.register_text_draft.specs.Tables.{Copied, Ended, Pushed};
+ghost use Rattle.register_text_draft.specs.Tables.{Ended, Pushed};
 
 use super::Ends;
+use buffer::put_bytes;
 use names::put_composed;
 use tables::{narrow, next, put};
 use text::part;
 use values::{Kind, read_scalar, split_reference};
 
-// The lowest 8 bits of a number, and a number of 16 bits as one of 32.
+// The lowest 8 bits of a number.
 pub fn byte(n: usize) -> u8
     ensures { result ≡ n % 256 }
 {
     (n % 256) as u8
-}
-
-fn middle(n: u16) -> u32
-    ensures { result ≡ n }
-{
-    n as u32
-}
-
-// Copies s to a place of b, where there is room.
-pub fn copy(b: &mut [u8], at: usize, s: &[u8])
-    ensures { Copied b.old at s.now b.new }
-{
-    if b.len() < at {
-        return;
-    }
-    if b.len() - at < s.len() {
-        return;
-    }
-    let mut i: usize = 0;
-    while i < s.len() {
-        b[at + i] = s[i];
-        i += 1;
-    }
 }
 
 // Ends a text behind m texts, from a place on: what it has of a namespace and of a name, and its length before both.
@@ -50,7 +28,7 @@ fn end_text(starts: &mut [u32], lens: &mut [u16], m: u16, at: u16, a: usize, b: 
     requires { (a < 65536) × (b < 65536) }
     ensures { Ended starts.old lens.old m at a b starts.new lens.new result }
 {
-    put(starts, usize::from(m), middle(at));
+    put(starts, usize::from(m), u32::from(at));
     put(lens, usize::from(m), narrow(1 + a + b));
     Ends {
         texts: next(m),
@@ -74,8 +52,8 @@ pub fn push_text(
     let a = usize::from(narrow(space.len()));
     let b = usize::from(narrow(name.len()));
     put(heap, first, byte(a));
-    copy(heap, first + 1, space);
-    copy(heap, first + 1 + a, name);
+    put_bytes(heap, first + 1, space);
+    put_bytes(heap, first + 1 + a, name);
     end_text(starts, lens, m, at, a, b)
 }
 
@@ -110,14 +88,11 @@ fn push_link(
     ensures { Spaced (link (identifier (composed_reference (reference v.now)))) → Pushed heap.old starts.old lens.old m at (identifier_text (identifier (composed_reference (reference v.now))) ∷ []) heap.new starts.new lens.new result }
 {
     let split = split_reference(v);
-    let n = split.namespace;
-    let a = split.article;
-    let qualified = split.qualified;
-    let name = part(v, a.start, a.len);
-    if qualified {
-        return push_names(heap, starts, lens, m, at, part(v, n.start, n.len), name);
+    let name = part(v, split.article.start, split.article.len);
+    match split.namespace {
+        Some(n) => push_names(heap, starts, lens, m, at, part(v, n.start, n.len), name),
+        None => push_names(heap, starts, lens, m, at, part(v, 0, 0), name),
     }
-    push_names(heap, starts, lens, m, at, part(v, 0, 0), name)
 }
 
 // Adds the text of the value of a kind that v writes, if it has one.
@@ -148,10 +123,7 @@ pub fn value_code(kind: Kind, v: &[u8], n: u16) -> u64
 {
     match kind {
         Kind::Page => u64::from(n),
-        Kind::Scalar(k) => match read_scalar(k, v) {
-            Some(c) => c,
-            None => 0,
-        },
+        Kind::Scalar(k) => read_scalar(k, v).unwrap_or(0),
         Kind::String => u64::from(n),
     }
 }

@@ -1,4 +1,4 @@
-use Rattle.register_text_draft.proofs.Steps.{entry_prop, entry_cat, entry_page, entry_val, entry_close, entry_broken}
+use Rattle.register_text_draft.proofs.Steps.{entry_prop, entry_cat, entry_page, entry_val, entry_close}
 use Rattle.register_text_draft.proofs.draft_entry.Goals as goal
 
 pub returns-in-Prop : goal.returns-in-Prop
@@ -15,6 +15,3 @@ returns-in-Val c = λ ps i. entry_val c.args.s.now c.args.item ps _ _ c.args.c _
 
 pub returns-in-Close : goal.returns-in-Close
 returns-in-Close c = λ ps i g. entry_close c.args.s.now c.args.item ps _ c.args.c c.in-Close.is
-
-pub returns-in-Broken : goal.returns-in-Broken
-returns-in-Broken c = λ ps i g. entry_broken c.args.s.now c.args.item ps _ c.args.c c.in-Broken.is

@@ -1,4 +1,3 @@
-use Prim.Native.Nat.{◌-◌}
 use mathlib.Core.Path.{◌≡◌}
 use lib.ListN.{take, drop}
 use Rattle.register_text_entries.specs.Table.{entry_at}
@@ -8,6 +7,3 @@ use Rattle.register_text_draft.proofs.lookup.property_place.Given as goal
 
 abbrev pub invariant-loop-k : goal.invariant-loop-k
 invariant-loop-k l = found_in l.s l.t l.rows l.m l.x ≡ found_from (λ i. declared_kind l.x (entry_at l.s l.t i)) l.k (drop l.k (take l.m l.rows))
-
-abbrev pub decreases-loop-k : goal.decreases-loop-k
-decreases-loop-k l = l.m - l.k
