@@ -1,4 +1,5 @@
 -- The ways through the register call.
+use Rattle.std.specs.Prelude.{◌⊎◌, Result, Ok, Err}
 use Prim.Native.Nat.{ℕ, ◌≤◌}
 use mathlib.Core.Path.{◌≡◌, refl, sym, ap, ◌∙◌, subst}
 use mathlib.Core.Bool.{Bool, true, false}
@@ -10,6 +11,9 @@ use Rattle.text.specs.Bytes.{Bytes, all}
 use Rattle.text.specs.Table.{tabulate}
 use Rattle.text.proofs.Tables.{length_tabulate, get_d_tabulate}
 use Rattle.language.specs.Answer.{Answer, refused, accepted, number_of, Answered, and_then}
+use Rattle.language.specs.Refusals as refusals
+use Rattle.language.specs.Refusals.{refusal_number}
+use Rattle.language.specs.declared.refusals.Refusal.{Refusal}
 use Rattle.language.specs.Register.{Register}
 use Rattle.language.specs.RegisterText.{properties, register_of, read_register}
 use Rattle.language.specs.Rules.{is_within_limits}
@@ -20,9 +24,8 @@ use Rattle.register_text_entries.specs.Composing.{Composes}
 use Rattle.register_text_verdict.specs.Checks.{ReadsRows, JudgesTyped, Prepared, Room, Judges}
 use Rattle.register_text_verdict.proofs.Judging.{rule_broken}
 use Rattle.register_text_verdict.specs.declared.Judged.{Judged}
-use Rattle.register_text_verdict.specs.declared.TypedRows.{TypedRows}
 use Rattle.register_form.specs.Dictionary.{Dictionary}
-use Rattle.register_form.specs.Form.{stored}
+use Rattle.register_form.specs.Form.{register_size, form_of, stored}
 use Rattle.register_form.specs.Draft.{Draft, drafted, write_into}
 use Rattle.register_form.specs.Tables.{Tables, tables_of, draft_in}
 use Rattle.register_text_draft.specs.Drafting.{draft_of}
@@ -33,7 +36,7 @@ use Rattle.register_form_assembly.specs.Terms.{Filling}
 use Rattle.register_form_write.specs.Writer.{Capacity, DraftWritten}
 use Rattle.call_answers.specs.Calls.{register_call}
 use Rattle.call_answers.proofs.Answers.{as_told}
-use Rattle.call_register.specs.Writing.{Writes, Registers, RegistersTyped}
+use Rattle.call_register.specs.Writing.{WritingNumber, Writes, Registers, RegistersTyped}
 use Rattle.call_register.proofs.Preparing.{ascii_prepared, composed_prepared}
 
 -- The tables of a draft have what the draft has.
@@ -66,6 +69,16 @@ zeros_roomy =
 zeros_room : Room (replicate 5500 0) (replicate 5500 0)
 zeros_room = record { properties = omega (arith, zeros_many 5500); places = omega (arith, zeros_many 5500) }
 
+-- Writing a draft answers 0, 7 or 8.
+writing_number : (R : Register) (b : Bytes) (n : ℕ) → n ≡ number_of (write_into R b) → WritingNumber n
+unfolding write_into stored placed
+writing_number R b n e = go (is_within_limits R) (ltb (length b) register_size) e
+  where
+    go : (p q : Bool) → n ≡ number_of (cond p (cond q (refused 8) (accepted (form_of R ++ drop register_size b))) (refused 7)) → WritingNumber n
+    go false q e = inr (inl e)
+    go true true e = inr (inr e)
+    go true false e = inl e
+
 -- The draft of an accepted text, written.
 module _ (c : Bytes) (t props : List ℕ) (n np : ℕ) (b : Bytes) where
   abbrev whole : Dictionary
@@ -93,8 +106,8 @@ module _ (c : Bytes) (t props : List ℕ) (n np : ℕ) (b : Bytes) where
         let e = f s a own (λ x b. get_d_tabulate forms (λ x. x) 0 x b) in
         omega (arith, terms_many (T own), ap (λ (d : Dictionary). length d.terms) e, (draft_fits s a.rows.typed (entries_in c t n) (accepted_passed s c t props n np a)).terms)
 
-    pub text_written : (uses : List ℕ) (r : ℕ) (after : Bytes) → Filling (λ x. x) (replicate 2048 0) forms uses → DraftWritten (T uses) b r after → Writes c t props n np b r after
-    text_written uses r after own w =
+    pub text_written : (uses : List ℕ) (number : ℕ) (after : Bytes) → Filling (λ x. x) (replicate 2048 0) forms uses → DraftWritten (T uses) b number after → (r : Result (Unit {0}) Refusal) → (WritingNumber number → refusals.number_of r ≡ number) → Writes c t props n np b r after
+    text_written uses number after own w r same =
         record {
           is = λ s a.
               let few = forms_few s a in
@@ -103,46 +116,56 @@ module _ (c : Bytes) (t props : List ℕ) (n np : ℕ) (b : Bytes) where
               let room : Capacity (T uses) = record { texts = omega (arith, texts_many (T uses), ap (λ (d : Dictionary). length d.texts) e, fits.texts); terms = omega arith } in
               let told : drafted (draft_in (T uses)) ≡ register_of (entries_in c t n) = ap drafted e ∙ accepted_describes s c t props n np a in
               let answer = w.is (subst Draft (sym e) (accepted_kept s c t props n np a)) room in
-              as_told (call_is s a ∙ ap (λ (R : Register). write_into R b) (sym told)) answer;
+              let known = as_told (call_is s a ∙ ap (λ (R : Register). write_into R b) (sym told)) answer in
+              record { number = same (writing_number _ b number answer.number) ∙ known.number; bytes = known.bytes };
         }
 
-number_refused : (s b : Bytes) (number : ℕ) → number ≡ number_of (read_register s) → (number ≡ 0 → ⊥) → Answered (register_call s b) b number b
-unfolding register_call
-number_refused s b number e f = go (read_register s) e
-  where
-    go : (a : Answer Register) → number ≡ number_of a → Answered (and_then a (λ R. stored R b)) b number b
-    go (refused n) e = record { number = e; bytes = refl }
-    go (accepted R) e = absurd (f e)
+refusal_some : (e : Refusal) → refusal_number e ≡ 0 → ⊥
+refusal_some e h = ?
 
--- Prepared rows are judged, and refused by a number or written.
-module _ (c : Bytes) (t : List ℕ) (n : ℕ) (props pages : List ℕ) (j : Judged)
+refused_is : (s b : Bytes) (e : Refusal) → refusal_number e ≡ number_of (read_register s) → Answered (register_call s b) b (refusal_number e) b
+unfolding register_call
+refused_is s b r e = go (read_register s) e
+  where
+    go : (a : Answer Register) → refusal_number r ≡ number_of a → Answered (and_then a (λ R. stored R b)) b (refusal_number r) b
+    go (refused n) e = record { number = e; bytes = refl }
+    go (accepted R) e = absurd (refusal_some r e)
+
+-- Prepared rows are judged, and refused or written.
+module _ (c : Bytes) (t : List ℕ) (n : ℕ) (props pages : List ℕ) (j : Result Judged Refusal)
     (judges : Room (replicate 5500 0) (replicate 5500 0) → (s : Bytes) → Prepared s c t n → Judges s t n props pages j) (b : Bytes)
   where
-    pub rows_refused : (j.number ≡ 0 → ⊥) → Registers c t n b j.number b
-    rows_refused f = record { is = λ s p. number_refused s b j.number (judges zeros_room s p).number f }
+    pub rows_refused : (e : Refusal) → j ≡ Err e → Registers c t n b (Err e) b
+    rows_refused e h = record { is = λ s p. refused_is s b e (rw h at (judges zeros_room s p).number) }
 
-    pub rows_written : (r : ℕ) (after : Bytes) → j.number ≡ 0 → Writes c t props n j.props b r after → Registers c t n b r after
-    rows_written r after e w = record { is = λ s p. w.is s (judged_accepted s c t n props pages j p (judges zeros_room s p) e) }
+    pub rows_written : (q : Judged) (r : Result (Unit {0}) Refusal) (after : Bytes) → j ≡ Ok q → Writes c t props n q.props b r after → Registers c t n b r after
+    rows_written q r after e w = record { is = λ s p. w.is s (judged_accepted s c t n props pages j q p (judges zeros_room s p) e) }
 
 -- A text of ASCII: 1 to 3, or its names are composed as they are.
-module _ (s : Bytes) (t : List ℕ) (r : TypedRows) (judges : 27500 ≤ length (replicate {A = ℕ} 27500 0) → JudgesTyped s t r) (b : Bytes) where
-  pub typed_refused : (r.number ≡ 0 → ⊥) → Answered (register_call s b) b r.number b
-  typed_refused f = number_refused s b r.number ((judges (omega (arith, zeros_many 27500))).refused f) f
+module _ (s : Bytes) (t : List ℕ) (r : Result ℕ Refusal) (judges : 27500 ≤ length (replicate {A = ℕ} 27500 0) → JudgesTyped s t r) (b : Bytes) where
+  typed : JudgesTyped s t r
+  typed = judges (omega (arith, zeros_many 27500))
 
-  pub ascii_registered : r.number ≡ 0 → (q : ℕ) (after : Bytes) (p : Bool) → p ≡ all (λ b. ltb b 128) s → p ≡ true → Registers s t r.rows b q after → Answered (register_call s b) b q after
-  ascii_registered e q after p f h w = w.is s (ascii_prepared s t r.rows ((judges (omega (arith, zeros_many 27500))).typed e) (sym f ∙ h))
+  pub typed_refused : (e : Refusal) → r ≡ Err e → Answered (register_call s b) b (refusal_number e) b
+  typed_refused e h = refused_is s b e (rw h at typed)
+
+  pub ascii_registered : (n : ℕ) → r ≡ Ok n → (q : Result (Unit {0}) Refusal) (after : Bytes) (p : Bool) → p ≡ all (λ b. ltb b 128) s → p ≡ true → Registers s t n b q after → Answered (register_call s b) b (refusals.number_of q) after
+  ascii_registered n e q after p f h w = w.is s (ascii_prepared s t n (rw e at typed) (sym f ∙ h))
 
 -- Any other: 1 or 2, or its names are composed, and 3 where they break a rule.
-module _ (s : Bytes) (t : List ℕ) (r : TypedRows) (reads : 27500 ≤ length (replicate {A = ℕ} 27500 0) → ReadsRows s t r) (b : Bytes) where
-  pub read_refused : (r.number ≡ 0 → ⊥) → Answered (register_call s b) b r.number b
-  read_refused f = number_refused s b r.number ((reads (omega (arith, zeros_many 27500))).refused f) f
+module _ (s : Bytes) (t : List ℕ) (r : Result ℕ Refusal) (reads : 27500 ≤ length (replicate {A = ℕ} 27500 0) → ReadsRows s t r) (b : Bytes) where
+  rows : ReadsRows s t r
+  rows = reads (omega (arith, zeros_many 27500))
 
-  pub read_registered : r.number ≡ 0 → (q : ℕ) (after : Bytes) → RegistersTyped s t r.rows b q after → Answered (register_call s b) b q after
-  read_registered e q after w = w.is ((reads (omega (arith, zeros_many 27500))).read e)
+  pub read_refused : (e : Refusal) → r ≡ Err e → Answered (register_call s b) b (refusal_number e) b
+  read_refused e h = refused_is s b e (rw h at rows)
+
+  pub read_registered : (n : ℕ) → r ≡ Ok n → (q : Result (Unit {0}) Refusal) (after : Bytes) → RegistersTyped s t n b q after → Answered (register_call s b) b (refusals.number_of q) after
+  read_registered n e q after w = w.is (rw e at rows)
 
 module _ (s : Bytes) (t : List ℕ) (n : ℕ) (c : Bytes) (u : List ℕ) (b : Bytes) (p : Bool) (k : Composes s t n (replicate 32768 0) (replicate 27500 0) c u p) where
-  pub composed_refused : p ≡ true → RegistersTyped s t n b 3 b
-  composed_refused h = record { is = λ y. number_refused s b 3 (rule_broken s t n y (sym k.broken ∙ h)) (λ z. omega arith) }
+  pub composed_refused : p ≡ true → RegistersTyped s t n b (Err Refusal.RuleBroken) b
+  composed_refused h = record { is = λ y. refused_is s b Refusal.RuleBroken (rule_broken s t n y (sym k.broken ∙ h)) }
 
-  pub composed_registered : p ≡ false → (q : ℕ) (after : Bytes) → Registers c u n b q after → RegistersTyped s t n b q after
+  pub composed_registered : p ≡ false → (q : Result (Unit {0}) Refusal) (after : Bytes) → Registers c u n b q after → RegistersTyped s t n b q after
   composed_registered h q after w = record { is = λ y. w.is s (composed_prepared s t n c u p y k h) }

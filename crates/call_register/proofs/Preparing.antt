@@ -47,7 +47,6 @@ entry_fixed Tag.Page k a b e f = rw (e, f)
 entry_fixed Tag.Cat k a b e f = rw e
 entry_fixed Tag.Val k a b e f = rw e
 entry_fixed Tag.Close k a b e f = refl
-entry_fixed Tag.Broken k a b e f = refl
 
 row_fixed : (s : Bytes) (t : List ℕ) (i : ℕ) → is_ascii s ≡ true → composed_entry (entry_at s t i) ≡ entry_at s t i
 unfolding entry_at entry_from

@@ -4,9 +4,11 @@
 ghost use Rattle.std.specs.Prelude.{◌≡◌, ltb};
 ghost use Rattle.text.specs.Bytes.{all};
 ghost use Rattle.language.specs.Answer.{Answered};
+ghost use Rattle.language.specs.Refusals.{number_of};
 ghost use Rattle.call_answers.specs.Calls.{register_call};
-ghost use Rattle.call_register.specs.Writing.{Writes, Registers, RegistersTyped};
+ghost use Rattle.call_register.specs.Writing.{WritingNumber, Writes, Registers, RegistersTyped};
 
+use language::Refusal;
 use register_form::layout;
 use register_form_assembly::terms::put_own;
 use register_form_write::write_draft;
@@ -14,8 +16,26 @@ use register_text_draft::draft_text;
 use register_text_entries::composing::compose;
 use register_text_verdict::{judge, judge_typed, read_rows};
 
-// Writes the register of accepted rows: 0, or 8 where the buffer is too short.
-fn write_text(text: &[u8], t: &[u16], n: usize, props: &[u16], np: usize, held: &mut [u8]) -> usize
+// What the number of writing a draft says.
+fn refused(number: usize) -> Result<(), Refusal>
+    ensures { WritingNumber number → number_of result ≡ number }
+{
+    match number {
+        0 => Ok(()),
+        7 => Err(Refusal::OverLimit),
+        _ => Err(Refusal::RegisterTooShort),
+    }
+}
+
+// Writes the register of accepted rows: refusal 8 where the buffer is too short.
+fn write_text(
+    text: &[u8],
+    t: &[u16],
+    n: usize,
+    props: &[u16],
+    np: usize,
+    held: &mut [u8],
+) -> Result<(), Refusal>
     ensures { Writes text.now t.now props.now n np held.old result held.new }
 {
     let mut heap = [0u8; layout::TEXT_BYTE_ROOM];
@@ -45,7 +65,7 @@ fn write_text(text: &[u8], t: &[u16], n: usize, props: &[u16], np: usize, held: 
         &mut codes,
     );
     put_own(&mut uses, c.forms); // each form is a term of its own
-    write_draft(
+    let number = write_draft(
         &heap,
         &starts,
         &lens,
@@ -61,30 +81,28 @@ fn write_text(text: &[u8], t: &[u16], n: usize, props: &[u16], np: usize, held: 
         &codes,
         c.forms,
         held,
-    )
+    );
+    refused(number)
 }
 
-// Judges the first n rows, over the text c, whose names are composed, and writes their register: 0, or the lowest of 4 to 8.
-fn register_rows(c: &[u8], t: &[u16], n: usize, held: &mut [u8]) -> usize
+// Judges the first n rows, over the text c, whose names are composed, and writes their register: the lowest refusal of 4 to 8.
+fn register_rows(c: &[u8], t: &[u16], n: usize, held: &mut [u8]) -> Result<(), Refusal>
     ensures { Registers c.now t.now n held.old result held.new }
 {
     let mut props = [0u16; 5500];
     let mut pages = [0u16; 5500];
-    let judged = judge(c, t, n, &mut props, &mut pages);
-    if judged.number != 0 {
-        return judged.number;
-    }
+    let judged = judge(c, t, n, &mut props, &mut pages)?;
     write_text(c, t, n, &props, judged.props, held)
 }
 
-// The same of rows as typed, whose names are judged and composed first: 0, or the lowest of 3 to 8.
-fn register_typed(text: &[u8], t: &[u16], n: usize, held: &mut [u8]) -> usize
+// The same of rows as typed, whose names are judged and composed first: the lowest refusal of 3 to 8.
+fn register_typed(text: &[u8], t: &[u16], n: usize, held: &mut [u8]) -> Result<(), Refusal>
     ensures { RegistersTyped text.now t.now n held.old result held.new }
 {
     let mut copy = [0u8; 32768];
     let mut rows = [0u16; 27500];
     if compose(text, t, n, &mut copy, &mut rows) {
-        return 3;
+        return Err(Refusal::RuleBroken);
     }
     register_rows(&copy, &rows, n, held)
 }
@@ -95,29 +113,21 @@ fn is_ascii(s: &[u8]) -> bool
     ensures { result ≡ all (λ b. ltb b 128) s.now }
 {
     let mut ascii = true;
-    let mut i: usize = 0;
-    while i < s.len() {
-        ascii = ascii & (s[i] < 128);
-        i += 1;
+    for &b in s {
+        ascii = ascii & (b < 128);
     }
     ascii
 }
 
-// The register call: writes the held register of a text, or answers the number that refuses it.
-pub fn register(text: &[u8], held: &mut [u8]) -> usize
-    ensures { Answered (register_call text.now held.old) held.old result held.new }
+// The register call: writes the held register of a text, or answers what refuses it.
+pub fn register(text: &[u8], held: &mut [u8]) -> Result<(), Refusal>
+    ensures { Answered (register_call text.now held.old) held.old (number_of result) held.new }
 {
     let mut t = [0u16; 27500];
     if is_ascii(text) {
-        let typed = judge_typed(text, &mut t);
-        if typed.number != 0 {
-            return typed.number;
-        }
-        return register_rows(text, &t, typed.rows, held);
+        let n = judge_typed(text, &mut t)?;
+        return register_rows(text, &t, n, held);
     }
-    let read = read_rows(text, &mut t);
-    if read.number != 0 {
-        return read.number;
-    }
-    register_typed(text, &t, read.rows, held)
+    let n = read_rows(text, &mut t)?;
+    register_typed(text, &t, n, held)
 }
