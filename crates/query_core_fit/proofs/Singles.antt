@@ -75,13 +75,13 @@ module _ (s : Bytes) (node : TreeNode) (h : Bytes) (p : Place) where
     unfolding Emits post
     leaf_namespace x e a = rw e (Core.select (Core.namespace (part_of s x)), refl, a)
 
-    pub leaf_bare : (c : SurfaceComparator) (n x : Span) → node ≡ TreeNode.Bare c x → Adds (post (elaborate_reference c (split_of s (record { qualified = false; namespace = n; article = x })))) h p h' p' → LeafAt (node_by s node) h p (Some p') h'
+    pub leaf_bare : (c : SurfaceComparator) (x : Span) → node ≡ TreeNode.Bare c x → Adds (post (elaborate_reference c (split_of s (record { namespace = None; article = x })))) h p h' p' → LeafAt (node_by s node) h p (Some p') h'
     unfolding Emits
-    leaf_bare c n x e a = rw e (elaborate_reference c (split_of s (record { qualified = false; namespace = n; article = x })), refl, a)
+    leaf_bare c x e a = rw e (elaborate_reference c (split_of s (record { namespace = None; article = x })), refl, a)
 
-    pub leaf_qualified : (c : SurfaceComparator) (n x : Span) → node ≡ TreeNode.Qualified c n x → Adds (post (elaborate_reference c (split_of s (record { qualified = true; namespace = n; article = x })))) h p h' p' → LeafAt (node_by s node) h p (Some p') h'
+    pub leaf_qualified : (c : SurfaceComparator) (n x : Span) → node ≡ TreeNode.Qualified c n x → Adds (post (elaborate_reference c (split_of s (record { namespace = Some n; article = x })))) h p h' p' → LeafAt (node_by s node) h p (Some p') h'
     unfolding Emits
-    leaf_qualified c n x e a = rw e (elaborate_reference c (split_of s (record { qualified = true; namespace = n; article = x })), refl, a)
+    leaf_qualified c n x e a = rw e (elaborate_reference c (split_of s (record { namespace = Some n; article = x })), refl, a)
 
     pub in_existence : (x : Span) (k : Option Kind) → node ≡ TreeNode.Existence → Adds (selector_by s (Selector.Existence x) ∷ []) h p h' p' → LeafIn (part_of s x) k (node_by s node) h p (Some p') h'
     unfolding Emits post

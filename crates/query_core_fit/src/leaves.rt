@@ -73,22 +73,19 @@ fn put_piece(
 pub fn put_leaf(s: &[u8], held: &mut [u8], at: Place, node: TreeNode) -> Option<Place>
     ensures { LeafAt (node_by s.now node) held.old at result held.new }
 {
-    let none = Span { start: 0, len: 0 };
     match node {
         TreeNode::Category(x) => Some(put_select(s, s, held, at, Selector::Category(x))),
         TreeNode::Namespace(n) => Some(put_select(s, s, held, at, Selector::Namespace(n))),
         TreeNode::Bare(c, article) => {
             let split = Split {
-                qualified: false,
-                namespace: none,
+                namespace: None,
                 article,
             };
             Some(put_reference(s, held, at, c, split))
         }
         TreeNode::Qualified(c, namespace, article) => {
             let split = Split {
-                qualified: true,
-                namespace,
+                namespace: Some(namespace),
                 article,
             };
             Some(put_reference(s, held, at, c, split))
