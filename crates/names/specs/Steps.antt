@@ -4,7 +4,7 @@ use Rattle.text.specs.Bytes.{Bytes}
 use Rattle.text.specs.Table.{tabulate}
 use Rattle.names.specs.Table.{Entry, table, composition}
 use Rattle.buffer.specs.Writing.{written}
-use Rattle.names.specs.Codes.{within, is_mark, is_plain, is_pair, pair_code, encode}
+use Rattle.names.specs.Codes.{within, is_mark, is_plain, is_pair, pair_code}
 use Rattle.names.specs.Names.{composed, composed_name, is_form, is_name, is_namespace}
 use Rattle.names.specs.declared.Letter.{Letter}
 

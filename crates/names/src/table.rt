@@ -32,19 +32,41 @@ impl Table {
         }
     }
 
-    // The letter that a letter and a mark compose to, 0 where the table has none: one look at one entry.
+    // The letter that a letter and a mark compose to, 0 where the table has none.
     pub fn composed_letter(&self, letter: u16, mark: u16) -> u16
         ensures { result ≡ composed_letter letter mark }
     {
-        let i = usize::from(get_or(
+        composed_letter(
             &self.places,
-            (233 * usize::from(letter) + usize::from(mark)) % 644,
-            0,
-        ));
-        if (get_or(&self.letters, i, 0) == letter) & (get_or(&self.marks, i, 0) == mark) {
-            get_or(&self.composed, i, 0)
-        } else {
-            0
-        }
+            &self.letters,
+            &self.marks,
+            &self.composed,
+            letter,
+            mark,
+        )
+    }
+}
+
+// The same by any four tables, which tell it where they are those of the table: one look at one entry. It takes what it took before
+// there was a `Table`, since docs/CLAIMS.md names it.
+pub fn composed_letter(
+    places: &[u8],
+    letters: &[u16],
+    marks: &[u16],
+    codes: &[u16],
+    letter: u16,
+    mark: u16,
+) -> u16
+    ensures { IsTable places.now letters.now marks.now codes.now → result ≡ composed_letter letter mark }
+{
+    let i = usize::from(get_or(
+        places,
+        (233 * usize::from(letter) + usize::from(mark)) % 644,
+        0,
+    ));
+    if (get_or(letters, i, 0) == letter) & (get_or(marks, i, 0) == mark) {
+        get_or(codes, i, 0)
+    } else {
+        0
     }
 }

@@ -8,7 +8,6 @@ ghost use Rattle.register_text_entries.specs.Composing.{has_first, has_second, h
 use super::table::{item_at, put_item};
 use super::{Item, Tag};
 use buffer::put_bytes;
-use names::putting::put_name;
 use names::table::Table;
 use tables::narrow;
 use text::{Class, Span, all_in, part};
@@ -88,7 +87,7 @@ fn put_second(table: &Table, copy: &mut [u8], at: u16, tag: Tag, b: &[u8]) -> us
     ensures { SecondPut tag b.now copy.old at copy.new result }
 {
     if is_named(tag) {
-        put_name(table, copy, at, b)
+        table.put_name(copy, at, b)
     } else {
         put_bytes(copy, usize::from(at), b);
         b.len()
@@ -106,7 +105,7 @@ fn copy_entry(table: &Table, s: &[u8], item: Item, copy: &mut [u8], at: u16) -> 
     let a = part(s, first.start, first.len);
     let b = part(s, second.start, second.len);
     let start = usize::from(at);
-    let first_size = put_name(table, copy, at, a);
+    let first_size = table.put_name(copy, at, a);
     let n = usize::from(narrow(first_size));
     let end = start + n;
     put_gap(copy, end, tag);

@@ -1,5 +1,5 @@
 use Rattle.names.proofs.NamePutting.{put_unshaped, put_whole, put_form}
-use Rattle.names.proofs.putting.put_name.Goals as goal
+use Rattle.names.proofs.table.Table.put_name.Goals as goal
 
 -- src/putting.rt:24:9
 pub returns-then-not-has_name_shape : goal.returns-then-not-has_name_shape
