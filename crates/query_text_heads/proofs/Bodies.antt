@@ -1,11 +1,12 @@
 -- Laws of heads, pieces and brackets without `::`, and the ways through their functions.
 use Rattle.std.specs.Prelude.{Option, Some, None}
+use Rattle.std.specs.Option.{is_some}
 use Prim.Native.Nat.{ℕ, ◌+◌, ◌-◌, ◌≤◌, ◌<◌, max}
-use mathlib.Core.Path.{◌≡◌, refl, sym, ◌∙◌}
-use mathlib.Core.Bool.{Bool, true, false, cond, not, ◌&&◌, ◌||◌, or-false}
+use mathlib.Core.Path.{◌≡◌, refl, sym, ap, ◌∙◌}
+use mathlib.Core.Bool.{Bool, true, false, cond, not, ◌&&◌, ◌||◌, or-false, false≢true}
 use mathlib.Core.List.{List, [], ◌∷◌, ◌++◌, append_assoc, append-nil}
 use native.Mathlib.Omega.{arith}
-use lib.Dec.{ltb, leb, eqb}
+use lib.Dec.{ltb, leb}
 use lib.ListN.{length}
 use borrow.Author.Tests.{lt-ltb, le-ltb, leb-true, leb-false}
 use Rattle.text.specs.Bytes.{Bytes, bytes, any, same, after, span, part}
@@ -13,22 +14,19 @@ use Rattle.text.specs.Class.{is_other}
 use Rattle.text.specs.Parts.{part_of, Trimmed}
 use Rattle.text.specs.declared.Span.{Span}
 use Rattle.names.specs.Names.{is_name, is_property_name}
-use Rattle.values.specs.Names.{Reference, bare, qualified, is_value, reference}
-use Rattle.values.specs.Answers.{split_of}
+use Rattle.values.specs.Names.{bare, is_value, reference}
+use Rattle.values.specs.Answers.{reference_at, split_of}
 use Rattle.values.specs.declared.Split.{Split}
 use Rattle.language.specs.Answer.{◌>>=◌, found, only_if}
 use Rattle.language.specs.Comparators.{is_equal}
 use Rattle.language.specs.Surface.{Chain, single, chain, Categories, Identifiers, Alternatives}
 use Rattle.language.specs.RawQuery.{Piece, RawQuery, RawAlternatives, piece_at, read_pieces, bracket_of, plain_body}
-use Rattle.language.specs.QueryText.{names_in, depth, depth_in, longest, longest_in, breaks, breaks_in, breaks_value, breaks_value_in, breaks_names, breaks_category, breaks_reference, is_plus_of, is_category, is_namespace_piece, namespace_of, article_of, is_existence, categories_from, identifiers_from, identifier_of, surface, surface_in}
-use Rattle.language.specs.declared.SurfaceComparator.{SurfaceComparator}
+use Rattle.language.specs.QueryText.{names_in, depth, depth_in, longest, longest_in, breaks, breaks_in, breaks_value, breaks_value_in, breaks_names, breaks_category, breaks_reference, is_category, is_namespace_piece, namespace_of, article_of, is_existence, categories_from, identifiers_from, identifier_of, surface, surface_in}
 use Rattle.language.proofs.Options.{OnSome}
 use Rattle.language.proofs.Shorter.{after_leaves}
 use Rattle.language.proofs.Leaving.{piece_leaves}
 use Rattle.language.proofs.Readers.{pieces_eq}
-use Rattle.query_text_pieces.specs.Places.{from, rest_of, head_of, piece_of, tells_piece, category_told, read_told}
-use Rattle.query_text_pieces.specs.declared.Found.{Found}
-use Rattle.query_text_pieces.specs.declared.First.{First}
+use Rattle.query_text_pieces.specs.Places.{from, rest_of, head_of, piece_of, category_told, read_told}
 use Rattle.query_text_pieces.specs.declared.Placed.{Placed}
 use Rattle.query_text_pieces.specs.declared.Read.{Read}
 use Rattle.query_text_pieces.proofs.Laws.{head_last, head_dot}
@@ -36,9 +34,8 @@ use Rattle.query_tree.specs.Nodes.{Node, tree, tree_in, tree_categories, tree_id
 use Rattle.query_tree.specs.Reading.{node_by}
 use Rattle.query_tree.specs.declared.TreeNode.{TreeNode}
 use Rattle.query_text_heads.specs.Effects.{Effect, noded, one, met, ◌then◌, flagged, After, ReadsPart}
-use Rattle.query_text_heads.specs.Trees.{deeper, effect, effect_in, chain_nodes, chain_effect, value_node, node_of_piece, piece_effect, rest_effect, tail_pieces, number_of_read}
+use Rattle.query_text_heads.specs.Trees.{deeper, effect, effect_in, chain_nodes, chain_effect, value_node, node_of_piece, piece_effect, rest_effect, tail_pieces}
 use Rattle.query_text_heads.specs.declared.Seen.{Seen}
-use Rattle.query_text_heads.specs.declared.Outcome.{Outcome}
 use Rattle.query_text_heads.proofs.Following.{after_then, after_met, nothing_met, after_noded}
 use Rattle.query_text_heads.proofs.Readings.{same_effect, or_comm, same_test, one_deeper, reads_map}
 
@@ -70,91 +67,54 @@ module _ (s h : Bytes) (at len dot names : ℕ) (t : Bytes) (n r : Seen) (x : Sp
       rw (head_dot s h at len dot p q l, chain_more, ← d, ← z.is, ← e, ← f) (rw (← e) at (after_then t t' t'' n n' r _ _ a c))
 
 -- A property piece.
-value_node_lem : (s : Bytes) (b : Bool) (c : SurfaceComparator) (text : Span) → node_by s (value_node b c text) ∷ [] ≡ tree_in (cond b Alternatives.existence (Alternatives.value c (part_of s text)))
+value_node_lem : (s : Bytes) (b : Bool) (p : Placed) → node_by s (value_node b p) ∷ [] ≡ tree_in (cond b Alternatives.existence (Alternatives.value p.comparator (part_of s p.text)))
 unfolding value_node tree_in
-value_node_lem s true c text = refl
-value_node_lem s false c text = refl
+value_node_lem s true p = refl
+value_node_lem s false p = refl
 
-pub value_is : (s : Bytes) (c : SurfaceComparator) (text : Span) (d : ℕ) (t t' : Bytes) (n n' r : Seen) (b v : Bool) (y : Bytes) (x : TreeNode) → b ≡ is_existence (piece_of s c text) → x ≡ value_node b c text → After t n (one (node_by s x)) t' n' → y ≡ part_of s text → v ≡ is_value y → r ≡ flagged n' (ltb 8 d) false (not v)
-    → After t n (effect_in d (RawAlternatives.piece (piece_of s c text))) t' r
+pub value_is : (s : Bytes) (p : Placed) (d : ℕ) (t t' : Bytes) (n n' r : Seen) (b v : Bool) (y : Bytes) (x : TreeNode) → b ≡ is_existence (piece_of s p) → x ≡ value_node b p → After t n (one (node_by s x)) t' n' → y ≡ part_of s p.text → v ≡ is_value y → r ≡ flagged n' (ltb 8 d) false (not v)
+    → After t n (effect_in d (RawAlternatives.piece (piece_of s p))) t' r
 unfolding effect_in surface_in depth_in longest_in breaks_in breaks_value_in noded
-value_is s c text d t t' n n' r b v y x e f a g h k =
+value_is s p d t t' n n' r b v y x e f a g h k =
     rw same_as (after_noded t t' n n' r (node_by s x) (ltb 8 d) false (not v) a k)
   where
-    same_as : effect_in d (RawAlternatives.piece (piece_of s c text)) ≡ noded (node_by s x) (ltb 8 d) false (not v)
+    same_as : effect_in d (RawAlternatives.piece (piece_of s p)) ≡ noded (node_by s x) (ltb 8 d) false (not v)
     same_as =
-        same_effect (rw (← e, f) (sym (value_node_lem s b c text)))
+        same_effect (rw (← e, f) (sym (value_node_lem s b p)))
         (same_test 8 (max (d + 0) 0) 8 d (λ h. omega arith) (λ h. omega arith)) refl (rw (h, g))
 
 -- The node of a piece that is `namespace:+` or a reference, by how its reference is split.
-module _ (s : Bytes) (c : SurfaceComparator) (text : Span) (p : Split) (e : split_of s p ≡ reference (part_of s text)) (b m : Bool) (y : Bytes) (f : b ≡ is_equal c) (k : y ≡ part_of s p.article) (g : m ≡ same y (bytes "+")) where
-  node_split : cond (b && p.qualified && m) (Node.namespace (part_of s p.namespace)) (Node.reference c (split_of s p)) ≡ node_of_piece (piece_of s c text)
+module _ (s : Bytes) (p : Placed) (r : Split) (e : split_of s r ≡ reference (part_of s p.text)) where
+  split_as : (o : Option Span) → r.namespace ≡ o → reference (part_of s p.text) ≡ reference_at s o r.article
+  split_as o q = sym e ∙ ap (λ (o : Option Span). reference_at s o r.article) q
+
+  pub node_bare : r.namespace ≡ None → node_by s (TreeNode.Bare p.comparator r.article) ≡ node_of_piece (piece_of s p)
   unfolding node_of_piece
-  node_split = rw (← e, ← f) (go b p.qualified)
+  node_bare q = rw (split_as None q) (go (is_equal p.comparator))
     where
-      side : Bool → Reference
-      side q = cond q (qualified (part_of s p.namespace) (part_of s p.article)) (bare (part_of s p.article))
+      go : (b : Bool) → Node.reference p.comparator (bare (part_of s r.article)) ≡ cond (b && false) (Node.namespace []) (Node.reference p.comparator (bare (part_of s r.article)))
+      go true = refl
+      go false = refl
 
-      go : (b q : Bool) → cond (b && q && m) (Node.namespace (part_of s p.namespace)) (Node.reference c (side q)) ≡ cond (b && is_plus_of (side q)) (Node.namespace (namespace_of (side q))) (Node.reference c (side q))
-      go true true = rw (← k, ← g)
-      go true false = refl
-      go false true = refl
-      go false false = refl
+  module _ (n : Span) (q : r.namespace ≡ Some n) (b m : Bool) (f : b ≡ is_equal p.comparator) (y : Bytes) (k : y ≡ part_of s r.article) (g : m ≡ same y (bytes "+")) where
+    pub node_namespace : (b && m) ≡ true → node_by s (TreeNode.Namespace n) ≡ node_of_piece (piece_of s p)
+    unfolding node_of_piece
+    node_namespace h = rw (split_as (Some n) q, ← f, ← k, ← g, h) refl
 
-  pub node_namespace : (b && p.qualified && m) ≡ true → node_by s (TreeNode.Namespace p.namespace) ≡ node_of_piece (piece_of s c text)
-  node_namespace h = rw h at node_split
+    pub node_qualified : (b && m) ≡ false → node_by s (TreeNode.Qualified p.comparator n r.article) ≡ node_of_piece (piece_of s p)
+    unfolding node_of_piece
+    node_qualified h = rw (split_as (Some n) q, ← f, ← k, ← g, h) refl
 
-  pub node_qualified : (b && p.qualified && m) ≡ false → p.qualified ≡ true → node_by s (TreeNode.Qualified c p.namespace p.article) ≡ node_of_piece (piece_of s c text)
-  node_qualified h q = rw (h, q) at node_split
-
-  pub node_bare : (b && p.qualified && m) ≡ false → p.qualified ≡ false → node_by s (TreeNode.Bare c p.article) ≡ node_of_piece (piece_of s c text)
-  node_bare h q = rw (h, q) at node_split
-
--- Whether it breaks a rule.
-module _ (s : Bytes) (i : Identifiers) (b : Bool) (p : Read) (h : read_told s p ≡ only_if (not b) (Some i)) where
-  pub unbroken_namespace : (x : Span) → p ≡ Read.Namespace x → false ≡ b
-  unfolding read_told
-  unbroken_namespace x e = go b (rw e at h)
-    where
-      go : (b : Bool) → Some (Identifiers.namespace (part_of s x)) ≡ only_if (not b) (Some i) → false ≡ b
-      go true h = cc
-      go false h = refl
-
-  pub unbroken_reference : (c : SurfaceComparator) (x : Span) → p ≡ Read.Reference c x → false ≡ b
-  unfolding read_told
-  unbroken_reference c x e = go b (rw e at h)
-    where
-      go : (b : Bool) → Some (Identifiers.reference c (reference (part_of s x))) ≡ only_if (not b) (Some i) → false ≡ b
-      go true h = cc
-      go false h = refl
-
-  pub broken_piece : p ≡ Read.Broken → true ≡ b
-  unfolding read_told
-  broken_piece e = go b (rw e at h)
-    where
-      go : (b : Bool) → None ≡ only_if (not b) (Some i) → true ≡ b
-      go true h = refl
-      go false h = cc
-
--- by its number
-pub broken_number : (s : Bytes) (i : Identifiers) (b : Bool) (p : Read) (n : ℕ) → read_told s p ≡ only_if (not b) (Some i) → n ≡ number_of_read p → not (eqb n 0) ≡ b
-broken_number s i b (Read.Namespace x) n h e = rw e (unbroken_namespace s i b (Read.Namespace x) h x refl)
-broken_number s i b (Read.Reference c x) n h e = rw e (unbroken_reference s i b (Read.Reference c x) h c x refl)
-broken_number s i b Read.Broken n h e = rw e (broken_piece s i b Read.Broken h refl)
-
--- The number of a piece that is neither.
-pub number_left : (p : Read) → ((x : Span) → p ≡ Read.Namespace x → ⊥) → ((c : SurfaceComparator) (x : Span) → p ≡ Read.Reference c x → ⊥) → 15 ≡ number_of_read p
-number_left (Read.Namespace x) h k = absurd (h x refl)
-number_left (Read.Reference c x) h k = absurd (k c x refl)
-number_left Read.Broken h k = refl
-
-pub number_namespace : (p : Read) (x : Span) → p ≡ Read.Namespace x → 0 ≡ number_of_read p
-number_namespace p x e = rw e
-
-pub number_reference : (p : Read) (c : SurfaceComparator) (x : Span) → p ≡ Read.Reference c x → 0 ≡ number_of_read p
-number_reference p c x e = rw e
-
-pub ruleset numbers = (broken_number, number_namespace, number_reference)
+-- Whether it breaks a rule: it reads as neither.
+pub broken_is : (s : Bytes) (i : Identifiers) (b r : Bool) (p : Option Read) → read_told s p ≡ only_if (not b) (Some i) → is_some p ≡ not r → r ≡ b
+unfolding read_told
+broken_is s i true true p h e = refl
+broken_is s i false false p h e = refl
+broken_is s i true false None h e = absurd (false≢true e)
+broken_is s i true false (Some (Read.Namespace x)) h e = cc
+broken_is s i true false (Some (Read.Reference c x)) h e = cc
+broken_is s i false true None h e = cc
+broken_is s i false true (Some x) h e = absurd (false≢true (sym e))
 
 -- A piece outside property bodies has one node.
 one_node : (p : Piece) → tree_identifiers (identifier_of p) ≡ node_of_piece p ∷ []
@@ -165,20 +125,20 @@ one_node p = go (is_namespace_piece p)
     go true = refl
     go false = refl
 
-pub identifier_is : (s : Bytes) (c : SurfaceComparator) (text : Span) (t t' : Bytes) (n n' r : Seen) (x : TreeNode) (b : Bool) → node_by s x ≡ node_of_piece (piece_of s c text) → After t n (one (node_by s x)) t' n' → b ≡ breaks_reference (piece_of s c text) → r ≡ flagged n' false b false → After t n (piece_effect false (piece_of s c text)) t' r
+pub identifier_is : (s : Bytes) (p : Placed) (t t' : Bytes) (n n' r : Seen) (x : TreeNode) (b : Bool) → node_by s x ≡ node_of_piece (piece_of s p) → After t n (one (node_by s x)) t' n' → b ≡ breaks_reference (piece_of s p) → r ≡ flagged n' false b false → After t n (piece_effect false (piece_of s p)) t' r
 unfolding piece_effect
-identifier_is s c text t t' n n' r x b e a f g = rw (← e, ← f) (after_noded t t' n n' r (node_by s x) false b false a g)
+identifier_is s p t t' n n' r x b e a f g = rw (← e, ← f) (after_noded t t' n n' r (node_by s x) false b false a g)
 
 pub category_is : (s : Bytes) (x : Span) (t t' : Bytes) (n n' r : Seen) (b m : Bool) (y : Bytes) → After t n (one (Node.category (part_of s x))) t' n' → y ≡ part_of s x → m ≡ is_name y → r ≡ flagged n' false (not (b && m)) false
     → After t n (noded (Node.category (part_of s x)) false (not (b && is_name (part_of s x))) false) t' r
 category_is s x t t' n n' r b m y a e f g = rw (← e, ← f) (rw (← e) at (after_noded t t' n n' r (Node.category (part_of s x)) false (not (b && m)) false a g))
 
-module _ (s : Bytes) (c : SurfaceComparator) (text : Span) (t t' : Bytes) (n r : Seen) (cats : Bool) where
-  pub piece_category : (b : Bool) → cats ≡ true → b ≡ is_equal c → After t n (noded (Node.category (part_of s text)) false (not (b && is_name (part_of s text))) false) t' r → After t n (piece_effect cats (piece_of s c text)) t' r
+module _ (s : Bytes) (p : Placed) (t t' : Bytes) (n r : Seen) (cats : Bool) where
+  pub piece_category : (b : Bool) → cats ≡ true → b ≡ is_equal p.comparator → After t n (noded (Node.category (part_of s p.text)) false (not (b && is_name (part_of s p.text))) false) t' r → After t n (piece_effect cats (piece_of s p)) t' r
   unfolding piece_effect
   piece_category b e f a = rw (e, ← f) a
 
-  pub piece_identifier : cats ≡ false → After t n (piece_effect false (piece_of s c text)) t' r → After t n (piece_effect cats (piece_of s c text)) t' r
+  pub piece_identifier : cats ≡ false → After t n (piece_effect false (piece_of s p)) t' r → After t n (piece_effect cats (piece_of s p)) t' r
   piece_identifier e a = rw e a
 
 -- The pieces behind a first one.
@@ -201,22 +161,22 @@ tail_some : (x y : Bytes) → after (bytes "||") x ≡ Some y → tail_pieces x 
 unfolding tail_pieces
 tail_some x y h = rw h
 
-module _ (s : Bytes) (at i : ℕ) (a : Found) (cats : Bool) (t t₁ t₂ t₃ : Bytes) (n n₁ n₂ : Seen) (r : Outcome) (p : Placed) (e : rest_of s a ≡ after (bytes "||") (from s at)) where
-  pub pieces_on : a ≡ Found.At i → piece_at (from s i) ≡ tells_piece s p → After t n (piece_effect cats (piece_of s p.comparator p.text)) t₁ n₁ → After t₁ n₁ (one (Node.bar 1)) t₂ n₂ → ReadsPart s (rest_effect cats) t₂ n₂ (tail_pieces (from s p.next)) r t₃ → ReadsPart s (rest_effect cats) t n (tail_pieces (from s at)) r t₃
-  unfolding rest_of tells_piece rest_effect
+module _ (s : Bytes) (at i : ℕ) (a : Option ℕ) (cats : Bool) (t t₁ t₂ t₃ : Bytes) (n n₁ n₂ : Seen) (r : Option (ℕ × Seen)) (p : Placed) (next : ℕ) (e : rest_of s a ≡ after (bytes "||") (from s at)) where
+  pub pieces_on : a ≡ Some i → piece_at (from s i) ≡ (piece_of s p, from s next) → After t n (piece_effect cats (piece_of s p)) t₁ n₁ → After t₁ n₁ (one (Node.bar 1)) t₂ n₂ → ReadsPart s (rest_effect cats) t₂ n₂ (tail_pieces (from s next)) r t₃ → ReadsPart s (rest_effect cats) t n (tail_pieces (from s at)) r t₃
+  unfolding rest_of rest_effect
   pieces_on g f h k l =
-      let q = piece_of s p.comparator p.text in
-      let m : tail_pieces (from s at) ≡ headed q (tail_pieces (from s p.next)) = tail_some (from s at) (from s i) (sym e ∙ rw g) ∙ pieces_tail (from s i) ∙ rw f in
+      let q = piece_of s p in
+      let m : tail_pieces (from s at) ≡ headed q (tail_pieces (from s next)) = tail_some (from s at) (from s i) (sym e ∙ rw g) ∙ pieces_tail (from s i) ∙ rw f in
       rw m
-      (reads_map s (rest_effect cats) t₂ t₃ n₂ (tail_pieces (from s p.next)) (rest_effect cats) t n (λ x. q ∷ x) r (k.adds.long ∙ h.adds.long)
+      (reads_map s (rest_effect cats) t₂ t₃ n₂ (tail_pieces (from s next)) (rest_effect cats) t n (λ x. q ∷ x) r (k.adds.long ∙ h.adds.long)
       (λ x n' z. after_then t t₂ t₃ n n₂ n' _ _ (after_then t t₁ t₂ n n₁ n₂ _ _ h k) z) l)
 
-module _ (s : Bytes) (at : ℕ) (a b : Found) (cats : Bool) (t : Bytes) (n : Seen) (e : rest_of s a ≡ after (bytes "||") (from s at)) (g : a ≡ Found.Nothing) (f : rest_of s b ≡ after (bytes "]]") (from s at)) where
-  pub pieces_end : (i : ℕ) → b ≡ Found.At i → ReadsPart s (rest_effect cats) t n (tail_pieces (from s at)) (Outcome.Got i n) t
+module _ (s : Bytes) (at : ℕ) (a b : Option ℕ) (cats : Bool) (t : Bytes) (n : Seen) (e : rest_of s a ≡ after (bytes "||") (from s at)) (g : a ≡ None) (f : rest_of s b ≡ after (bytes "]]") (from s at)) where
+  pub pieces_end : (i : ℕ) → b ≡ Some i → ReadsPart s (rest_effect cats) t n (tail_pieces (from s at)) (Some (i, n)) t
   unfolding rest_of tail_pieces rest_effect ReadsPart met flagged
   pieces_end i h = ([], rw (← e, g, ← f, h), nothing_met t n)
 
-  pub pieces_not : b ≡ Found.Nothing → ReadsPart s (rest_effect cats) t n (tail_pieces (from s at)) Outcome.Refused t
+  pub pieces_not : b ≡ None → ReadsPart s (rest_effect cats) t n (tail_pieces (from s at)) None t
   unfolding rest_of tail_pieces ReadsPart
   pieces_not h = (rw (← e, g, ← f, h), refl)
 
@@ -287,34 +247,33 @@ only_none : {A : Type 0} (b : Bool) (y : A) → None ≡ only_if b (Some y) → 
 only_none true y h = let z : ◌≡◌ {A = ℕ} 0 1 = cc in absurd (omega arith)
 only_none false y h = refl
 
-module _ (s : Bytes) (at d : ℕ) (t t₁ t₂ : Bytes) (n n₁ n₂ : Seen) (r : Outcome) (p : Placed) (f : First) (h : piece_at (from s at) ≡ tells_piece s p) (k : n₁ ≡ flagged n (ltb 8 d) false false)
-    (c : category_told s f ≡ only_if (is_category (piece_of s p.comparator p.text)) (Some (article_of (reference (part_of s p.text))))) where
-  begun : (b : Bool) (e : Effect) → After t n₁ e t₁ n₂ → ((l : List Piece) → effect d (RawQuery.pieces (piece_of s p.comparator p.text) l) ≡ met (ltb 8 d) false false then e then rest_effect b l)
-      → ReadsPart s (rest_effect b) t₁ n₂ (tail_pieces (from s p.next)) r t₂ → ReadsPart s (effect d) t n (plain_body (from s at)) r t₂
-  unfolding tells_piece
+module _ (s : Bytes) (at d : ℕ) (t t₁ t₂ : Bytes) (n n₁ n₂ : Seen) (r : Option (ℕ × Seen)) (p : Placed) (next : ℕ) (f : Option Span) (h : piece_at (from s at) ≡ (piece_of s p, from s next)) (k : n₁ ≡ flagged n (ltb 8 d) false false)
+    (c : category_told s f ≡ only_if (is_category (piece_of s p)) (Some (article_of (reference (part_of s p.text))))) where
+  begun : (b : Bool) (e : Effect) → After t n₁ e t₁ n₂ → ((l : List Piece) → effect d (RawQuery.pieces (piece_of s p) l) ≡ met (ltb 8 d) false false then e then rest_effect b l)
+      → ReadsPart s (rest_effect b) t₁ n₂ (tail_pieces (from s next)) r t₂ → ReadsPart s (effect d) t n (plain_body (from s at)) r t₂
   begun b e a g q =
       let m = after_then t t t₁ n n₁ n₂ (met (ltb 8 d) false false) e (rw k (after_met t n (ltb 8 d) false false)) a in
       rw (plain_tail, h)
-      (reads_map s (rest_effect b) t₁ t₂ n₂ (tail_pieces (from s p.next)) (effect d) t n (RawQuery.pieces (piece_of s p.comparator p.text)) r a.adds.long
+      (reads_map s (rest_effect b) t₁ t₂ n₂ (tail_pieces (from s next)) (effect d) t n (RawQuery.pieces (piece_of s p)) r a.adds.long
       (λ l n' z. rw (g l) (after_then t t₁ t₂ n n₂ n' _ (rest_effect b l) m z)) q)
 
-  pub plain_categories : (x : Span) → f ≡ First.Category x → After t n₁ (noded (Node.category (part_of s x)) false (not (true && is_name (part_of s x))) false) t₁ n₂ → ReadsPart s (rest_effect true) t₁ n₂ (tail_pieces (from s p.next)) r t₂ → ReadsPart s (effect d) t n (plain_body (from s at)) r t₂
+  pub plain_categories : (x : Span) → f ≡ Some x → After t n₁ (noded (Node.category (part_of s x)) false (not (true && is_name (part_of s x))) false) t₁ n₂ → ReadsPart s (rest_effect true) t₁ n₂ (tail_pieces (from s next)) r t₂ → ReadsPart s (effect d) t n (plain_body (from s at)) r t₂
   unfolding category_told
   plain_categories x e a q =
       let o = only_some _ _ _ (rw e at c) in
-      begun true _ a (λ l. rw o.1 (categories_effect d (piece_of s p.comparator p.text) l o.0)) q
+      begun true _ a (λ l. rw o.1 (categories_effect d (piece_of s p) l o.0)) q
 
-  pub plain_identifiers : f ≡ First.Other → After t n₁ (piece_effect false (piece_of s p.comparator p.text)) t₁ n₂ → ReadsPart s (rest_effect false) t₁ n₂ (tail_pieces (from s p.next)) r t₂ → ReadsPart s (effect d) t n (plain_body (from s at)) r t₂
+  pub plain_identifiers : f ≡ None → After t n₁ (piece_effect false (piece_of s p)) t₁ n₂ → ReadsPart s (rest_effect false) t₁ n₂ (tail_pieces (from s next)) r t₂ → ReadsPart s (effect d) t n (plain_body (from s at)) r t₂
   unfolding category_told
   plain_identifiers e a q =
       let o = only_none _ _ (rw e at c) in
-      begun false _ a (λ l. identifiers_effect d (piece_of s p.comparator p.text) l o) q
+      begun false _ a (λ l. identifiers_effect d (piece_of s p) l o) q
 
 -- Less text is left behind each piece.
-pub fall_pieces : (s : Bytes) (at i k : ℕ) (a : Found) (p : Placed) → rest_of s a ≡ after (bytes "||") (from s at) → a ≡ Found.At i → piece_at (from s i) ≡ tells_piece s p → length (from s at) ≡ k → length (from s p.next) < k
-unfolding rest_of tells_piece
-fall_pieces s at i k a p e g f h =
+pub fall_pieces : (s : Bytes) (at i k next : ℕ) (a : Option ℕ) (p : Placed) → rest_of s a ≡ after (bytes "||") (from s at) → a ≡ Some i → piece_at (from s i) ≡ (piece_of s p, from s next) → length (from s at) ≡ k → length (from s next) < k
+unfolding rest_of
+fall_pieces s at i k next a p e g f h =
     let o : OnSome (λ r. length r + 2 ≤ length (from s at)) (rest_of s a) = rw e (after_leaves (bytes "||") (from s at)) in
     let l : length (from s i) + 2 ≤ length (from s at) = rw g at o in
-    let m : length (from s p.next) ≤ length (from s i) = rw f at (piece_leaves (from s i)) in
+    let m : length (from s next) ≤ length (from s i) = rw f at (piece_leaves (from s i)) in
     omega arith

@@ -1,5 +1,5 @@
 -- Laws of what readers answer: effects that are equal, and readings that are mapped and read on.
-use Rattle.std.specs.Prelude.{Option, Some}
+use Rattle.std.specs.Prelude.{Option, Some, None}
 use Prim.Native.Nat.{ℕ, suc, ◌+◌, ◌≤◌, ◌<◌, max}
 use mathlib.Core.Path.{◌≡◌, refl, sym, ◌∙◌}
 use mathlib.Core.Bool.{Bool, true, false, cond, ◌||◌}
@@ -12,7 +12,6 @@ use Rattle.language.specs.Answer.{◌>>=◌}
 use Rattle.query_text_heads.specs.Effects.{Effect, After, ReadsPart, ReadsOn}
 use Rattle.query_text_heads.specs.Trees.{deeper}
 use Rattle.query_text_heads.specs.declared.Seen.{Seen}
-use Rattle.query_text_heads.specs.declared.Outcome.{Outcome}
 
 -- Effects are equal by their parts.
 pub same_effect : {e f : Effect} → e.nodes ≡ f.nodes → e.deep ≡ f.deep → e.name ≡ f.name → e.value ≡ f.value → e ≡ f
@@ -51,21 +50,21 @@ one_deeper d k = go (ltb d 9) refl
 -- Readings.
 module _ {A : Type 0} (s : Bytes) (e : A → Effect) (t t' : Bytes) (n : Seen) (o : Option (A × Bytes)) where
   -- What was read, changed by g.
-  pub reads_map : {B : Type 0} (f : B → Effect) (t₀ : Bytes) (n₀ : Seen) (g : A → B) (r : Outcome) → length t ≡ length t₀
+  pub reads_map : {B : Type 0} (f : B → Effect) (t₀ : Bytes) (n₀ : Seen) (g : A → B) (r : Option (ℕ × Seen)) → length t ≡ length t₀
       → ((a : A) (n' : Seen) → After t n (e a) t' n' → After t₀ n₀ (f (g a)) t' n')
       → ReadsPart s e t n o r t' → ReadsPart s f t₀ n₀ (o >>= λ x. Some (g x.0, x.1)) r t'
   unfolding ReadsPart
-  reads_map f t₀ n₀ g (Outcome.Got next n') l h r = (g r.0, rw r.1, h r.0 n' r.2)
-  reads_map f t₀ n₀ g Outcome.Refused l h r = (rw r.0, r.1 ∙ l)
+  reads_map f t₀ n₀ g (Some (next, n')) l h r = (g r.0, rw r.1, h r.0 n' r.2)
+  reads_map f t₀ n₀ g None l h r = (rw r.0, r.1 ∙ l)
 
   -- What was read, read on.
-  pub reads_on : (f : A → Bytes → Option (A × Bytes)) (next : ℕ) (n' : Seen) (x r : Outcome) (t'' : Bytes) → ReadsPart s e t n o x t' → x ≡ Outcome.Got next n' → ReadsOn s e t' n' f next r t'' → ReadsPart s e t n (o >>= λ q. f q.0 q.1) r t''
+  pub reads_on : (f : A → Bytes → Option (A × Bytes)) (next : ℕ) (n' : Seen) (x r : Option (ℕ × Seen)) (t'' : Bytes) → ReadsPart s e t n o x t' → x ≡ Some (next, n') → ReadsOn s e t' n' f next r t'' → ReadsPart s e t n (o >>= λ q. f q.0 q.1) r t''
   unfolding ReadsPart ReadsOn
   reads_on f next n' x r t'' h g k =
       let (a, p, q) = rw g at h in
       rw p (k a t n q)
 
-  pub reads_no : {B : Type 0} (f : B → Effect) (k : A × Bytes → Option (B × Bytes)) (x : Outcome) → ReadsPart s e t n o x t' → x ≡ Outcome.Refused → ReadsPart s f t n (o >>= k) Outcome.Refused t'
+  pub reads_no : {B : Type 0} (f : B → Effect) (k : A × Bytes → Option (B × Bytes)) (x : Option (ℕ × Seen)) → ReadsPart s e t n o x t' → x ≡ None → ReadsPart s f t n (o >>= k) None t'
   unfolding ReadsPart
   reads_no f k x h g =
       let (p, l) = rw g at h in

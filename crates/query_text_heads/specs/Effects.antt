@@ -6,7 +6,6 @@ use Rattle.query_tree.specs.Nodes.{Node, composed_nodes}
 use Rattle.query_tree.specs.declared.TreeNode.{TreeNode}
 use Rattle.query_tree_write.specs.Laying.{Adds}
 use Rattle.query_text_heads.specs.declared.Seen.{Seen}
-use Rattle.query_text_heads.specs.declared.Outcome.{Outcome}
 use Rattle.query_text_heads.specs.declared.Connective.{Connective}
 
 -- The nodes that are added, and whether a condition of 14, 15 or 16 is met.
@@ -54,10 +53,10 @@ connective Connective.Or n = Node.or n
 connective Connective.Bar n = Node.bar n
 
 -- What a reader answers of what o reads: e tells the effect of what was read.
-unfoldable pub ReadsPart : {A : Type 0} → Bytes → (A → Effect) → Bytes → Seen → Option (A × Bytes) → Outcome → Bytes → Type 0
-ReadsPart s e t n o Outcome.Refused t' = (o ≡ None) × (length t' ≡ length t)
-ReadsPart {A} s e t n o (Outcome.Got next n') t' = (a : A) × (o ≡ Some (a, from s next)) × After t n (e a) t' n'
+unfoldable pub ReadsPart : {A : Type 0} → Bytes → (A → Effect) → Bytes → Seen → Option (A × Bytes) → Option (ℕ × Seen) → Bytes → Type 0
+ReadsPart s e t n o None t' = (o ≡ None) × (length t' ≡ length t)
+ReadsPart {A} s e t n o (Some x) t' = (a : A) × (o ≡ Some (a, from s x.0)) × After t n (e a) t' x.1
 
 -- The same behind something whose effect is there already: f reads on from it.
-unfoldable pub ReadsOn : {A : Type 0} → Bytes → (A → Effect) → Bytes → Seen → (A → Bytes → Option (A × Bytes)) → ℕ → Outcome → Bytes → Type 0
+unfoldable pub ReadsOn : {A : Type 0} → Bytes → (A → Effect) → Bytes → Seen → (A → Bytes → Option (A × Bytes)) → ℕ → Option (ℕ × Seen) → Bytes → Type 0
 ReadsOn {A} s e t' n' f at r t'' = (a : A) (t : Bytes) (n : Seen) → After t n (e a) t' n' → ReadsPart s e t n (f a (from s at)) r t''

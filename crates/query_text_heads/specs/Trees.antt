@@ -2,14 +2,12 @@
 use Rattle.std.specs.Prelude.{ℕ, ◌+◌, max, Bool, true, false, cond, List, [], ◌∷◌, ◌++◌, ltb, take, drop, Option, Some}
 use Rattle.text.specs.Bytes.{Bytes, bytes, all, after}
 use Rattle.text.specs.Class.{is_free}
-use Rattle.text.specs.declared.Span.{Span}
 use Rattle.values.specs.Names.{reference}
 use Rattle.language.specs.Answer.{◌>>=◌, found, only_if}
 use Rattle.language.specs.Surface.{Chain, single, chain}
 use Rattle.language.specs.RawQuery.{Piece, RawQuery, RawAlternatives, read_pieces, split_dots, trim_names, read_alternatives, closed_body}
 use Rattle.language.specs.QueryText.{names_in, depth, depth_in, longest, longest_in, breaks, breaks_in, breaks_value, breaks_value_in, breaks_names, breaks_category, breaks_reference, is_namespace_piece, namespace_of, surface, surface_in}
-use Rattle.language.specs.declared.SurfaceComparator.{SurfaceComparator}
-use Rattle.query_text_pieces.specs.declared.Read.{Read}
+use Rattle.query_text_pieces.specs.declared.Placed.{Placed}
 use Rattle.query_tree.specs.Nodes.{Node, tree, tree_in}
 use Rattle.query_tree.specs.declared.TreeNode.{TreeNode}
 use Rattle.query_text_heads.specs.Effects.{Effect, noded, one, met, ◌then◌}
@@ -34,8 +32,8 @@ unfoldable pub chain_effect : ℕ → Chain → Effect
 chain_effect n c = record { nodes = chain_nodes c; deep = ltb 8 (n + names_in c); name = breaks_names c; value = false }
 
 -- The node of a property piece, which asks for existence or not.
-unfoldable pub value_node : Bool → SurfaceComparator → Span → TreeNode
-value_node b c text = cond b TreeNode.Existence (TreeNode.Value c text)
+unfoldable pub value_node : Bool → Placed → TreeNode
+value_node b p = cond b TreeNode.Existence (TreeNode.Value p.comparator p.text)
 
 -- The node of a piece that is `namespace:+` or a reference.
 unfoldable pub node_of_piece : Piece → Node
@@ -57,9 +55,3 @@ tail_pieces s = found (after (bytes "||") s) read_pieces (after (bytes "]]") s >
 -- A property body whose head has k bytes, and its `]]`.
 unfoldable pub property_body : Bytes → ℕ → Option (RawQuery × Bytes)
 property_body s k = only_if (all is_free (take k s)) (read_alternatives (drop (2 + k) s) >>= λ a. closed_body (trim_names (split_dots (take k s))) a.0 a.1)
-
--- What a piece outside property bodies reads as, in 01's numbers: 15 where it is neither `namespace:+` nor a reference.
-abbrev pub number_of_read : Read → ℕ
-number_of_read (Read.Namespace p) = 0
-number_of_read (Read.Reference c p) = 0
-number_of_read Read.Broken = 15

@@ -8,12 +8,12 @@ use query_tree::TreeNode;
 use query_tree_write::put_node;
 
 // What was seen, with conditions.
+#[tactic(auto, unfolding(crate::specs::Effects::flagged))]
 pub fn flag(seen: Seen, deep: bool, name: bool, value: bool) -> Seen
     ensures { result ≡ flagged seen deep name value }
 {
-    let place = seen.place;
     Seen {
-        place,
+        place: seen.place,
         deep: seen.deep | deep,
         name: seen.name | name,
         value: seen.value | value,
@@ -24,21 +24,8 @@ pub fn flag(seen: Seen, deep: bool, name: bool, value: bool) -> Seen
 pub fn add(s: &[u8], tree: &mut [u8], seen: Seen, node: TreeNode) -> Seen
     ensures { After tree.old seen (one (node_by s.now node)) tree.new result }
 {
-    let before = seen.place;
-    let place = put_node(s, tree, before, node);
-    Seen {
-        place,
-        deep: seen.deep,
-        name: seen.name,
-        value: seen.value,
-    }
-}
-
-// How much more b is than a.
-fn more(a: usize, b: usize) -> usize
-    ensures { result ≡ b - a }
-{
-    if a < b { b - a } else { 0 }
+    let place = put_node(s, tree, seen.place, node);
+    Seen { place, ..seen }
 }
 
 fn join_node(kind: Connective, n: usize) -> TreeNode
@@ -55,8 +42,6 @@ fn join_node(kind: Connective, n: usize) -> TreeNode
 pub fn join(s: &[u8], tree: &mut [u8], first: Seen, seen: Seen, kind: Connective) -> Seen
     ensures { After tree.old seen (one (connective kind (seen.place.count - first.place.count))) tree.new result }
 {
-    let before = first.place;
-    let after = seen.place;
-    let n = more(before.count, after.count);
+    let n = seen.place.count.saturating_sub(first.place.count);
     add(s, tree, seen, join_node(kind, n))
 }

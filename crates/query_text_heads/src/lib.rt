@@ -8,7 +8,8 @@ use query_tree_write::Place;
 pub mod adding; // adding.rt: a node, a connective, conditions
 pub mod plain; // plain.rt: heads, pieces, brackets without `::`
 
-// What was read so far: where the tree's nodes end, and whether a condition of 14, 15 or 16 was met.
+// What was read so far: where the tree's nodes end, and whether a condition of 14, 15 or 16 was met. They are kept apart, since only at the
+// end of the text is it known that 13 is not the answer, and which is the lowest.
 #[derive(Clone, Copy)]
 pub struct Seen {
     pub place: Place,
@@ -17,15 +18,8 @@ pub struct Seen {
     pub value: bool,
 }
 
-// What a reader answers: the place behind what it read, or that there is no reading.
-#[derive(Clone, Copy)]
-pub enum Outcome {
-    Got(usize, Seen),
-    Refused,
-}
-
 // What joins two sides.
-#[derive(Clone, Copy)]
+#[derive(Clone, Copy, Debug, PartialEq, Eq)]
 pub enum Connective {
     And,
     Or,
@@ -33,11 +27,9 @@ pub enum Connective {
 }
 
 // The same answer, its parts read one by one: right behind the call that answers, its bytes are not copied as fast.
-pub fn again(o: Outcome) -> Outcome
+pub fn again(o: Option<(usize, Seen)>) -> Option<(usize, Seen)>
     ensures { result ≡ o }
 {
-    match o {
-        Outcome::Got(next, seen) => Outcome::Got(next, seen),
-        Outcome::Refused => Outcome::Refused,
-    }
+    let (next, seen) = o?;
+    Some((next, seen))
 }

@@ -8,15 +8,13 @@ ghost use Rattle.query_text_pieces.specs.Places.{from, piece_of, head_of, Splits
 ghost use Rattle.query_tree.specs.Nodes.{Node};
 ghost use Rattle.query_tree.specs.Reading.{node_by};
 ghost use Rattle.query_text_heads.specs.Effects.{After, noded, ReadsPart};
-ghost use Rattle.query_text_heads.specs.Trees.{deeper, value_node, node_of_piece, piece_effect, effect_in, chain_effect, rest_effect, tail_pieces, effect, number_of_read};
+ghost use Rattle.query_text_heads.specs.Trees.{deeper, value_node, node_of_piece, piece_effect, effect_in, chain_effect, rest_effect, tail_pieces, effect};
 
 use crate::adding::{add, flag};
-use crate::{Outcome, Seen, again};
-use language::{SurfaceComparator, is_equal};
+use crate::{Seen, again};
+use language::is_equal;
 use names::{is_name, is_property_name};
-use query_text_pieces::{
-    First, Found, Read, after, category_of, is_existence, piece_at, read_piece, split_at,
-};
+use query_text_pieces::{Placed, after, category_of, is_existence, piece_at, read_piece, split_at};
 use query_tree::TreeNode;
 use text::{Class, Span, part, same_bytes, scan, trimmed};
 use values::{Split, is_value};
@@ -25,7 +23,7 @@ use values::{Split, is_value};
 pub fn one_deeper(d: usize) -> usize
     ensures { result ≡ deeper d }
 {
-    if d < 9 { d + 1 } else { 9 }
+    d.min(8) + 1
 }
 
 // The names of a head, the last first: it is the property, and each before it a link.
@@ -58,91 +56,63 @@ pub fn chain(s: &[u8], at: usize, len: usize, names: usize, tree: &mut [u8], see
 }
 
 // The node of a property piece: existence or a value.
-fn value_node(exists: bool, c: SurfaceComparator, text: Span) -> TreeNode
-    ensures { result ≡ value_node exists c text }
+#[tactic(auto, unfolding(crate::specs::Trees::value_node))]
+fn value_node(exists: bool, p: Placed) -> TreeNode
+    ensures { result ≡ value_node exists p }
 {
     if exists {
-        return TreeNode::Existence;
+        TreeNode::Existence
+    } else {
+        TreeNode::Value(p.comparator, p.text)
     }
-    TreeNode::Value(c, text)
 }
 
 // A property piece.
-pub fn value_piece(
-    s: &[u8],
-    c: SurfaceComparator,
-    text: Span,
-    depth: usize,
-    tree: &mut [u8],
-    seen: Seen,
-) -> Seen
-    ensures { After tree.old seen (effect_in depth (RawAlternatives.piece (piece_of s.now c text))) tree.new result }
+pub fn value_piece(s: &[u8], p: Placed, depth: usize, tree: &mut [u8], seen: Seen) -> Seen
+    ensures { After tree.old seen (effect_in depth (RawAlternatives.piece (piece_of s.now p))) tree.new result }
 {
-    let node = value_node(is_existence(s, c, text), c, text);
+    let node = value_node(is_existence(s, p), p);
     let added = add(s, tree, seen, node);
     flag(
         added,
         8 < depth,
         false,
-        !is_value(part(s, text.start, text.len)),
+        !is_value(part(s, p.text.start, p.text.len)),
     )
 }
 
 // The node of a piece that is `namespace:+` or a reference, whether it breaks a rule or not, by how its reference is split.
-fn identifier_node(s: &[u8], c: SurfaceComparator, text: Span, split: Split) -> TreeNode
-    requires { SplitsAt s.now text split }
-    ensures { node_by s.now result ≡ node_of_piece (piece_of s.now c text) }
+fn identifier_node(s: &[u8], p: Placed, split: Split) -> TreeNode
+    requires { SplitsAt s.now p.text split }
+    ensures { node_by s.now result ≡ node_of_piece (piece_of s.now p) }
 {
-    let n = split.namespace;
     let a = split.article;
-    let qualified = split.qualified;
-    let plus = is_equal(c) & qualified & same_bytes(part(s, a.start, a.len), b"+");
-    if plus {
-        return TreeNode::Namespace(n);
-    }
-    if qualified {
-        TreeNode::Qualified(c, n, a)
-    } else {
-        TreeNode::Bare(c, a)
-    }
-}
-
-// The number that refuses a piece, 0 for none.
-fn piece_number(piece: Read) -> u8
-    ensures { result ≡ number_of_read piece }
-{
-    if let Read::Namespace(_) = piece {
-        return 0;
-    }
-    let Read::Reference(_, _) = piece else {
-        return 15;
+    let Some(n) = split.namespace else {
+        return TreeNode::Bare(p.comparator, a);
     };
-    0
+    if is_equal(p.comparator) & same_bytes(part(s, a.start, a.len), b"+") {
+        TreeNode::Namespace(n)
+    } else {
+        TreeNode::Qualified(p.comparator, n, a)
+    }
 }
 
 // Whether such a piece breaks a rule.
-fn is_broken(s: &[u8], c: SurfaceComparator, text: Span, split: Split) -> bool
-    requires { SplitsAt s.now text split }
-    ensures { result ≡ breaks_reference (piece_of s.now c text) }
+fn is_broken(s: &[u8], p: Placed, split: Split) -> bool
+    requires { SplitsAt s.now p.text split }
+    ensures { result ≡ breaks_reference (piece_of s.now p) }
 {
-    piece_number(read_piece(s, c, text, split)) != 0
+    read_piece(s, p, split).is_none()
 }
 
 // A piece that is `namespace:+` or a reference.
-fn identifier(
-    s: &[u8],
-    c: SurfaceComparator,
-    text: Span,
-    split: Split,
-    tree: &mut [u8],
-    seen: Seen,
-) -> Seen
-    requires { SplitsAt s.now text split }
-    ensures { After tree.old seen (piece_effect false (piece_of s.now c text)) tree.new result }
+fn identifier(s: &[u8], p: Placed, split: Split, tree: &mut [u8], seen: Seen) -> Seen
+    requires { SplitsAt s.now p.text split }
+    ensures { After tree.old seen (piece_effect false (piece_of s.now p)) tree.new result }
 {
-    let node = identifier_node(s, c, text, split);
+    let node = identifier_node(s, p, split);
     let added = add(s, tree, seen, node);
-    flag(added, false, is_broken(s, c, text, split), false)
+    flag(added, false, is_broken(s, p, split), false)
 }
 
 // A category name, which a comparator breaks.
@@ -160,60 +130,56 @@ fn category(s: &[u8], bare: bool, name: Span, tree: &mut [u8], seen: Seen) -> Se
 }
 
 // A piece behind the first of a bracket without `::`.
-fn piece(
-    s: &[u8],
-    categories: bool,
-    c: SurfaceComparator,
-    text: Span,
-    tree: &mut [u8],
-    seen: Seen,
-) -> Seen
-    ensures { After tree.old seen (piece_effect categories (piece_of s.now c text)) tree.new result }
+fn piece(s: &[u8], categories: bool, p: Placed, tree: &mut [u8], seen: Seen) -> Seen
+    ensures { After tree.old seen (piece_effect categories (piece_of s.now p)) tree.new result }
 {
     if categories {
-        category(s, is_equal(c), text, tree, seen)
+        category(s, is_equal(p.comparator), p.text, tree, seen)
     } else {
-        identifier(s, c, text, split_at(s, text), tree, seen)
+        identifier(s, p, split_at(s, p.text), tree, seen)
     }
 }
 
 // The pieces behind the first of a bracket without `::`, and its `]]`. Each is one node.
-fn more_pieces(s: &[u8], at: usize, categories: bool, tree: &mut [u8], seen: Seen) -> Outcome
+fn more_pieces(
+    s: &[u8],
+    at: usize,
+    categories: bool,
+    tree: &mut [u8],
+    seen: Seen,
+) -> Option<(usize, Seen)>
     ensures { ReadsPart s.now (rest_effect categories) tree.old seen (tail_pieces (from s.now at)) result tree.new }
 {
-    match after(s, at, b"||") {
-        Found::At(i) => {
-            let p = piece_at(s, i);
-            let c = p.comparator;
-            let text = p.text;
-            let put = piece(s, categories, c, text, tree, seen);
-            let joined = add(s, tree, put, TreeNode::Bar(1));
-            again(more_pieces(s, p.next, categories, tree, joined))
-        }
-        Found::Nothing => match after(s, at, b"]]") {
-            Found::At(i) => Outcome::Got(i, seen),
-            Found::Nothing => Outcome::Refused,
-        },
+    if let Some(i) = after(s, at, b"||") {
+        let (p, next) = piece_at(s, i);
+        let put = piece(s, categories, p, tree, seen);
+        let joined = add(s, tree, put, TreeNode::Bar(1));
+        return again(more_pieces(s, next, categories, tree, joined));
     }
+    let close = after(s, at, b"]]")?;
+    Some((close, seen))
 }
 
 // The body of a bracket without `::`, and its `]]`.
-pub fn plain(s: &[u8], at: usize, depth: usize, tree: &mut [u8], seen: Seen) -> Outcome
+pub fn plain(
+    s: &[u8],
+    at: usize,
+    depth: usize,
+    tree: &mut [u8],
+    seen: Seen,
+) -> Option<(usize, Seen)>
     ensures { ReadsPart s.now (effect depth) tree.old seen (plain_body (from s.now at)) result tree.new }
 {
-    let p = piece_at(s, at);
-    let c = p.comparator;
-    let text = p.text;
-    let next = p.next;
+    let (p, next) = piece_at(s, at);
     let flagged = flag(seen, 8 < depth, false, false);
-    let split = split_at(s, text);
-    match category_of(s, c, text, split) {
-        First::Category(name) => {
+    let split = split_at(s, p.text);
+    match category_of(s, p, split) {
+        Some(name) => {
             let put = category(s, true, name, tree, flagged);
             again(more_pieces(s, next, true, tree, put))
         }
-        First::Other => {
-            let put = identifier(s, c, text, split, tree, flagged);
+        None => {
+            let put = identifier(s, p, split, tree, flagged);
             again(more_pieces(s, next, false, tree, put))
         }
     }
