@@ -1,5 +1,5 @@
 -- The answers of a whole text, and the ways through its reader.
-use Rattle.std.specs.Prelude.{Some, None}
+use Rattle.std.specs.Prelude.{Some, None, Option, Result, Ok, Err}
 use Prim.Native.Nat.{ℕ, ◌+◌, ◌-◌, ◌≤◌, ◌<◌, max}
 use mathlib.Core.Path.{◌≡◌, refl, sym, ap, ◌∙◌}
 use mathlib.Core.Bool.{Bool, true, false, cond}
@@ -14,7 +14,9 @@ use Rattle.text.specs.Bytes.{Bytes, is_blank, span, behind}
 use Rattle.buffer.specs.Numbers.{two_bytes}
 use Rattle.buffer.specs.Writing.{written}
 use Rattle.buffer.proofs.Written.{length_written}
-use Rattle.language.specs.Answer.{refused, accepted, number_of, ◌if◌, judge}
+use Rattle.language.specs.Answer.{refused, accepted, number_of as answered, ◌if◌, judge}
+use Rattle.language.specs.Refusals.{number_of}
+use Rattle.language.specs.declared.refusals.Refusal.{Refusal}
 use Rattle.language.specs.RawQuery.{RawQuery, read_query, read_whole}
 use Rattle.language.specs.QueryText.{depth, longest, surface, checks, read_text}
 use Rattle.query_text_pieces.specs.Places.{from}
@@ -29,12 +31,10 @@ use Rattle.query_tree_write.proofs.Laws.{fits_laid, laid_none, finished}
 use Rattle.query_text_heads.specs.Effects.{ReadsPart}
 use Rattle.query_text_heads.specs.Trees.{effect}
 use Rattle.query_text_heads.specs.declared.Seen.{Seen}
-use Rattle.query_text_heads.specs.declared.Outcome.{Outcome}
-use Rattle.query_text_read.specs.Answers.{number_of_reading, verdict_of, ReadsText}
-use Rattle.query_text_read.specs.declared.Reading.{Reading}
+use Rattle.query_text_read.specs.Answers.{verdict_of, ReadsText}
 
 -- A refused text has no accepted reading to speak of.
-text_refused : (s t t' : Bytes) (r : Reading) → read_text s ≡ refused (number_of_reading r) → length t' ≡ length t → ReadsText s t t' r
+text_refused : (s t t' : Bytes) (r : Result Unit Refusal) → read_text s ≡ refused (number_of r) → length t' ≡ length t → ReadsText s t t' r
 text_refused s t t' r h l =
     record {
       number = rw h;
@@ -42,12 +42,12 @@ text_refused s t t' r h l =
       long = l;
     }
 
-pub text_long : (s t : Bytes) → 1024 < length s → ReadsText s t t Reading.TooLong
+pub text_long : (s t : Bytes) → 1024 < length s → ReadsText s t t (Err Refusal.QueryTooLong)
 unfolding read_text
-text_long s t h = text_refused s t t Reading.TooLong (rw (lt-ltb 1024 (length s) h)) refl
+text_long s t h = text_refused s t t (Err Refusal.QueryTooLong) (rw (lt-ltb 1024 (length s) h)) refl
 
 -- The conditions of 14, 15 and 16.
-judged : (d n v : Bool) {A : Type 0} (a : A) → number_of_reading (cond d Reading.TooDeep (cond n Reading.BadName (cond v Reading.BadValue Reading.Accepted))) ≡ number_of (judge (14 if d ∷ 15 if n ∷ 16 if v ∷ []) a)
+judged : (d n v : Bool) {A : Type 0} (a : A) → number_of {A = Unit} (cond d (Err Refusal.TooDeep) (cond n (Err Refusal.BadName) (cond v (Err Refusal.BadPiece) (Ok tt)))) ≡ answered (judge (14 if d ∷ 15 if n ∷ 16 if v ∷ []) a)
 unfolding judge
 judged true n v a = refl
 judged false true v a = refl
@@ -79,20 +79,20 @@ module _ (s : Bytes) (short : length s ≤ 1024) where
   unfolding read_text
   a_reading q e = rw (le-ltb 1024 (length s) short, e)
 
-  module _ (t t' : Bytes) (x : Outcome) (k : ReadsPart s (effect 0) t nothing (read_query (from s 0)) x t') where
-    pub text_none : x ≡ Outcome.Refused → ReadsText s t t' Reading.NoReading
+  module _ (t t' : Bytes) (x : Option (ℕ × Seen)) (k : ReadsPart s (effect 0) t nothing (read_query (from s 0)) x t') where
+    pub text_none : x ≡ None → ReadsText s t t' (Err Refusal.QueryUnread)
     unfolding ReadsPart read_whole from
     text_none g =
         let z = rw g at k in
-        text_refused s t t' Reading.NoReading (no_reading (rw z.0)) z.1
+        text_refused s t t' (Err Refusal.QueryUnread) (no_reading (rw z.0)) z.1
 
-    module _ (next end : ℕ) (n' : Seen) (g : x ≡ Outcome.Got next n') (e : end ≡ next + span is_blank (drop next s)) where
-      pub text_tail : end < length s → ReadsText s t t' Reading.NoReading
+    module _ (next end : ℕ) (n' : Seen) (g : x ≡ Some (next, n')) (e : end ≡ next + span is_blank (drop next s)) where
+      pub text_tail : end < length s → ReadsText s t t' (Err Refusal.QueryUnread)
       unfolding ReadsPart read_whole from
       text_tail l =
           let z = rw g at k in
           let o : eqb (length (behind is_blank (from s next))) 0 ≡ false = ap (λ m. eqb m 0) (left_over s next end e) ∙ ne_eqb (length s - end) 0 (λ u. omega arith) in
-          text_refused s t t' Reading.NoReading (no_reading (rw (z.1, o))) z.2.adds.long
+          text_refused s t t' (Err Refusal.QueryUnread) (no_reading (rw (z.1, o))) z.2.adds.long
 
       read_whole_lem : (q : RawQuery) → length s ≤ end → read_query (from s 0) ≡ Some (q, from s next) → read_whole s ≡ Some q
       unfolding read_whole from
@@ -100,7 +100,7 @@ module _ (s : Bytes) (short : length s ≤ 1024) where
           let o : eqb (length (behind is_blank (from s next))) 0 ≡ true = ap (λ m. eqb m 0) (left_over s next end e) ∙ eq-eqb (length s - end) 0 (omega arith) in
           rw (u, o)
 
-      pub text_read : (t'' : Bytes) (r : Reading) → length s ≤ end → t'' ≡ written t' 0 (two_bytes n'.place.count) → r ≡ verdict_of n' → ReadsText s t t'' r
+      pub text_read : (t'' : Bytes) (r : Result Unit Refusal) → length s ≤ end → t'' ≡ written t' 0 (two_bytes n'.place.count) → r ≡ verdict_of n' → ReadsText s t t'' r
       unfolding ReadsPart effect verdict_of tree_of
       text_read t'' r l w u =
           let z = rw g at k in

@@ -13,15 +13,13 @@ use Rattle.values.specs.Values.{map_option}
 use Rattle.language.specs.Answer.{◌>>=◌, found}
 use Rattle.language.specs.RawQuery.{RawQuery, RawAlternatives, token, next_term, head_length, piece_at, plain_body, closed_group, closed_inner, closed_body, read_query, read_or, read_conjunction, read_and, read_term, read_body, read_alternatives, read_more, read_alternative}
 use Rattle.language.proofs.Readers.{query_eq, or_eq, conjunction_eq, and_eq, term_eq, body_eq, alternatives_eq, more_eq, alternative_eq}
-use Rattle.query_text_pieces.specs.Places.{from, rest_of, place_of, head_at, head_of, inner_end, piece_of, tells_piece}
-use Rattle.query_text_pieces.specs.declared.Found.{Found}
+use Rattle.query_text_pieces.specs.Places.{from, rest_of, head_at, head_of, inner_end, piece_of}
 use Rattle.query_text_pieces.specs.declared.Placed.{Placed}
 use Rattle.query_tree.specs.Nodes.{Node}
 use Rattle.query_text_heads.specs.Effects.{Effect, one, ◌then◌, After, connective, ReadsPart, ReadsOn}
 use Rattle.query_text_heads.specs.Trees.{deeper, effect, effect_in, chain_effect, property_body}
 use Rattle.query_text_heads.specs.declared.Connective.{Connective}
 use Rattle.query_text_heads.specs.declared.Seen.{Seen}
-use Rattle.query_text_heads.specs.declared.Outcome.{Outcome}
 use Rattle.query_text_heads.proofs.Following.{after_then, joined, connective_plain}
 use Rattle.query_text_heads.proofs.Readings.{reads_on, reads_no}
 use Rattle.query_text_read.proofs.Falls.{head_after}
@@ -30,13 +28,13 @@ use Rattle.query_text_read.proofs.Trees.{effect_or, effect_and, effect_group, ef
 -- Reading on behind what was read: f reads on, o reads what comes next, w finds where, behind a connective.
 module _ {A : Type 0} (e : A → Effect) (f : A → Bytes → Option (A × Bytes)) (o : Bytes → Option (A × Bytes)) (w : Bytes → Option Bytes) (kind : Connective) where
   abbrev pub Joined : Type 0
-  Joined = (s : Bytes) (at i next : ℕ) (t t₁ t₂ t₃ : Bytes) (n n₁ n₂ : Seen) (x : Found) (y r : Outcome) → rest_of s x ≡ w (from s at) → x ≡ Found.At i → ReadsPart s e t n (o (from s i)) y t₁ → y ≡ Outcome.Got next n₁ → After t₁ n₁ (one (connective kind (n₁.place.count - n.place.count))) t₂ n₂ → ReadsOn s e t₂ n₂ f next r t₃ → ReadsOn s e t n f at r t₃
+  Joined = (s : Bytes) (at i next : ℕ) (t t₁ t₂ t₃ : Bytes) (n n₁ n₂ : Seen) (x : Option ℕ) (y r : Option (ℕ × Seen)) → rest_of s x ≡ w (from s at) → x ≡ Some i → ReadsPart s e t n (o (from s i)) y t₁ → y ≡ Some (next, n₁) → After t₁ n₁ (one (connective kind (n₁.place.count - n.place.count))) t₂ n₂ → ReadsOn s e t₂ n₂ f next r t₃ → ReadsOn s e t n f at r t₃
 
   abbrev pub Stopped : Type 0
-  Stopped = (s : Bytes) (at i : ℕ) (t t₁ : Bytes) (n : Seen) (x : Found) (y : Outcome) → rest_of s x ≡ w (from s at) → x ≡ Found.At i → ReadsPart s e t n (o (from s i)) y t₁ → y ≡ Outcome.Refused → ReadsOn s e t n f at Outcome.Refused t₁
+  Stopped = (s : Bytes) (at i : ℕ) (t t₁ : Bytes) (n : Seen) (x : Option ℕ) (y : Option (ℕ × Seen)) → rest_of s x ≡ w (from s at) → x ≡ Some i → ReadsPart s e t n (o (from s i)) y t₁ → y ≡ None → ReadsOn s e t n f at None t₁
 
   abbrev pub Done : Type 0
-  Done = (s : Bytes) (at : ℕ) (t : Bytes) (n : Seen) (x : Found) → rest_of s x ≡ w (from s at) → x ≡ Found.Nothing → ReadsOn s e t n f at (Outcome.Got at n) t
+  Done = (s : Bytes) (at : ℕ) (t : Bytes) (n : Seen) (x : Option ℕ) → rest_of s x ≡ w (from s at) → x ≡ None → ReadsOn s e t n f at (Some (at, n)) t
 
   module _ (j : A → A → A) (eq : (s : Bytes) (a : A) → f a s ≡ found (w s) (λ r. o r >>= λ b. f (j a b.0) b.1) (Some (a, s))) where
     on_joined : ((a b : A) → e (j a b) ≡ e a then e b then one (connective kind (length (e b).nodes))) → Joined
@@ -85,31 +83,31 @@ module _ (d : ℕ) where
   more_done = on_done (effect_in d) read_more read_alternative (after (bytes "||")) Connective.Bar RawAlternatives.either more_eq
 
 -- A reading and what comes behind it.
-module _ (s : Bytes) (d at next : ℕ) (t t' t'' : Bytes) (n n' : Seen) (x r : Outcome) where
-  pub query_got : ReadsPart s (effect d) t n (read_conjunction (from s at)) x t' → x ≡ Outcome.Got next n' → ReadsOn s (effect d) t' n' read_or next r t'' → ReadsPart s (effect d) t n (read_query (from s at)) r t''
+module _ (s : Bytes) (d at next : ℕ) (t t' t'' : Bytes) (n n' : Seen) (x r : Option (ℕ × Seen)) where
+  pub query_got : ReadsPart s (effect d) t n (read_conjunction (from s at)) x t' → x ≡ Some (next, n') → ReadsOn s (effect d) t' n' read_or next r t'' → ReadsPart s (effect d) t n (read_query (from s at)) r t''
   query_got h g k = rw (query_eq (from s at)) (reads_on s (effect d) t t' n (read_conjunction (from s at)) read_or next n' x r t'' h g k)
 
-  pub conjunction_got : ReadsPart s (effect d) t n (read_term (from s at)) x t' → x ≡ Outcome.Got next n' → ReadsOn s (effect d) t' n' read_and next r t'' → ReadsPart s (effect d) t n (read_conjunction (from s at)) r t''
+  pub conjunction_got : ReadsPart s (effect d) t n (read_term (from s at)) x t' → x ≡ Some (next, n') → ReadsOn s (effect d) t' n' read_and next r t'' → ReadsPart s (effect d) t n (read_conjunction (from s at)) r t''
   conjunction_got h g k = rw (conjunction_eq (from s at)) (reads_on s (effect d) t t' n (read_term (from s at)) read_and next n' x r t'' h g k)
 
-  pub alternatives_got : ReadsPart s (effect_in d) t n (read_alternative (from s at)) x t' → x ≡ Outcome.Got next n' → ReadsOn s (effect_in d) t' n' read_more next r t'' → ReadsPart s (effect_in d) t n (read_alternatives (from s at)) r t''
+  pub alternatives_got : ReadsPart s (effect_in d) t n (read_alternative (from s at)) x t' → x ≡ Some (next, n') → ReadsOn s (effect_in d) t' n' read_more next r t'' → ReadsPart s (effect_in d) t n (read_alternatives (from s at)) r t''
   alternatives_got h g k = rw (alternatives_eq (from s at)) (reads_on s (effect_in d) t t' n (read_alternative (from s at)) read_more next n' x r t'' h g k)
 
-module _ (s : Bytes) (d at : ℕ) (t t' : Bytes) (n : Seen) (x : Outcome) (g : x ≡ Outcome.Refused) where
-  pub query_not : ReadsPart s (effect d) t n (read_conjunction (from s at)) x t' → ReadsPart s (effect d) t n (read_query (from s at)) Outcome.Refused t'
+module _ (s : Bytes) (d at : ℕ) (t t' : Bytes) (n : Seen) (x : Option (ℕ × Seen)) (g : x ≡ None) where
+  pub query_not : ReadsPart s (effect d) t n (read_conjunction (from s at)) x t' → ReadsPart s (effect d) t n (read_query (from s at)) None t'
   query_not h = rw (query_eq (from s at)) (reads_no s (effect d) t t' n (read_conjunction (from s at)) (effect d) _ x h g)
 
-  pub conjunction_not : ReadsPart s (effect d) t n (read_term (from s at)) x t' → ReadsPart s (effect d) t n (read_conjunction (from s at)) Outcome.Refused t'
+  pub conjunction_not : ReadsPart s (effect d) t n (read_term (from s at)) x t' → ReadsPart s (effect d) t n (read_conjunction (from s at)) None t'
   conjunction_not h = rw (conjunction_eq (from s at)) (reads_no s (effect d) t t' n (read_term (from s at)) (effect d) _ x h g)
 
-  pub alternatives_not : ReadsPart s (effect_in d) t n (read_alternative (from s at)) x t' → ReadsPart s (effect_in d) t n (read_alternatives (from s at)) Outcome.Refused t'
+  pub alternatives_not : ReadsPart s (effect_in d) t n (read_alternative (from s at)) x t' → ReadsPart s (effect_in d) t n (read_alternatives (from s at)) None t'
   alternatives_not h = rw (alternatives_eq (from s at)) (reads_no s (effect_in d) t t' n (read_alternative (from s at)) (effect_in d) _ x h g)
 
 -- A group, or a bracket.
-module _ (s : Bytes) (d at i : ℕ) (t t' : Bytes) (n : Seen) (a : Found) (p : rest_of s a ≡ token (bytes "<q>") (from s at)) where
-  module _ (g : a ≡ Found.At i) (k : ℕ) (e : k ≡ deeper d) (y : Outcome) (h : ReadsPart s (effect k) t n (read_query (from s i)) y t') where
-    module _ (next : ℕ) (n' : Seen) (l : y ≡ Outcome.Got next n') (b : Found) (q : rest_of s b ≡ token (bytes "</q>") (from s next)) where
-      pub term_group : (end : ℕ) → b ≡ Found.At end → ReadsPart s (effect d) t n (read_term (from s at)) (Outcome.Got end n') t'
+module _ (s : Bytes) (d at i : ℕ) (t t' : Bytes) (n : Seen) (a : Option ℕ) (p : rest_of s a ≡ token (bytes "<q>") (from s at)) where
+  module _ (g : a ≡ Some i) (k : ℕ) (e : k ≡ deeper d) (y : Option (ℕ × Seen)) (h : ReadsPart s (effect k) t n (read_query (from s i)) y t') where
+    module _ (next : ℕ) (n' : Seen) (l : y ≡ Some (next, n')) (b : Option ℕ) (q : rest_of s b ≡ token (bytes "</q>") (from s next)) where
+      pub term_group : (end : ℕ) → b ≡ Some end → ReadsPart s (effect d) t n (read_term (from s at)) (Some (end, n')) t'
       unfolding rest_of ReadsPart closed_group
       term_group end f =
           let z = rw l at h in
@@ -118,24 +116,24 @@ module _ (s : Bytes) (d at i : ℕ) (t t' : Bytes) (n : Seen) (a : Found) (p : r
           closes : (x : RawQuery) → read_query (from s i) ≡ Some (x, from s next) → read_term (from s at) ≡ Some (RawQuery.group x, from s end)
           closes x m = rw (term_eq (from s at), ← p, g, m, ← q, f)
 
-      pub term_open : b ≡ Found.Nothing → ReadsPart s (effect d) t n (read_term (from s at)) Outcome.Refused t'
+      pub term_open : b ≡ None → ReadsPart s (effect d) t n (read_term (from s at)) None t'
       unfolding rest_of ReadsPart closed_group
       term_open f =
           let z = rw l at h in
           (rw (term_eq (from s at), ← p, g, z.1, ← q, f), z.2.adds.long)
 
-    pub term_not : y ≡ Outcome.Refused → ReadsPart s (effect d) t n (read_term (from s at)) Outcome.Refused t'
+    pub term_not : y ≡ None → ReadsPart s (effect d) t n (read_term (from s at)) None t'
     unfolding rest_of ReadsPart
     term_not l =
         let z = rw l at h in
         (rw (term_eq (from s at), ← p, g, z.0), z.1)
 
-module _ (s : Bytes) (d at : ℕ) (t : Bytes) (n : Seen) (a b : Found) (p : rest_of s a ≡ token (bytes "<q>") (from s at)) (g : a ≡ Found.Nothing) (q : rest_of s b ≡ token (bytes "[[") (from s at)) where
-  pub term_bracket : (i : ℕ) (t' : Bytes) (r : Outcome) → b ≡ Found.At i → ReadsPart s (effect d) t n (read_body (from s i)) r t' → ReadsPart s (effect d) t n (read_term (from s at)) r t'
+module _ (s : Bytes) (d at : ℕ) (t : Bytes) (n : Seen) (a b : Option ℕ) (p : rest_of s a ≡ token (bytes "<q>") (from s at)) (g : a ≡ None) (q : rest_of s b ≡ token (bytes "[[") (from s at)) where
+  pub term_bracket : (i : ℕ) (t' : Bytes) (r : Option (ℕ × Seen)) → b ≡ Some i → ReadsPart s (effect d) t n (read_body (from s i)) r t' → ReadsPart s (effect d) t n (read_term (from s at)) r t'
   unfolding rest_of
   term_bracket i t' r f h = rw (term_eq (from s at), ← p, g, ← q, f) h
 
-  pub term_none : b ≡ Found.Nothing → ReadsPart s (effect d) t n (read_term (from s at)) Outcome.Refused t
+  pub term_none : b ≡ None → ReadsPart s (effect d) t n (read_term (from s at)) None t
   unfolding rest_of ReadsPart
   term_none f = (rw (term_eq (from s at), ← p, g, ← q, f), refl)
 
@@ -148,14 +146,14 @@ head_no : (at : ℕ) (o : Option ℕ) → None ≡ map_option (λ k. at + k) o �
 head_no at None h = refl
 head_no at (Some k) h = cc
 
-pub bracket_plain : (s : Bytes) (d at : ℕ) (t t' : Bytes) (n : Seen) (a : Found) (r : Outcome) → place_of a ≡ head_at s at → a ≡ Found.Nothing → ReadsPart s (effect d) t n (plain_body (from s at)) r t' → ReadsPart s (effect d) t n (read_body (from s at)) r t'
-unfolding place_of head_at
+pub bracket_plain : (s : Bytes) (d at : ℕ) (t t' : Bytes) (n : Seen) (a : Option ℕ) (r : Option (ℕ × Seen)) → a ≡ head_at s at → a ≡ None → ReadsPart s (effect d) t n (plain_body (from s at)) r t' → ReadsPart s (effect d) t n (read_body (from s at)) r t'
+unfolding head_at
 bracket_plain s d at t t' n a r p g h = rw (body_eq (from s at), head_no at (head_length (from s at)) (rw g at p)) h
 
 -- The head, the alternatives and the `]]` of a bracket whose `::` stands at i.
-module _ (s h : Bytes) (d at i : ℕ) (t : Bytes) (n : Seen) (a : Found) (b : Bool) (p : place_of a ≡ head_at s at) (o : a ≡ Found.At i) (e : h ≡ part s at (i - at)) (f : b ≡ all is_free h) where
+module _ (s h : Bytes) (d at i : ℕ) (t : Bytes) (n : Seen) (a : Option ℕ) (b : Bool) (p : a ≡ head_at s at) (o : a ≡ Some i) (e : h ≡ part s at (i - at)) (f : b ≡ all is_free h) where
   body : read_body (from s at) ≡ property_body (from s at) (i - at)
-  unfolding place_of head_at property_body
+  unfolding head_at property_body
   body = rw (body_eq (from s at), head_some at i (head_length (from s at)) (rw o at p))
 
   behind_head : drop (2 + (i - at)) (from s at) ≡ from s (i + 2)
@@ -168,29 +166,29 @@ module _ (s h : Bytes) (d at i : ℕ) (t : Bytes) (n : Seen) (a : Found) (b : Bo
   unfolding from
   free g = rw (← e) (sym f ∙ g)
 
-  pub bracket_unfree : not b ≡ true → ReadsPart s (effect d) t n (read_body (from s at)) Outcome.Refused t
+  pub bracket_unfree : not b ≡ true → ReadsPart s (effect d) t n (read_body (from s at)) None t
   unfolding ReadsPart property_body
   bracket_unfree g = (rw (body, free (not-true b g)), refl)
 
-  module _ (g : not b ≡ false) (t' : Bytes) (y : Outcome) (r : ReadsPart s (effect_in d) t n (read_alternatives (from s (i + 2))) y t') where
-    pub bracket_not : y ≡ Outcome.Refused → ReadsPart s (effect d) t n (read_body (from s at)) Outcome.Refused t'
+  module _ (g : not b ≡ false) (t' : Bytes) (y : Option (ℕ × Seen)) (r : ReadsPart s (effect_in d) t n (read_alternatives (from s (i + 2))) y t') where
+    pub bracket_not : y ≡ None → ReadsPart s (effect d) t n (read_body (from s at)) None t'
     unfolding ReadsPart property_body
     bracket_not l =
         let z = rw l at r in
         (rw (body, free (not-false b g), behind_head, z.0), z.1)
 
-    module _ (next : ℕ) (n' : Seen) (l : y ≡ Outcome.Got next n') (c : Found) (q : rest_of s c ≡ after (bytes "]]") (from s next)) where
-      pub bracket_open : c ≡ Found.Nothing → ReadsPart s (effect d) t n (read_body (from s at)) Outcome.Refused t'
+    module _ (next : ℕ) (n' : Seen) (l : y ≡ Some (next, n')) (c : Option ℕ) (q : rest_of s c ≡ after (bytes "]]") (from s next)) where
+      pub bracket_open : c ≡ None → ReadsPart s (effect d) t n (read_body (from s at)) None t'
       unfolding ReadsPart property_body closed_body rest_of
       bracket_open m =
           let z = rw l at r in
           (rw (body, free (not-false b g), behind_head, z.1, ← q, m), z.2.adds.long)
 
-      closed : (end : ℕ) (w : RawAlternatives) → c ≡ Found.At end → read_alternatives (from s (i + 2)) ≡ Some (w, from s next) → read_body (from s at) ≡ Some (RawQuery.property (head_of s at (i - at)) w, from s end)
+      closed : (end : ℕ) (w : RawAlternatives) → c ≡ Some end → read_alternatives (from s (i + 2)) ≡ Some (w, from s next) → read_body (from s at) ≡ Some (RawQuery.property (head_of s at (i - at)) w, from s end)
       unfolding property_body closed_body rest_of head_of from
       closed end w m k = rw (body, free (not-false b g), behind_head, k, ← q, m)
 
-      pub bracket_got : (end : ℕ) (t'' : Bytes) (n'' : Seen) → c ≡ Found.At end → After t' n' (chain_effect 0 (head_of s at (i - at))) t'' n'' → ReadsPart s (effect d) t n (read_body (from s at)) (Outcome.Got end n'') t''
+      pub bracket_got : (end : ℕ) (t'' : Bytes) (n'' : Seen) → c ≡ Some end → After t' n' (chain_effect 0 (head_of s at (i - at))) t'' n'' → ReadsPart s (effect d) t n (read_body (from s at)) (Some (end, n'')) t''
       unfolding ReadsPart
       bracket_got end t'' n'' m v =
           let z = rw l at r in
@@ -205,10 +203,10 @@ inner_is q s = go (token (bytes "</q>") s)
     go None = refl
     go (Some r) = refl
 
-module _ (s : Bytes) (d at : ℕ) (t t' : Bytes) (n : Seen) (a : Found) (p : rest_of s a ≡ token (bytes "<q>") (from s at)) where
-  module _ (i : ℕ) (g : a ≡ Found.At i) (k : ℕ) (e : k ≡ deeper d) (y : Outcome) (h : ReadsPart s (effect k) t n (read_query (from s i)) y t') where
-    module _ (next : ℕ) (n' : Seen) (l : y ≡ Outcome.Got next n') (b : Found) (q : rest_of s b ≡ inner_end (from s next)) where
-      pub alternative_group : (end : ℕ) (t'' : Bytes) (n'' : Seen) → b ≡ Found.At end → After t' n' (one Node.subquery) t'' n'' → ReadsPart s (effect_in d) t n (read_alternative (from s at)) (Outcome.Got end n'') t''
+module _ (s : Bytes) (d at : ℕ) (t t' : Bytes) (n : Seen) (a : Option ℕ) (p : rest_of s a ≡ token (bytes "<q>") (from s at)) where
+  module _ (i : ℕ) (g : a ≡ Some i) (k : ℕ) (e : k ≡ deeper d) (y : Option (ℕ × Seen)) (h : ReadsPart s (effect k) t n (read_query (from s i)) y t') where
+    module _ (next : ℕ) (n' : Seen) (l : y ≡ Some (next, n')) (b : Option ℕ) (q : rest_of s b ≡ inner_end (from s next)) where
+      pub alternative_group : (end : ℕ) (t'' : Bytes) (n'' : Seen) → b ≡ Some end → After t' n' (one Node.subquery) t'' n'' → ReadsPart s (effect_in d) t n (read_alternative (from s at)) (Some (end, n'')) t''
       unfolding rest_of ReadsPart
       alternative_group end t'' n'' f w =
           let z = rw l at h in
@@ -217,20 +215,20 @@ module _ (s : Bytes) (d at : ℕ) (t t' : Bytes) (n : Seen) (a : Found) (p : res
           closes : (x : RawQuery) → read_query (from s i) ≡ Some (x, from s next) → read_alternative (from s at) ≡ Some (RawAlternatives.subquery x, from s end)
           closes x m = rw (alternative_eq (from s at), ← p, g, m, inner_is, ← q, f)
 
-      pub alternative_open : b ≡ Found.Nothing → ReadsPart s (effect_in d) t n (read_alternative (from s at)) Outcome.Refused t'
+      pub alternative_open : b ≡ None → ReadsPart s (effect_in d) t n (read_alternative (from s at)) None t'
       unfolding rest_of ReadsPart
       alternative_open f =
           let z = rw l at h in
           (rw (alternative_eq (from s at), ← p, g, z.1, inner_is, ← q, f), z.2.adds.long)
 
-    pub alternative_not : y ≡ Outcome.Refused → ReadsPart s (effect_in d) t n (read_alternative (from s at)) Outcome.Refused t'
+    pub alternative_not : y ≡ None → ReadsPart s (effect_in d) t n (read_alternative (from s at)) None t'
     unfolding rest_of ReadsPart
     alternative_not l =
         let z = rw l at h in
         (rw (alternative_eq (from s at), ← p, g, z.0), z.1)
 
-  pub alternative_piece : (c : Placed) (n' : Seen) → a ≡ Found.Nothing → piece_at (from s at) ≡ tells_piece s c → After t n (effect_in d (RawAlternatives.piece (piece_of s c.comparator c.text))) t' n' → ReadsPart s (effect_in d) t n (read_alternative (from s at)) (Outcome.Got c.next n') t'
-  unfolding rest_of ReadsPart tells_piece
-  alternative_piece c n' g k h = (RawAlternatives.piece (piece_of s c.comparator c.text), rw (alternative_eq (from s at), ← p, g, k), h)
+  pub alternative_piece : (c : Placed) (next : ℕ) (n' : Seen) → a ≡ None → piece_at (from s at) ≡ (piece_of s c, from s next) → After t n (effect_in d (RawAlternatives.piece (piece_of s c))) t' n' → ReadsPart s (effect_in d) t n (read_alternative (from s at)) (Some (next, n')) t'
+  unfolding rest_of ReadsPart
+  alternative_piece c next n' g k h = (RawAlternatives.piece (piece_of s c), rw (alternative_eq (from s at), ← p, g, k), h)
 
 pub ruleset cycle = (or_joined, or_stopped, or_done, and_joined, and_stopped, and_done, more_joined, more_stopped, more_done, query_got, conjunction_got, alternatives_got, query_not, conjunction_not, alternatives_not, term_group, term_open, term_not, term_bracket, term_none, bracket_plain, bracket_unfree, bracket_not, bracket_open, alternative_open, alternative_not, alternative_piece)
