@@ -14,11 +14,10 @@ use Rattle.register_join_merge.specs.Merging.{Added}
 
 -- What is pasted is there, and what lies before it stays.
 module _ (d t : Bytes) (at : ℕ) (fits : at + length t ≤ length d) where
-  tail : Bytes
+  abbrev tail : Bytes
   tail = drop (at + length t) d
 
-  pasted_is : paste d at t (length t) ≡ take at d ++ (t ++ tail)
-  unfolding tail
+  pub pasted_is : paste d at t (length t) ≡ take at d ++ (t ++ drop (at + length t) d)
   pasted_is = append_assoc (take at d) (take (length t) t) tail ∙ ap (λ (r : Bytes). take at d ++ (r ++ tail)) (take-length t)
 
   front : length (take at d) ≡ at

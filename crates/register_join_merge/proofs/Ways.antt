@@ -2,12 +2,17 @@
 use Prim.Native.Nat.{ℕ, ◌+◌, ◌-◌, ◌%◌, ◌≤◌, ◌<◌}
 use mathlib.Core.Path.{◌≡◌, refl, sym, ap, ap₂, ◌∙◌}
 use mathlib.Core.Bool.{Bool, true, false}
-use mathlib.Core.List.{List}
+use mathlib.Core.List.{List, append_assoc}
 use native.Mathlib.Nat.{mod-eq_of_lt}
 use native.Mathlib.Omega.{arith}
-use native.Mathlib.Numerals.{add-one}
-use lib.ListN.{length, get_or, set, length-set}
-use lib.Seq.{paste, paste-zero, paste-suc}
+use borrow.Rule.Slice.PartMut.{put_mid}
+use Rattle.std.proofs.Math.Nat.{min-eq_left}
+use Rattle.buffer.specs.Writing.{written}
+use Rattle.buffer.proofs.Written.{length_written}
+use Rattle.buffer.proofs.Copied.{placed}
+use Rattle.register_join_merge.proofs.Stored.{pasted_is}
+use lib.ListN.{length, get_or, set, take, drop}
+use lib.Seq.{sets-eq, take-length}
 use borrow.Author.Tests.{le-leb, lt-leb}
 use Rattle.text.specs.Bytes.{Bytes, order_of}
 use Rattle.std.specs.declared.cmp.Ordering.{Ordering}
@@ -37,37 +42,23 @@ text_equal o a b c e f = rw e f
 pub text_greater : (o : Ordering) (a b c : Bytes) → o ≡ Greater → c ≡ b → c ≡ next_text o a b
 text_greater o a b c e f = rw e f
 
--- Copying: where there is no room, before the first byte, after one more, and after the last.
+-- Copying: where there is no room, and where there is.
 pub pasted_past : (d t : Bytes) (at : ℕ) → length d < at → Pasted d at t d at
 pasted_past d t at b = record { size = refl; end = λ l. absurd (omega arith); is = λ l. absurd (omega arith) }
 
 pub pasted_full : (d t : Bytes) (at : ℕ) → at ≤ length d → length d - at < length t → Pasted d at t d at
 pasted_full d t at a b = record { size = refl; end = λ l. absurd (omega arith); is = λ l. absurd (omega arith) }
 
-pub record Copied (d : Bytes) (at : ℕ) (t u : Bytes) (i : ℕ) : Type 0 where
-  pub room : at + length t ≤ length d
-  pub most : i ≤ length t
-  pub size : length u ≡ length d
-  pub is : u ≡ paste d at t i
-
-pub copied_none : (d t : Bytes) (at : ℕ) → at ≤ length d → length t ≤ length d - at → Copied d at t d 0
-copied_none d t at a b = record { room = omega arith; most = omega arith; size = refl; is = paste-zero d at t }
-
-pub copied_more : (d t u : Bytes) (at i : ℕ) → Copied d at t u i → i < length t → Copied d at t (set u (at + i) (get_or t i 0)) (i + 1)
-copied_more d t u at i c l =
-    let room = c.room in
+pub pasted : (d t x : Bytes) (at k : ℕ) → at ≤ length d → length t ≤ length d - at → x ≡ t → k ≡ length t → Pasted d at t (put_mid at k d x) (at + length t)
+unfolding written
+pasted d t x at k a b f g =
+    let room : at + length t ≤ length d = omega arith in
+    let w : put_mid at k d x ≡ written d at t = placed d t at (length t) a (sym (min-eq_left b)) x k (f ∙ sym (take-length t)) g in
     record {
-      room = room;
-      most = omega arith;
-      size = length-set u (at + i) (get_or t i 0) ∙ c.size;
-      is = ap (λ (r : Bytes). set r (at + i) (get_or t i 0)) c.is ∙ paste-suc d at t i 0 (omega arith) l ∙ ap (paste d at t) (sym (add-one i));
+      size = ap length w ∙ length_written d at t;
+      end = λ l. refl;
+      is = λ l. w ∙ sets-eq t d at room ∙ append_assoc (take at d) t (drop (at + length t) d) ∙ sym (pasted_is d t at room);
     }
-
-pub copied_all : (d t u : Bytes) (at i : ℕ) → Copied d at t u i → length t ≤ i → Pasted d at t u (at + i)
-copied_all d t u at i c l =
-    let most = c.most in
-    let z : i ≡ length t = omega arith in
-    record { size = c.size; end = λ l. omega arith; is = λ l. c.is ∙ ap (paste d at t) z }
 
 pub added_is : (heap : Bytes) (starts lens : List ℕ) (k end : ℕ) (t u : Bytes) (ss ls : List ℕ) (w x v b r : ℕ) → w ≡ k → x ≡ end % 4294967296 → ss ≡ set starts w x → v ≡ k → b ≡ length t % 65536 → ls ≡ set lens v b → Pasted heap end t u r → Added heap starts lens k end t u ss ls r
 added_is heap starts lens k end t u ss ls w x v b r e d f g c m p =

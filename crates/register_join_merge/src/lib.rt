@@ -1,11 +1,12 @@
 // The texts of two held registers as one ascending list, each text once, and the item that each number of a text has in it.
 #![tactic(auto)]
 
-ghost use Rattle.std.specs.Prelude.{◌≡◌, ◌&&◌, ◌+◌, ◌%◌, ◌<◌, set};
+ghost use Rattle.std.specs.Prelude.{◌≡◌, replicate};
 ghost use Rattle.register_form.specs.Form.{text_at};
 ghost use Rattle.register_join_merge.specs.Merging.{next_order, takes_first, takes_second, next_text, Pasted, Added, Noted, Merger};
 
-use register_form::{text_at, text_count};
+use dictionary::Texts;
+use register_form::{layout, text_at, text_count};
 use tables::{narrow, narrow_start, next, put};
 use std::cmp::Ordering;
 use text::compare;
@@ -23,24 +24,17 @@ fn compare_next(h: &[u8], g: &[u8], i: u16, j: u16) -> Ordering
     compare(text_at(h, i), text_at(g, j))
 }
 
+// Whether the next text is one of the first register, and of the second; one text is of both.
 fn takes_first(o: Ordering) -> bool
     ensures { result ≡ takes_first o }
 {
-    match o {
-        Ordering::Less => true,
-        Ordering::Equal => true,
-        Ordering::Greater => false,
-    }
+    o.is_le()
 }
 
 fn takes_second(o: Ordering) -> bool
     ensures { result ≡ takes_second o }
 {
-    match o {
-        Ordering::Less => false,
-        Ordering::Equal => true, // one text for both
-        Ordering::Greater => true,
-    }
+    o.is_ge()
 }
 
 // The text that is less.
@@ -48,8 +42,7 @@ fn next_text<'a>(h: &'a [u8], g: &'a [u8], i: u16, j: u16, o: Ordering) -> &'a [
     ensures { result.now ≡ next_text o (text_at h.now i) (text_at g.now j) }
 {
     match o {
-        Ordering::Less => text_at(h, i),
-        Ordering::Equal => text_at(h, i),
+        Ordering::Less | Ordering::Equal => text_at(h, i),
         Ordering::Greater => text_at(g, j),
     }
 }
@@ -64,28 +57,53 @@ fn put_text(heap: &mut [u8], at: usize, t: &[u8]) -> usize
     if heap.len() - at < t.len() {
         return at;
     }
-    let mut i: usize = 0;
-    while i < t.len() {
-        heap[at + i] = t[i];
-        i += 1;
-    }
-    at + i
+    let end = at + t.len();
+    heap[at..end].copy_from_slice(t);
+    end
 }
 
-// Puts text t behind those before it, as item k; answers where it ends.
-fn add_text(
-    heap: &mut [u8],
-    starts: &mut [u32],
-    lens: &mut [u16],
-    k: u16,
-    end: usize,
-    t: &[u8],
-) -> usize
-    ensures { Added heap.old starts.old lens.old k end t.now heap.new starts.new lens.new result }
-{
-    put(starts, usize::from(k), narrow_start(end));
-    put(lens, usize::from(k), narrow(t.len()));
-    put_text(heap, end, t)
+// The texts of two registers as items, one behind the other in a heap that has room for both.
+pub struct Heap {
+    pub bytes: [u8; layout::DRAFT_TEXT_BYTES],
+    pub starts: [u32; layout::DRAFT_TEXTS],
+    pub lens: [u16; layout::DRAFT_TEXTS],
+}
+
+impl Heap {
+    // No text yet.
+    pub fn new() -> Heap
+        ensures bytes { result.bytes ≡ replicate 70272 0 }
+        ensures starts { result.starts ≡ replicate 4736 0 }
+        ensures lens { result.lens ≡ replicate 4736 0 }
+    {
+        Heap {
+            bytes: [0; layout::DRAFT_TEXT_BYTES],
+            starts: [0; layout::DRAFT_TEXTS],
+            lens: [0; layout::DRAFT_TEXTS],
+        }
+    }
+
+    // Puts text t behind those before it, as item k; answers where it ends.
+    fn add(&mut self, k: u16, end: usize, t: &[u8]) -> usize
+        ensures { Added self.old.bytes self.old.starts self.old.lens k end t.now self.new.bytes self.new.starts self.new.lens result }
+    {
+        put(&mut self.starts, usize::from(k), narrow_start(end));
+        put(&mut self.lens, usize::from(k), narrow(t.len()));
+        put_text(&mut self.bytes, end, t)
+    }
+
+    // The texts as those of a dictionary.
+    pub fn texts(&self) -> Texts<'_>
+        ensures bytes { result.bytes.now ≡ self.now.bytes }
+        ensures starts { result.starts.now ≡ self.now.starts }
+        ensures lens { result.lens.now ≡ self.now.lens }
+    {
+        Texts {
+            bytes: &self.bytes,
+            starts: &self.starts,
+            lens: &self.lens,
+        }
+    }
 }
 
 // Notes item k for the number i where that is taken; answers the next number.
@@ -99,17 +117,15 @@ fn note(items: &mut [u16], i: u16, k: u16, taken: bool) -> u16
     i
 }
 
-// Merges the texts; answers how many there are.
+// Merges the texts; answers how many there are. Neither number is that of a range: each register is gone through at its own pace.
 pub fn merge<'a>(
     h: &'a [u8],
     g: &'a [u8],
-    heap: &mut [u8],
-    starts: &mut [u32],
-    lens: &mut [u16],
+    heap: &mut Heap,
     items1: &mut [u16],
     items2: &mut [u16],
 ) -> u16
-    ensures { Merger h.now g.now heap.old starts.old lens.old items1.old items2.old heap.new starts.new lens.new items1.new items2.new result }
+    ensures { Merger h.now g.now heap.old.bytes heap.old.starts heap.old.lens items1.old items2.old heap.new.bytes heap.new.starts heap.new.lens items1.new items2.new result }
 {
     let n = text_count(h);
     let m = text_count(g);
@@ -119,7 +135,7 @@ pub fn merge<'a>(
     let mut end: usize = 0;
     while (i < n) | (j < m) {
         let order = compare_next(h, g, i, j);
-        end = add_text(heap, starts, lens, k, end, next_text(h, g, i, j, order));
+        end = heap.add(k, end, next_text(h, g, i, j, order));
         i = note(items1, i, k, takes_first(order));
         j = note(items2, j, k, takes_second(order));
         k = next(k);

@@ -7,19 +7,10 @@ pub loop-i-init : goal.loop-i-init
 loop-i-init c = run_none _ _ _ _ _ _ _
 
 pub loop-i-smaller : goal.loop-i-smaller
-loop-i-smaller c = run_less _ _ _ _ _ _ _ _ _ _ _ _ _ _ _ _ c.loop-i.invariant _ _ _ _ _ _ _ _ _ _ _ _ _ (omega (arith, c.text_count-n.ensures)) (omega (arith, c.text_count-m.ensures)) (left_over _ _ _ _ _ _ c.text_count-n.ensures c.text_count-m.ensures c.loop-i-test.true) c.compare_next-order.ensures c.next_text.ensures c.add_text-end.ensures c.takes_first.ensures c.note-i.ensures c.takes_second.ensures c.note-j.ensures c.next-k.ensures
+loop-i-smaller c = run_less _ _ _ _ _ _ _ _ _ _ _ _ _ _ _ _ c.loop-i.invariant _ _ _ _ _ _ _ _ _ _ _ _ _ (omega (arith, c.text_count-n.ensures)) (omega (arith, c.text_count-m.ensures)) (left_over _ _ _ _ _ _ c.text_count-n.ensures c.text_count-m.ensures c.loop-i-test.true) c.compare_next-order.ensures c.next_text.ensures c.add-end.ensures c.takes_first.ensures c.note-i.ensures c.takes_second.ensures c.note-j.ensures c.next-k.ensures
 
 pub loop-i-preserved : goal.loop-i-preserved
-loop-i-preserved c = run_next _ _ _ _ _ _ _ _ _ _ _ _ _ _ _ _ c.loop-i.invariant _ _ _ _ _ _ _ _ _ _ _ _ _ (omega (arith, c.text_count-n.ensures)) (omega (arith, c.text_count-m.ensures)) (left_over _ _ _ _ _ _ c.text_count-n.ensures c.text_count-m.ensures c.loop-i-test.true) c.compare_next-order.ensures c.next_text.ensures c.add_text-end.ensures c.takes_first.ensures c.note-i.ensures c.takes_second.ensures c.note-j.ensures c.next-k.ensures
-
-pub shape_of-heap : goal.shape_of-heap
-shape_of-heap c = c.loop-i.invariant.heap_size
-
-pub shape_of-starts : goal.shape_of-starts
-shape_of-starts c = c.loop-i.invariant.starts_size
-
-pub shape_of-lens : goal.shape_of-lens
-shape_of-lens c = c.loop-i.invariant.lens_size
+loop-i-preserved c = run_next _ _ _ _ _ _ _ _ _ _ _ _ _ _ _ _ c.loop-i.invariant _ _ _ _ _ _ _ _ _ _ _ _ _ (omega (arith, c.text_count-n.ensures)) (omega (arith, c.text_count-m.ensures)) (left_over _ _ _ _ _ _ c.text_count-n.ensures c.text_count-m.ensures c.loop-i-test.true) c.compare_next-order.ensures c.next_text.ensures c.add-end.ensures c.takes_first.ensures c.note-i.ensures c.takes_second.ensures c.note-j.ensures c.next-k.ensures
 
 pub shape_of-items1 : goal.shape_of-items1
 shape_of-items1 c = c.loop-i.invariant.items1_size

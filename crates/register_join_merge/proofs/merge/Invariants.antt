@@ -5,7 +5,7 @@ use Rattle.register_join_merge.proofs.merge.Given as goal
 
 abbrev pub invariant-loop-i : goal.invariant-loop-i
 invariant-loop-i l =
-    Run l.h l.g l.initial.heap l.initial.starts l.initial.lens l.initial.items1 l.initial.items2 l.heap l.starts l.lens l.items1 l.items2 l.i l.j l.k l.end
+    Run l.h l.g l.initial.heap.bytes l.initial.heap.starts l.initial.heap.lens l.initial.items1 l.initial.items2 l.heap.bytes l.heap.starts l.heap.lens l.items1 l.items2 l.i l.j l.k l.end
 
 abbrev pub decreases-loop-i : goal.decreases-loop-i
 decreases-loop-i l =

@@ -1,6 +1,6 @@
 use Rattle.register_join_merge.proofs.Ways.{merging}
 use borrow.Author.Rules.{rules}
-use Rattle.register_join_merge.proofs.add_text.Goals as goal
+use Rattle.register_join_merge.proofs.Heap.add.Goals as goal
 
 pub returns : goal.returns
 returns c = search (merging, rules)
