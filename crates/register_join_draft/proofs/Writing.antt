@@ -173,8 +173,8 @@ module _ (h : Bytes) (base : ℕ) where
         let next : first + (i + 1) ≡ first + i + 1 = omega arith in
         rw next (forms_next (first + i) k x (to + i) us vs (n + i) (n + (i + 1)) o (omega arith) (omega arith) (e ∙ rw place) f p (omega arith))
 
-    pub forms_ended : (i k m to r : ℕ) (us : List ℕ) → FormsPut first end (first + i) uses n us (n + i) → k ≡ m → m ≡ end - first → k ≤ i → to ≡ n → n + i < 65536 → r ≡ (to + i) % 65536 → NumbersPut uses n (forms_from first (end - first)) us r
-    forms_ended i k m to r us o ke me b te z e =
+    pub forms_ended : (i k m to r : ℕ) (us : List ℕ) → FormsPut first end (first + i) uses n us (n + i) → k ≡ m → m ≡ end - first → k ≤ i → i ≤ k → to ≡ n → n + i < 65536 → r ≡ (to + k) % 65536 → NumbersPut uses n (forms_from first (end - first)) us r
+    forms_ended i k m to r us o ke me b c te z e =
         let whole : r ≡ n + i = omega arith in
         rw whole (forms_all (first + i) us (n + i) o (omega arith))
 

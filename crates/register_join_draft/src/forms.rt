@@ -5,9 +5,10 @@ ghost use Rattle.register_form.specs.Form.{term_count, form_at, dictionary_in};
 ghost use Rattle.register_join_draft.specs.Joined.{forms_in};
 ghost use Rattle.register_join_draft.specs.Drafting.{new_group, new_code, new_term, TermsPut, behind, NumbersPut};
 
+use crate::Side;
 use register_form::{
-    code_at, form_at, form_end, form_start, group_at, kind_at, layout, minus, name_number,
-    page_count, term_count,
+    code_at, form_at, form_end, form_start, group_at, kind_at, layout, name_number, page_count,
+    term_count,
 };
 use tables::{get_or, narrow, next, put};
 use values::Kind;
@@ -16,7 +17,7 @@ use values::Kind;
 fn property_of(g: u8) -> u16
     ensures { result ≡ g - 1 }
 {
-    if g == 0 { 0 } else { (g - 1) as u16 }
+    u16::from(g.saturating_sub(1))
 }
 
 fn low_byte(x: u16) -> u8
@@ -25,83 +26,69 @@ fn low_byte(x: u16) -> u8
     (x % 256) as u8
 }
 
-// The group of a term, by the place of its property's name.
-fn new_group(h: &[u8], items: &[u16], table: &[u16], g: u8) -> u8
-    ensures { result ≡ new_group h.now items.now table.now g }
-{
-    if g == 0 {
-        return 0;
+impl<'a> Side<'a> {
+    // The group of a term, by the place of its property's name.
+    fn new_group(self, table: &[u16], g: u8) -> u8
+        ensures { result ≡ new_group self.entry.held.now self.entry.items.now table.now g }
+    {
+        if g == 0 {
+            return 0;
+        }
+        let x = usize::from(self.item(name_number(self.held, property_of(g))));
+        low_byte(get_or(table, x, 0))
     }
-    let x = usize::from(get_or(items, usize::from(name_number(h, property_of(g))), 0));
-    low_byte(get_or(table, x, 0))
-}
 
-// The item of a text's number that is a code.
-fn item_at(items: &[u16], c: u64) -> u64
-    ensures { result ≡ get_or items.now c 0 }
-{
-    get_or(items, c as usize, 0) as u64
-}
-
-// The code of a term, with the item of its text.
-fn new_code(h: &[u8], items: &[u16], g: u8, c: u64) -> u64
-    ensures { result ≡ new_code h.now items.now g c }
-{
-    if g == 0 {
-        return item_at(items, c);
+    // The item of a text's number that is a code.
+    fn item_at(self, c: u64) -> u64
+        ensures { result ≡ get_or self.entry.items.now c 0 }
+    {
+        u64::from(get_or(self.items, c as usize, 0))
     }
-    let kind = kind_at(h, property_of(g));
-    match kind {
-        Kind::Page => item_at(items, c),
-        Kind::Scalar(_) => c,
-        Kind::String => item_at(items, c),
-    }
-}
 
-// Puts a term of a register behind the first n.
-fn put_term(
-    h: &[u8],
-    items: &[u16],
-    table: &[u16],
-    f: u16,
-    groups: &mut [u8],
-    codes: &mut [u64],
-    n: u16,
-) -> u16
-    ensures { TermsPut groups.old codes.old n (new_term h.now items.now table.now f ∷ []) groups.new codes.new result }
-{
-    let g = group_at(h, f);
-    put(groups, usize::from(n), new_group(h, items, table, g));
-    put(codes, usize::from(n), new_code(h, items, g, code_at(h, f)));
-    next(n)
-}
-
-// Puts the terms of a register behind the first n; answers how many there are.
-pub fn put_terms(
-    h: &[u8],
-    items: &[u16],
-    table: &[u16],
-    groups: &mut [u8],
-    codes: &mut [u64],
-    from: u16,
-) -> u16
-    ensures { TermsPut groups.old codes.old from (tabulate (term_count h.now) (new_term h.now items.now table.now)) groups.new codes.new result }
-{
-    let most = term_count(h);
-    let mut n = from;
-    let mut f: u16 = 0;
-    while f < most {
-        n = put_term(h, items, table, f, groups, codes, n);
-        f += 1;
+    // The code of a term, with the item of its text.
+    fn new_code(self, g: u8, c: u64) -> u64
+        ensures { result ≡ new_code self.entry.held.now self.entry.items.now g c }
+    {
+        if g == 0 {
+            return self.item_at(c);
+        }
+        match kind_at(self.held, property_of(g)) {
+            Kind::Page | Kind::String => self.item_at(c),
+            Kind::Scalar(_) => c,
+        }
     }
-    n
+
+    // Puts term f of the register behind the first n.
+    fn put_term(self, table: &[u16], f: u16, groups: &mut [u8], codes: &mut [u64], n: u16) -> u16
+        ensures { TermsPut groups.old codes.old n (new_term self.entry.held.now self.entry.items.now table.now f ∷ []) groups.new codes.new result }
+    {
+        let g = group_at(self.held, f);
+        put(groups, usize::from(n), self.new_group(table, g));
+        put(
+            codes,
+            usize::from(n),
+            self.new_code(g, code_at(self.held, f)),
+        );
+        next(n)
+    }
+
+    // Puts the terms of the register behind the first n; answers how many there are.
+    pub fn put_terms(self, table: &[u16], groups: &mut [u8], codes: &mut [u64], from: u16) -> u16
+        ensures { TermsPut groups.old codes.old from (tabulate (term_count self.entry.held.now) (new_term self.entry.held.now self.entry.items.now table.now)) groups.new codes.new result }
+    {
+        let mut n = from;
+        for f in 0..term_count(self.held) {
+            n = self.put_term(table, f, groups, codes, n);
+        }
+        n
+    }
 }
 
 // The place of term f of a register whose terms stand behind so many others.
 fn place_behind(base: u16, f: u16) -> u16
     ensures { result ≡ (base + f) % 65536 }
 {
-    narrow(usize::from(base) + usize::from(f))
+    base.wrapping_add(f)
 }
 
 // Puts the forms from first up to end, by the places of their terms, each where there is room; answers how many there are.
@@ -109,11 +96,9 @@ fn put_each(h: &[u8], base: u16, first: u16, end: u16, uses: &mut [u16], from: u
     ensures { NumbersPut uses.old from (behind base (tabulate (end - first) (λ j. form_at h.now (first + j)))) uses.new result }
 {
     let mut n = from;
-    let mut j = first;
-    while j < end {
+    for j in first..end {
         put(uses, usize::from(n), place_behind(base, form_at(h, j)));
         n = next(n);
-        j += 1;
     }
     n
 }
@@ -129,31 +114,23 @@ fn pair(low: u8, high: u8) -> u16
 fn lies_within(end: usize, most: usize, last: usize, room: usize) -> bool
     ensures { result ≡ true → (end ≤ most) × (last ≤ room) × (last < 65536) }
 {
-    if most < end {
-        return false;
-    }
-    if room < last {
-        return false;
-    }
-    last < 65536
+    (end <= most) & (last <= room) & (last < 65536)
 }
 
 // The same. Where all are there, with room for all, that is asked once, and a compiler takes many at a time.
 fn put_forms(h: &[u8], base: u16, first: u16, end: u16, uses: &mut [u16], from: u16) -> u16
     ensures { NumbersPut uses.old from (behind base (tabulate (end - first) (λ j. form_at h.now (first + j)))) uses.new result }
 {
-    let k = usize::from(minus(end, first));
-    let at = layout::FORMS + 2 * usize::from(first);
+    let k = usize::from(end.saturating_sub(first));
+    let at = usize::from(layout::FORMS) + 2 * usize::from(first);
     let to = usize::from(from);
     if !lies_within(at + 2 * k, h.len(), to + k, uses.len()) {
         return put_each(h, base, first, end, uses, from);
     }
-    let mut i: usize = 0;
-    while i < k {
+    for i in 0..k {
         uses[to + i] = place_behind(base, pair(h[at + 2 * i], h[at + 2 * i + 1]));
-        i += 1;
     }
-    narrow(to + i)
+    narrow(to + k)
 }
 
 // Puts the forms of the page in a place, which is given 1 more; none for 0.

@@ -11,7 +11,7 @@ use Rattle.buffer.specs.Writing.{written}
 use Rattle.buffer.proofs.Written.{length_written}
 use Rattle.buffer.proofs.Copied.{placed}
 use Rattle.register_join_merge.proofs.Stored.{pasted_is}
-use lib.ListN.{length, get_or, set, take, drop}
+use lib.ListN.{length, set, take, drop}
 use lib.Seq.{sets-eq, take-length}
 use borrow.Author.Tests.{le-leb, lt-leb}
 use Rattle.text.specs.Bytes.{Bytes, order_of}

@@ -7,8 +7,8 @@ ghost use Rattle.register_join_merge.specs.Merging.{next_order, takes_first, tak
 
 use dictionary::Texts;
 use register_form::{layout, text_at, text_count};
-use tables::{narrow, narrow_start, next, put};
 use std::cmp::Ordering;
+use tables::{narrow, narrow_start, next, put};
 use text::compare;
 
 // How the next texts stand to one another; a register with no text left stands behind.

@@ -7,8 +7,5 @@ loop-j-init c = forms_none _ _ _ _ _ _
 pub loop-j-preserved : goal.loop-j-preserved
 loop-j-preserved c = forms_next _ _ _ _ _ _ _ _ _ _ _ _ _ _ c.loop-j.invariant c.loop-j-test.true c.from.ensures c.form_at.ensures c.place_behind.ensures c.put.ensures c.next-n.ensures
 
-pub shape_of-uses : goal.shape_of-uses
-shape_of-uses c = c.loop-j.invariant.forms.size
-
 pub returns : goal.returns
 returns c = forms_all _ _ _ _ _ _ _ _ _ c.loop-j.invariant c.loop-j-test.false

@@ -1,6 +1,6 @@
 use Rattle.register_join_draft.proofs.Clashing.{clashing}
 use borrow.Author.Rules.{rules}
-use Rattle.register_join_draft.proofs.clashes.Goals as goal
+use Rattle.register_join_draft.proofs.Side.clashes.Goals as goal
 
 pub returns-then-place-eq0 : goal.returns-then-place-eq0
 returns-then-place-eq0 c = search (clashing, rules)

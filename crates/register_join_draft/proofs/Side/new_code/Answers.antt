@@ -1,6 +1,6 @@
 use borrow.Author.Rules.{rules}
 use Rattle.register_join_draft.proofs.Ways.{drafting}
-use Rattle.register_join_draft.proofs.forms.new_code.Goals as goal
+use Rattle.register_join_draft.proofs.Side.new_code.Goals as goal
 
 pub returns-then-g-eq0 : goal.returns-then-g-eq0
 returns-then-g-eq0 c = search (drafting, rules)
@@ -10,6 +10,3 @@ returns-in-Page c = search (drafting, rules)
 
 pub returns-in-Scalar : goal.returns-in-Scalar
 returns-in-Scalar c = search (drafting, rules)
-
-pub returns-in-String : goal.returns-in-String
-returns-in-String c = search (drafting, rules)
