@@ -1,19 +1,23 @@
 -- The ways through the join call.
-use Rattle.std.specs.Prelude.{Some, None}
+use Rattle.std.specs.Prelude.{Some, None, Result, Err}
 use Prim.Native.Nat.{ℕ, ◌<◌}
 use mathlib.Core.Path.{◌≡◌, refl, sym, ap, ◌∙◌}
 use mathlib.Core.Bool.{Bool, true, false, not, cond}
-use mathlib.Core.List.{List}
+use mathlib.Core.Logic.{◌⊎◌, inl, inr}
+use mathlib.Core.List.{List, ◌++◌}
 use native.Mathlib.Omega.{arith}
-use lib.ListN.{length, get_or, replicate, length-replicate}
+use lib.Dec.{ltb}
+use lib.ListN.{length, drop, get_or, replicate, length-replicate}
 use Rattle.text.specs.Bytes.{Bytes, part}
 use Rattle.text.specs.Table.{tabulate}
-use Rattle.language.specs.Answer.{refused, Answered}
+use Rattle.language.specs.Answer.{refused, accepted, number_of, Answered}
+use Rattle.language.specs.Refusals as refusals
+use Rattle.language.specs.declared.refusals.Refusal.{Refusal}
 use Rattle.language.specs.Register.{Register}
 use Rattle.language.specs.Rules.{is_within_limits}
 use Rattle.language.specs.Joining.{join, kinds_clash}
 use Rattle.dictionary.specs.Items.{text_at}
-use Rattle.register_form.specs.Form.{stored, dictionary_in, register_in, is_form, held_register}
+use Rattle.register_form.specs.Form.{register_size, form_of, stored, placed, dictionary_in, register_in, is_form, held_register}
 use Rattle.register_form.specs.Formed.{Formed}
 use Rattle.register_form.specs.Draft.{write_into}
 use Rattle.register_form.specs.Tables.{tables_of}
@@ -25,7 +29,7 @@ use Rattle.register_join_draft.specs.Drafting.{items_in, TableRoom, JoinPut, Cla
 use Rattle.register_join_draft.proofs.Whole.{held_draft, held_drafted, held_texts, held_terms}
 use Rattle.call_answers.specs.Calls.{joined, join_call}
 use Rattle.call_answers.proofs.Answers.{as_told}
-use Rattle.call_join.specs.Stages.{Joins, Writes}
+use Rattle.call_join.specs.Stages.{Joins, Writes, WritingNumber}
 
 -- Tables of zeros have room.
 zeros_many : (n : ℕ) → length (replicate {A = ℕ} n 0) ≡ n
@@ -62,17 +66,26 @@ joined_clear R S b e = rw e (go (is_within_limits (join R S)))
     go true = refl
     go false = refl
 
+writing_number : (R : Register) (b : Bytes) (n : ℕ) → n ≡ number_of (write_into R b) → WritingNumber n
+unfolding write_into stored placed
+writing_number R b n e = go (is_within_limits R) (ltb (length b) register_size) e
+  where
+    go : (p q : Bool) → n ≡ number_of (cond p (cond q (refused 8) (accepted (form_of R ++ drop register_size b))) (refused 7)) → WritingNumber n
+    go false q e = inr (inl e)
+    go true true e = inr (inr e)
+    go true false e = inl e
+
 module _ (h g b : Bytes) where
   joined_clash : kinds_clash (register_in h) (register_in g) ≡ true → Answered (joined (register_in h) (register_in g) b) b 32 b
   unfolding joined
   joined_clash e = record { number = rw e; bytes = rw e }
 
   -- The draft of the join, written.
-  pub join_written : (heap : Bytes) (starts lens items1 items2 : List ℕ) (m : ℕ) (ks ns is fs us gs cs : List ℕ) (np ng nt r : ℕ) (after : Bytes)
+  pub join_written : (heap : Bytes) (starts lens items1 items2 : List ℕ) (m : ℕ) (ks ns is fs us gs cs : List ℕ) (np ng nt number : ℕ) (after : Bytes) (r : Result (Unit {0}) Refusal)
       → JoinPut h g items1 items2 (replicate 128 0) (replicate 128 0) (replicate 512 0) (replicate 513 0) (replicate 4096 0) (replicate 4096 0) (replicate 4096 0) ks ns is fs us gs cs np ng nt
-      → OrderedWritten (tables_of heap starts lens m ks ns np is fs ng us gs cs nt) b r after
+      → OrderedWritten (tables_of heap starts lens m ks ns np is fs ng us gs cs nt) b number after → (WritingNumber number → refusals.number_of r ≡ number)
       → Writes h g heap starts lens m items1 items2 b r after
-  join_written heap starts lens items1 items2 m ks ns is fs us gs cs np ng nt r after put w =
+  join_written heap starts lens items1 items2 m ks ns is fs us gs cs np ng nt number after r put w same =
       record {
         is = λ fh fg merged clear.
             let T = tables_of heap starts lens m ks ns np is fs ng us gs cs nt in
@@ -82,7 +95,9 @@ module _ (h g b : Bytes) where
             } in
             let draft = held_draft h g heap starts lens items1 items2 m fh fg merged clear (replicate 128 0) (replicate 128 0) (replicate 512 0) (replicate 513 0) (replicate 4096 0) (replicate 4096 0) (replicate 4096 0) ks ns is fs us gs cs np ng nt put zeros_space in
             let told = held_drafted h g heap starts lens items1 items2 m fh fg merged clear (replicate 128 0) (replicate 128 0) (replicate 512 0) (replicate 513 0) (replicate 4096 0) (replicate 4096 0) (replicate 4096 0) ks ns is fs us gs cs np ng nt put zeros_space in
-            as_told (joined_clear (register_in h) (register_in g) b clear ∙ ap (λ (R : Register). write_into R b) (sym told)) (w.is draft room merged.up);
+            let answer = w.is draft room merged.up in
+            let known = as_told (joined_clear (register_in h) (register_in g) b clear ∙ ap (λ (R : Register). write_into R b) (sym told)) answer in
+            record { number = same (writing_number _ b number answer.number) ∙ known.number; bytes = known.bytes };
       }
 
   -- Two forms: their texts are merged, and the kinds clash or do not.
@@ -95,10 +110,10 @@ module _ (h g b : Bytes) where
       clash_is : Formed h → Formed g → clash ≡ kinds_clash (register_in h) (register_in g)
       clash_is fh fg = told.is fh fg (tabulate m (text_at heap starts lens)) (merged fh fg)
 
-      pub forms_clash : clash ≡ true → Joins h g b 32 b
+      pub forms_clash : clash ≡ true → Joins h g b (Err Refusal.KindsClash) b
       forms_clash e = record { is = λ fh fg. joined_clash (sym (clash_is fh fg) ∙ e) }
 
-      pub forms_joined : (r : ℕ) (after : Bytes) → clash ≡ false → Writes h g heap starts lens m items1 items2 b r after → Joins h g b r after
+      pub forms_joined : (r : Result (Unit {0}) Refusal) (after : Bytes) → clash ≡ false → Writes h g heap starts lens m items1 items2 b r after → Joins h g b r after
       forms_joined r after e w = record { is = λ fh fg. w.is fh fg (merged fh fg) (sym (clash_is fh fg) ∙ e) }
 
 -- One of the inputs is none, or both are.
@@ -112,9 +127,9 @@ module _ (first second b : Bytes) where
   join_no_second R e f = record { number = rw (e, f); bytes = rw (e, f) }
 
   -- h and g are the first bytes of the inputs
-  pub join_both : (h g : Bytes) (n r : ℕ) (after : Bytes) → held_register first ≡ Some (register_in h) → held_register second ≡ Some (register_in g)
+  pub join_both : (h g : Bytes) (n : ℕ) (r : Result (Unit {0}) Refusal) (after : Bytes) → held_register first ≡ Some (register_in h) → held_register second ≡ Some (register_in g)
       → is_form h ≡ true → is_form g ≡ true → h ≡ part first 0 n → g ≡ part second 0 n → ((i : ℕ) → get_or first i 0 < 256) → ((i : ℕ) → get_or second i 0 < 256)
-      → Joins h g b r after → Answered (join_call first second b) b r after
+      → Joins h g b r after → Answered (join_call first second b) b (refusals.number_of r) after
   unfolding join_call
   join_both h g n r after e f ih ig eh eg s1 s2 w =
       let fh = form_formed h (λ i. rw eh (part_bytes first s1 0 n i)) ih in

@@ -1,106 +1,97 @@
 // The join call: joins two held registers.
 #![tactic(auto)]
 
+ghost use Rattle.std.specs.Prelude.{◌≡◌};
 ghost use Rattle.language.specs.Answer.{Answered};
+ghost use Rattle.language.specs.Refusals.{number_of};
 ghost use Rattle.call_answers.specs.Calls.{join_call};
-ghost use Rattle.call_join.specs.Stages.{Joins, Writes};
+ghost use Rattle.call_join.specs.Stages.{Joins, Writes, WritingNumber};
 
+use language::Refusal;
 use register_form::{REGISTER_BYTES, layout};
 use register_form_test::open;
 use register_form_write::write_ordered;
-use register_join_draft::{draft_join, kinds_clash};
-use register_join_merge::merge;
+use register_join_draft::{DraftTables, Side, draft_join, kinds_clash};
+use register_join_merge::{Heap, merge};
 use text::part;
 
-// Writes the join of two forms, the texts of both being items of the heap: 0, or 7, or 8.
-fn write_join(
-    h: &[u8],
-    g: &[u8],
-    heap: &[u8],
-    starts: &[u32],
-    lens: &[u16],
-    m: u16,
-    items1: &[u16],
-    items2: &[u16],
-    held: &mut [u8],
-) -> usize
-    ensures { Writes h.now g.now heap.now starts.now lens.now m items1.now items2.now held.old result held.new }
+// What the number of writing a draft says.
+fn refused(number: usize) -> Result<(), Refusal>
+    ensures { WritingNumber number → number_of result ≡ number }
 {
-    let mut kinds = [0u8; layout::DRAFT_PROPERTIES];
-    let mut names = [0u16; layout::DRAFT_PROPERTIES];
-    let mut identifiers = [0u16; layout::DRAFT_PAGES];
-    let mut firsts = [0u16; layout::DRAFT_PAGE_STARTS];
-    let mut uses = [0u16; layout::DRAFT_FORMS];
-    let mut groups = [0u8; layout::DRAFT_FORMS];
-    let mut codes = [0u64; layout::DRAFT_FORMS];
-    let c = draft_join(
-        h,
-        g,
-        items1,
-        items2,
-        &mut kinds,
-        &mut names,
-        &mut identifiers,
-        &mut firsts,
-        &mut uses,
-        &mut groups,
-        &mut codes,
-    );
-    write_ordered(
-        heap,
-        starts,
-        lens,
-        m,
-        &kinds,
-        &names,
-        c.properties,
-        &identifiers,
-        &firsts,
-        c.pages,
-        &uses,
-        &groups,
-        &codes,
-        c.terms,
-        held,
-    )
+    match number {
+        0 => Ok(()),
+        7 => Err(Refusal::OverLimit),
+        _ => Err(Refusal::RegisterTooShort),
+    }
 }
 
-// Joins two forms: 0, or the lowest in order of 32, 7, 8.
-fn join_forms<'a>(h: &'a [u8], g: &'a [u8], held: &mut [u8]) -> usize
+// Writes the join of two forms, the m texts of both being items of the heap: refusal 7 or 8.
+fn write_join(
+    first: Side,
+    second: Side,
+    heap: &Heap,
+    m: u16,
+    held: &mut [u8],
+) -> Result<(), Refusal>
+    ensures { Writes first.entry.held.now second.entry.held.now heap.now.bytes heap.now.starts heap.now.lens m first.entry.items.now second.entry.items.now held.old result held.new }
+{
+    let mut draft = DraftTables::new();
+    draft_join(first, second, &mut draft);
+    let number = write_ordered(
+        &heap.bytes,
+        &heap.starts,
+        &heap.lens,
+        m,
+        &draft.kinds,
+        &draft.names,
+        draft.property_count,
+        &draft.identifiers,
+        &draft.firsts,
+        draft.page_count,
+        &draft.uses,
+        &draft.groups,
+        &draft.codes,
+        draft.term_count,
+        held,
+    );
+    refused(number)
+}
+
+// Joins two forms, or answers the lowest refusal in order of 32, 7, 8.
+fn join_forms<'a>(h: &'a [u8], g: &'a [u8], held: &mut [u8]) -> Result<(), Refusal>
     ensures { Joins h.now g.now held.old result held.new }
 {
-    let mut heap = [0u8; layout::DRAFT_TEXT_BYTES];
-    let mut starts = [0u32; layout::DRAFT_TEXTS];
-    let mut lens = [0u16; layout::DRAFT_TEXTS];
+    let mut heap = Heap::new();
     let mut items1 = [0u16; layout::TEXT_ROOM];
     let mut items2 = [0u16; layout::TEXT_ROOM];
-    let m = merge(
-        h,
-        g,
-        &mut heap,
-        &mut starts,
-        &mut lens,
-        &mut items1,
-        &mut items2,
-    );
-    if kinds_clash(h, g, &items1, &items2) {
-        return 32;
+    let m = merge(h, g, &mut heap, &mut items1, &mut items2);
+    let first = Side {
+        held: h,
+        items: &items1,
+    };
+    let second = Side {
+        held: g,
+        items: &items2,
+    };
+    if kinds_clash(first, second) {
+        return Err(Refusal::KindsClash);
     }
-    write_join(h, g, &heap, &starts, &lens, m, &items1, &items2, held)
+    write_join(first, second, &heap, m, held)
 }
 
-// The join call: writes the join of two held registers, or answers the number that refuses it.
-pub fn join<'a>(first: &'a [u8], second: &'a [u8], held: &mut [u8]) -> usize
-    ensures { Answered (join_call first.now second.now held.old) held.old result held.new }
+// The join call: writes the join of two held registers, or answers what refuses it.
+pub fn join<'a>(first: &'a [u8], second: &'a [u8], held: &mut [u8]) -> Result<(), Refusal>
+    ensures { Answered (join_call first.now second.now held.old) held.old (number_of result) held.new }
 {
     let h = part(first, 0, REGISTER_BYTES);
     let g = part(second, 0, REGISTER_BYTES);
     let mut places = [0u16; layout::TEXT_ROOM];
     if !open(h, &mut places) {
-        return 22;
+        return Err(Refusal::NoAskedRegister);
     }
     if !open(g, &mut places) {
-        return 22;
+        return Err(Refusal::NoAskedRegister);
     }
     join_forms(h, g, held)
 }

@@ -1,7 +1,7 @@
 // The draft of the join of two held registers, in tables.
 #![tactic(auto)]
 
-ghost use Rattle.std.specs.Prelude.{◌≡◌};
+ghost use Rattle.std.specs.Prelude.{◌≡◌, replicate};
 ghost use Rattle.register_form.specs.Form.{page_count, property_count};
 ghost use Rattle.register_join_draft.specs.Drafting.{items_in, Entering, PropertiesPut, IdentifiersPut, new_row, PagesPut, JoinPut, clashes_at, some_clash, Clashed};
 
@@ -22,6 +22,7 @@ pub struct Side<'a> {
 
 // The tables of a draft, with room for the rows of two registers: properties by kinds and names, pages by identifiers and the places
 // where their forms begin, forms by their terms, terms by groups and codes; and how many properties, pages and terms there are.
+#[derive(Drop)]
 pub struct DraftTables {
     pub kinds: [u8; layout::DRAFT_PROPERTIES],
     pub names: [u16; layout::DRAFT_PROPERTIES],
@@ -33,6 +34,32 @@ pub struct DraftTables {
     pub groups: [u8; layout::DRAFT_FORMS],
     pub codes: [u64; layout::DRAFT_FORMS],
     pub term_count: u16,
+}
+
+impl DraftTables {
+    // Nothing yet.
+    pub fn new() -> DraftTables
+        ensures kinds { result.kinds ≡ replicate 128 0 }
+        ensures names { result.names ≡ replicate 128 0 }
+        ensures identifiers { result.identifiers ≡ replicate 512 0 }
+        ensures firsts { result.firsts ≡ replicate 513 0 }
+        ensures uses { result.uses ≡ replicate 4096 0 }
+        ensures groups { result.groups ≡ replicate 4096 0 }
+        ensures codes { result.codes ≡ replicate 4096 0 }
+    {
+        DraftTables {
+            kinds: [0; layout::DRAFT_PROPERTIES],
+            names: [0; layout::DRAFT_PROPERTIES],
+            property_count: 0,
+            identifiers: [0; layout::DRAFT_PAGES],
+            firsts: [0; layout::DRAFT_PAGE_STARTS],
+            page_count: 0,
+            uses: [0; layout::DRAFT_FORMS],
+            groups: [0; layout::DRAFT_FORMS],
+            codes: [0; layout::DRAFT_FORMS],
+            term_count: 0,
+        }
+    }
 }
 
 // Puts x behind the first n of a list, unless the table has a place for it; answers how many there are.
@@ -137,11 +164,8 @@ fn put_pages(
     for i in 0..m {
         put(firsts, usize::from(i), n);
         n = put_page(h, 0, i + 1, uses, n);
-        let place = get_or(
-            pages,
-            usize::from(get_or(identifiers, usize::from(i), 0)),
-            0,
-        );
+        let at = usize::from(get_or(identifiers, usize::from(i), 0));
+        let place = get_or(pages, at, 0);
         n = put_page(g, base, place, uses, n);
     }
     put(firsts, usize::from(m), n);

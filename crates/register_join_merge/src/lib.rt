@@ -63,6 +63,7 @@ fn put_text(heap: &mut [u8], at: usize, t: &[u8]) -> usize
 }
 
 // The texts of two registers as items, one behind the other in a heap that has room for both.
+#[derive(Drop)]
 pub struct Heap {
     pub bytes: [u8; layout::DRAFT_TEXT_BYTES],
     pub starts: [u32; layout::DRAFT_TEXTS],

@@ -2,4 +2,7 @@ use Rattle.call_join.proofs.Calls.{join_written}
 use Rattle.call_join.proofs.write_join.Goals as goal
 
 pub returns : goal.returns
-returns c = join_written _ _ _ _ _ _ _ _ _ _ _ _ _ _ _ _ _ _ _ _ _ c.draft_join-c.ensures c.write_ordered.ensures
+returns c =
+    let z = c.new-draft.ensures in
+    let put = rw (z.kinds, z.names, z.identifiers, z.firsts, z.uses, z.groups, z.codes) at c.draft_join.ensures in
+    join_written _ _ _ _ _ _ _ _ _ _ _ _ _ _ _ _ _ _ _ _ _ _ put c.write_ordered-number.ensures c.refused.ensures
