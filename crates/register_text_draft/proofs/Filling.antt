@@ -28,7 +28,7 @@ use Rattle.register_form.specs.Form.{joined}
 use Rattle.buffer.specs.Writing as Buffers
 use Rattle.buffer.proofs.Parts.{part_before}
 use Rattle.buffer.proofs.Written.{length_written, byte_before}
-use Rattle.register_text_draft.specs.declared.Ends.{Ends}
+use Rattle.register_text_draft.specs.declared.TextTable.{TextTable}
 use Rattle.register_text_draft.specs.Sizes.{Spaced}
 use Rattle.register_text_draft.specs.Tables.{Copied, Ended, Lies, Texts, Pushed}
 use Rattle.register_text_draft.proofs.Bounds.{length_labelled, joined_more}
@@ -95,38 +95,41 @@ module _ (heap : List ℕ) (at : ℕ) (space name : Bytes) (h1 h2 h3 : List ℕ)
         ∙ rw (second, first, append_assoc (take at heap) (length space ∷ []) space, append_assoc (take at heap) (length space ∷ space) name)
 
 -- A text ended.
-pub ended : (starts lens : List ℕ) (m at a b i x : ℕ) → i ≡ m → x ≡ at → (s : List ℕ) → s ≡ set starts i x → (j w : ℕ) → j ≡ m → w ≡ (1 + a + b) % 65536 → (n : List ℕ) → n ≡ set lens j w
-    → (texts first bytes : ℕ) → texts ≡ (m + 1) % 65536 → first ≡ at → bytes ≡ (first + 1 + a + b) % 65536 → Ended starts lens m at a b s n (record { texts = texts; bytes = bytes })
-ended starts lens m at a b i x ei ex s es j w ej ew n en texts first bytes et ef eb =
-    record { start = es ∙ ap₂ (set starts) ei ex; len = en ∙ ap₂ (set lens) ej ew; texts = et; bytes = rw (← ef) eb }
+pub ended : (t : TextTable) (a b i x : ℕ) → i ≡ t.count → x ≡ t.end → (s : List ℕ) → s ≡ set t.starts i x → (w : ℕ) → w ≡ (1 + a + b) % 65536 → (n : List ℕ) → n ≡ set t.lens i w
+    → (count first end : ℕ) → count ≡ (t.count + 1) % 65536 → first ≡ t.end → end ≡ (first + 1 + a + b) % 65536 → Ended t a b (record { heap = t.heap; starts = s; lens = n; count = count; end = end })
+ended t a b i x ei ex s es w ew n en count first end ec ef ee =
+    record { heap = refl; start = es ∙ ap₂ (set t.starts) ei ex; len = en ∙ ap₂ (set t.lens) ei ew; texts = ec; bytes = rw (← ef) ee }
 
 -- The numbers that are written are those meant, where they fit.
-module _ (heap starts lens : List ℕ) (m at : ℕ) (space name : Bytes)
-    (first : ℕ) (ef : first ≡ at) (a₀ a b₀ b : ℕ) (ea₀ : a₀ ≡ length space % 65536) (ea : a ≡ a₀) (eb₀ : b₀ ≡ length name % 65536) (eb : b ≡ b₀)
-    (v : ℕ) (ev : v ≡ a % 256) (h1 h2 h3 : List ℕ) (e : h1 ≡ set heap first v) (f : Copied h1 (first + 1) space h2) (g : Copied h2 (first + 1 + a) name h3)
-    (s n : List ℕ) (r : Ends) (z : Ended starts lens m at a b s n r)
+abbrev with_heap : TextTable → List ℕ → TextTable
+with_heap t h = record { heap = h; starts = t.starts; lens = t.lens; count = t.count; end = t.end }
+
+module _ (t : TextTable) (space name : Bytes)
+    (first : ℕ) (ef : first ≡ t.end) (a₀ a b₀ b : ℕ) (ea₀ : a₀ ≡ length space % 65536) (ea : a ≡ a₀) (eb₀ : b₀ ≡ length name % 65536) (eb : b ≡ b₀)
+    (v : ℕ) (ev : v ≡ a % 256) (h1 h2 h3 : List ℕ) (e : h1 ≡ set t.heap first v) (f : Copied h1 (first + 1) space h2) (g : Copied h2 (first + 1 + a) name h3)
+    (u : TextTable) (z : Ended (with_heap t h3) a b u)
   where
-    pushed : length space ≤ 64 → (k : List Bytes) → Texts heap starts lens m at k → length (k ++ (labelled space name ∷ [])) ≤ 2368 → length (joined (k ++ (labelled space name ∷ []))) ≤ 35136
-        → Texts h3 s n r.texts r.bytes (k ++ (labelled space name ∷ []))
-    pushed short k t few fit =
+    pushed : length space ≤ 64 → (k : List Bytes) → Texts t.heap t.starts t.lens t.count t.end k → length (k ++ (labelled space name ∷ [])) ≤ 2368 → length (joined (k ++ (labelled space name ∷ []))) ≤ 35136
+        → Texts u.heap u.starts u.lens u.count u.end (k ++ (labelled space name ∷ []))
+    pushed short k x few fit =
         let y = labelled space name in
         let lz = length_labelled space name in
         let below : length k < 2368 = omega (arith, length-append k (y ∷ [])) in
-        let all : at + length y ≤ 35136 = omega (arith, ap length (joined_more k y), length-append (joined k) y, t.end) in
+        let all : t.end + length y ≤ 35136 = omega (arith, ap length (joined_more k y), length-append (joined k) y, x.end) in
         let qa : a ≡ length space = ea ∙ ea₀ ∙ mod-eq_of_lt (omega arith) in
         let qb : b ≡ length name = eb ∙ eb₀ ∙ mod-eq_of_lt (omega arith) in
         let qv : v ≡ length space = ev ∙ mod_is a (length space) 256 qa (omega arith) in
         let qw : (1 + a + b) % 65536 ≡ length y = mod_is (1 + a + b) (length y) 65536 (omega arith) (omega arith) in
-        let qm : r.texts ≡ m + 1 = z.texts ∙ mod-eq_of_lt (omega (arith, t.count)) in
-        let qe : r.bytes ≡ at + length y = z.bytes ∙ mod_is (at + 1 + a + b) (at + length y) 65536 (omega arith) (omega arith) in
-        let e' : h1 ≡ set heap at (length space) = e ∙ ap₂ (set heap) ef qv in
-        let f' : Copied h1 (at + 1) space h2 = subst (λ (i : ℕ). Copied h1 (i + 1) space h2) ef f in
-        let g' : Copied h2 (at + 1 + length space) name h3 = subst (λ (i : ℕ). Copied h2 (i + 1 + length space) name h3) ef (subst (λ (i : ℕ). Copied h2 (first + 1 + i) name h3) qa g) in
-        let n' : n ≡ set lens m (length y) = z.len ∙ ap (set lens m) qw in
-        let room : at + suc (length space + length name) ≤ length heap = omega (arith, t.heap_room) in
-        rw (qm, qe, z.start, n') (text_more heap starts lens m at k t y below h3 (written_size heap at space name h1 h2 h3 room e' f' g') (written heap at space name h1 h2 h3 room e' f' g'))
+        let qm : u.count ≡ t.count + 1 = z.texts ∙ mod-eq_of_lt (omega (arith, x.count)) in
+        let qe : u.end ≡ t.end + length y = z.bytes ∙ mod_is (t.end + 1 + a + b) (t.end + length y) 65536 (omega arith) (omega arith) in
+        let e' : h1 ≡ set t.heap t.end (length space) = e ∙ ap₂ (set t.heap) ef qv in
+        let f' : Copied h1 (t.end + 1) space h2 = subst (λ (i : ℕ). Copied h1 (i + 1) space h2) ef f in
+        let g' : Copied h2 (t.end + 1 + length space) name h3 = subst (λ (i : ℕ). Copied h2 (i + 1 + length space) name h3) ef (subst (λ (i : ℕ). Copied h2 (first + 1 + i) name h3) qa g) in
+        let n' : u.lens ≡ set t.lens t.count (length y) = z.len ∙ ap (set t.lens t.count) qw in
+        let room : t.end + suc (length space + length name) ≤ length t.heap = omega (arith, x.heap_room) in
+        rw (z.heap, qm, qe, z.start, n') (text_more t.heap t.starts t.lens t.count t.end k x y below h3 (written_size t.heap t.end space name h1 h2 h3 room e' f' g') (written t.heap t.end space name h1 h2 h3 room e' f' g'))
 
-    pub text_pushed : length space ≤ 64 → Pushed heap starts lens m at (labelled space name ∷ []) h3 s n r
+    pub text_pushed : length space ≤ 64 → Pushed t (labelled space name ∷ []) u
     text_pushed short = record { texts = pushed short }
 
 -- Names composed where they lie: the length before the first is written behind it.
@@ -140,22 +143,22 @@ written_copied b v b' at e =
           rw (e, sets-eq v b at l) (take_at (take at b ++ v) (drop (at + length v) b) (at + length v) (sym k));
     }
 
-module _ (heap starts lens : List ℕ) (m at : ℕ) (space name : Bytes)
-    (first : ℕ) (ef : first ≡ at) (x : ℕ) (h1 : List ℕ) (p : (x ≡ length (composed_name space)) × (h1 ≡ Buffers.written heap (first + 1) (composed_name space)))
+module _ (t : TextTable) (space name : Bytes)
+    (first : ℕ) (ef : first ≡ t.end) (x : ℕ) (h1 : List ℕ) (p : (x ≡ length (composed_name space)) × (h1 ≡ Buffers.written t.heap (first + 1) (composed_name space)))
     (a₀ a : ℕ) (ea₀ : a₀ ≡ x % 65536) (ea : a ≡ a₀) (v : ℕ) (ev : v ≡ a % 256) (h2 : List ℕ) (e : h2 ≡ set h1 first v)
     (y : ℕ) (h3 : List ℕ) (q : (y ≡ length (composed_name name)) × (h3 ≡ Buffers.written h2 (first + 1 + a) (composed_name name)))
-    (b₀ b : ℕ) (eb₀ : b₀ ≡ y % 65536) (eb : b ≡ b₀) (s n : List ℕ) (r : Ends) (z : Ended starts lens m at a b s n r)
+    (b₀ b : ℕ) (eb₀ : b₀ ≡ y % 65536) (eb : b ≡ b₀) (u : TextTable) (z : Ended (with_heap t h3) a b u)
   where
-    pub names_pushed : length (composed_name space) ≤ 64 → Pushed heap starts lens m at (labelled (composed_name space) (composed_name name) ∷ []) h3 s n r
+    pub names_pushed : length (composed_name space) ≤ 64 → Pushed t (labelled (composed_name space) (composed_name name) ∷ []) u
     names_pushed =
-        text_pushed heap starts lens m at (composed_name space) (composed_name name) first ef a₀ a b₀ b (ea₀ ∙ ap (λ (k : ℕ). k % 65536) p.0) ea (eb₀ ∙ ap (λ (k : ℕ). k % 65536) q.0) eb v ev (set heap first v) h2 h3 refl
-        (written_copied (set heap first v) (composed_name space) h2 (first + 1) (e ∙ ap (λ (h : Bytes). set h first v) p.1 ∙ byte_before (composed_name space) heap (first + 1) first v (omega arith)))
-        (written_copied h2 (composed_name name) h3 (first + 1 + a) q.1) s n r z
+        text_pushed t (composed_name space) (composed_name name) first ef a₀ a b₀ b (ea₀ ∙ ap (λ (k : ℕ). k % 65536) p.0) ea (eb₀ ∙ ap (λ (k : ℕ). k % 65536) q.0) eb v ev (set t.heap first v) h2 h3 refl
+        (written_copied (set t.heap first v) (composed_name space) h2 (first + 1) (e ∙ ap (λ (h : Bytes). set h first v) p.1 ∙ byte_before (composed_name space) t.heap (first + 1) first v (omega arith)))
+        (written_copied h2 (composed_name name) h3 (first + 1 + a) q.1) u z
 
 -- The text of a link, and of a value.
-module _ (heap starts lens : List ℕ) (m at : ℕ) (h s n : List ℕ) (r : Ends) where
+module _ (t u : TextTable) where
   abbrev Pushes : List Bytes → Type 0
-  Pushes l = Pushed heap starts lens m at l h s n r
+  Pushes l = Pushed t l u
 
   abbrev link_of : Bytes → Identifier
   link_of v = identifier (composed_reference (reference v))
@@ -199,10 +202,10 @@ no_texts : {A : Type 0} (f : A → Constant) (o : Option A) (w : Value) → ((a 
 no_texts f None w n h = absurd (let z : ◌≡◌ {A = ℕ} 0 1 = cc in omega arith)
 no_texts f (Some a) w n h = let is : plain (f a) ≡ w = cc in ap value_texts (sym is) ∙ n a
 
-module _ (heap starts lens : List ℕ) (m at : ℕ) (k : Kind) (v : Bytes) (w : Value) (e : read_value k v ≡ Some w) where
-  none_pushed : value_texts w ≡ [] → Pushed heap starts lens m at (value_texts w) heap starts lens (record { texts = m; bytes = at })
-  none_pushed n = record { texts = λ l t few fit. rw (n, append-nil l) t }
+module _ (t : TextTable) (k : Kind) (v : Bytes) (w : Value) (e : read_value k v ≡ Some w) where
+  none_pushed : value_texts w ≡ [] → Pushed t (value_texts w) t
+  none_pushed n = record { texts = λ l x few fit. rw (n, append-nil l) x }
 
-  pub value_scalar : (j : Scalar) → k ≡ Kind.Scalar j → Pushed heap starts lens m at (value_texts w) heap starts lens (record { texts = m; bytes = at })
+  pub value_scalar : (j : Scalar) → k ≡ Kind.Scalar j → Pushed t (value_texts w) t
   unfolding value_texts
   value_scalar j q = none_pushed (no_texts (scalar j) (read_scalar j v) w (λ c. refl) (rw q at e))

@@ -24,8 +24,11 @@ use Rattle.language.proofs.Members.{and_true}
 use Rattle.register_form.specs.Dictionary.{PropertyRow, PageRow, Dictionary, labelled, term_of}
 use Rattle.register_form.specs.Encoding.{plain_text, value_texts, place_among}
 use Rattle.register_form.specs.Form.{joined}
-use Rattle.register_text_draft.specs.declared.Counts.{Counts}
-use Rattle.register_text_draft.specs.declared.Ends.{Ends}
+use Rattle.register_text_draft.specs.declared.TextTable.{TextTable}
+use Rattle.register_text_draft.specs.declared.PropertyTable.{PropertyTable}
+use Rattle.register_text_draft.specs.declared.PageTable.{PageTable}
+use Rattle.register_text_draft.specs.declared.TermTable.{TermTable}
+use Rattle.register_text_draft.specs.declared.DraftTables.{DraftTables}
 use Rattle.register_text_draft.specs.Drafting.{code_in, with_value, added}
 use Rattle.register_text_draft.specs.Sizes.{Fits, Valued, Spaced}
 use Rattle.register_text_draft.specs.Lookup.{found_in, property_found, Lists}
@@ -37,82 +40,72 @@ use Rattle.register_text_draft.proofs.Terms.{stands}
 counted : {A : Type 0} (n : ℕ) (f : ℕ → A) (l : List A) → tabulate n f ≡ l → n ≡ length l
 counted n f l e = sym (length_tabulate n f) ∙ ap length e
 
-module _ (heap starts lens heap' starts' lens' : List ℕ) (c : Counts) (e : Ends) (l : List Bytes) (p : Pushed heap starts lens c.texts c.bytes l heap' starts' lens' e) where
-  -- The texts of a draft that fits.
-  texts_held : (k : List Bytes) → Texts heap starts lens c.texts c.bytes k → length (k ++ l) ≤ 2368 → length (joined (k ++ l)) ≤ 32768 + length (k ++ l) → Texts heap' starts' lens' e.texts e.bytes (k ++ l)
-  texts_held k t few fit = p.texts k t few (omega arith)
+module _ (t u : TextTable) (l : List Bytes) (p : Pushed t l u) (R : PropertyTable) (P : PageTable) (V : TermTable) where
+  abbrev A : DraftTables
+  A = record { texts = t; properties = R; pages = P; terms = V }
 
-  module _ (kinds names identifiers firsts groups codes : List ℕ) where
-    -- A value.
-    module _ (firsts' groups' codes' : List ℕ) (g n : ℕ) (q : FormsPushed firsts groups codes c.pages c.forms g n firsts' groups' codes') (f : ℕ) (ef : f ≡ (c.forms + 1) % 65536) where
-      pub value_added : (w : Value) → l ≡ value_texts w → n ≡ code_in c.texts w
-          → Extends (Holding heap starts lens kinds names identifiers firsts groups codes) (Holding heap' starts' lens' kinds names identifiers firsts' groups' codes') c
-          (record { texts = e.texts; bytes = e.bytes; properties = c.properties; pages = c.pages; forms = f }) (with_value g w)
-      value_added w el en = record { held = go }
+  -- The texts of a draft that fits.
+  texts_held : (k m : List Bytes) → l ≡ m → Texts t.heap t.starts t.lens t.count t.end k → length (k ++ m) ≤ 2368 → length (joined (k ++ m)) ≤ 32768 + length (k ++ m) → Texts u.heap u.starts u.lens u.count u.end (k ++ m)
+  texts_held k m e x few fit = subst (λ (n : List Bytes). Texts u.heap u.starts u.lens u.count u.end (k ++ n)) e (p.texts k x (rw e few) (rw e (omega arith)))
+
+  -- A value.
+  module _ (P' : PageTable) (V' : TermTable) (g n : ℕ) (q : FormsPushed P V g n P' V') where
+    pub value_added : (w : Value) → l ≡ value_texts w → n ≡ code_in t.count w → Extends A (record { texts = u; properties = R; pages = P'; terms = V' }) (with_value g w)
+    value_added w el en = record { held = go }
+      where
+        go : (d : Dictionary) → Fits (with_value g w d) → Holding A d → Holding (record { texts = u; properties = R; pages = P'; terms = V' }) (with_value g w d)
+        go d fit h =
+            let forms : V.count ≡ length d.terms = counted V.count (term_in V.groups V.codes) d.terms h.terms.rows in
+            let pages : P.count ≡ length d.pages = counted P.count (page_in P.identifiers P.firsts) d.pages h.pages.rows in
+            let more = length-append d.terms (term_of g (code_in (length d.texts) w) ∷ []) in
+            let below : V.count < 2048 = omega (arith, fit.terms) in
+            let code : n ≡ code_in (length d.texts) w = en ∙ ap (λ (m : ℕ). code_in m w) h.texts.count in
+            record {
+              texts = texts_held d.texts (value_texts w) el h.texts (omega (arith, fit.texts)) fit.bytes;
+              properties = h.properties;
+              pages = rw (← forms) (q.pages d.pages h.pages (omega (arith, fit.pages, length_last (length d.terms) d.pages)) below);
+              terms = rw (← code) (q.terms d.terms h.terms below);
+            }
+
+  -- A property.
+  module _ (k : Kind) (x : Bytes) (el : l ≡ plain_text x ∷ []) (R' : PropertyTable)
+      (q : (m : List PropertyRow) → Properties R.kinds R.names R.count m → R.count < 64 → Properties R'.kinds R'.names R'.count (m ++ (record { kind = k; name = t.count } ∷ [])))
+    where
+      pub property_added : (ps : List Property) → Extends A (record { texts = u; properties = R'; pages = P; terms = V }) (λ d. added ps d (prop x k))
+      unfolding added
+      property_added ps = record { held = go }
         where
-          go : (d : Dictionary) → Fits (with_value g w d) → Holding heap starts lens kinds names identifiers firsts groups codes c d
-              → Holding heap' starts' lens' kinds names identifiers firsts' groups' codes' (record { texts = e.texts; bytes = e.bytes; properties = c.properties; pages = c.pages; forms = f }) (with_value g w d)
+          go : (d : Dictionary) → Fits (added ps d (prop x k)) → Holding A d → Holding (record { texts = u; properties = R'; pages = P; terms = V }) (added ps d (prop x k))
           go d fit h =
-              let forms : c.forms ≡ length d.terms = counted c.forms (term_in groups codes) d.terms h.terms.rows in
-              let pages : c.pages ≡ length d.pages = counted c.pages (page_in identifiers firsts) d.pages h.pages.rows in
-              let more = length-append d.terms (term_of g (code_in (length d.texts) w) ∷ []) in
-              let below : c.forms < 2048 = omega (arith, fit.terms) in
-              let next : f ≡ c.forms + 1 = ef ∙ mod-eq_of_lt (omega arith) in
-              let code : n ≡ code_in (length d.texts) w = en ∙ ap (λ (m : ℕ). code_in m w) h.texts.count in
+              let count : R.count ≡ length d.properties = counted R.count (property_in R.kinds R.names) d.properties h.properties.rows in
+              let more = length-append d.properties (record { kind = k; name = length d.texts } ∷ []) in
+              let below : R.count < 64 = omega (arith, fit.properties) in
               record {
-                texts = subst (λ (k : List Bytes). Texts heap' starts' lens' e.texts e.bytes (d.texts ++ k)) el (texts_held d.texts h.texts (rw el (omega (arith, fit.texts))) (rw el fit.bytes));
-                properties = h.properties;
-                pages = rw (next, ← forms) (q.pages identifiers d.pages h.pages (omega (arith, fit.pages, length_last (length d.terms) d.pages)) below);
-                terms = rw (next, ← code) (q.terms d.terms h.terms below);
+                texts = texts_held d.texts (plain_text x ∷ []) el h.texts (omega (arith, fit.texts)) fit.bytes;
+                properties = rw (← h.texts.count) (q d.properties h.properties below);
+                pages = h.pages;
+                terms = h.terms;
               }
 
-    -- A property.
-    module _ (k : Kind) (x : Bytes) (el : l ≡ plain_text x ∷ []) (kinds' names' : List ℕ) (f : ℕ) (ef : f ≡ (c.properties + 1) % 65536)
-        (q : (m : List PropertyRow) → Properties kinds names c.properties m → c.properties < 64 → Properties kinds' names' (c.properties + 1) (m ++ (record { kind = k; name = c.texts } ∷ [])))
-      where
-        pub property_added : (ps : List Property)
-            → Extends (Holding heap starts lens kinds names identifiers firsts groups codes) (Holding heap' starts' lens' kinds' names' identifiers firsts groups codes) c
-            (record { texts = e.texts; bytes = e.bytes; properties = f; pages = c.pages; forms = c.forms }) (λ d. added ps d (prop x k))
-        unfolding added
-        property_added ps = record { held = go }
-          where
-            go : (d : Dictionary) → Fits (added ps d (prop x k)) → Holding heap starts lens kinds names identifiers firsts groups codes c d
-                → Holding heap' starts' lens' kinds' names' identifiers firsts groups codes (record { texts = e.texts; bytes = e.bytes; properties = f; pages = c.pages; forms = c.forms }) (added ps d (prop x k))
-            go d fit h =
-                let count : c.properties ≡ length d.properties = counted c.properties (property_in kinds names) d.properties h.properties.rows in
-                let more = length-append d.properties (record { kind = k; name = length d.texts } ∷ []) in
-                let below : c.properties < 64 = omega (arith, fit.properties) in
-                let next : f ≡ c.properties + 1 = ef ∙ mod-eq_of_lt (omega arith) in
-                record {
-                  texts = subst (λ (k : List Bytes). Texts heap' starts' lens' e.texts e.bytes (d.texts ++ k)) el (texts_held d.texts h.texts (rw el (omega (arith, fit.texts))) (rw el fit.bytes));
-                  properties = rw (next, ← h.texts.count) (q d.properties h.properties below);
-                  pages = h.pages;
-                  terms = h.terms;
-                }
-
-    -- A page.
-    module _ (n x : Bytes) (el : l ≡ labelled n x ∷ []) (identifiers' firsts' : List ℕ) (f : ℕ) (ef : f ≡ (c.pages + 1) % 65536)
-        (q : (m : List PageRow) → Pages identifiers firsts c.pages c.forms m → c.pages < 256 → Pages identifiers' firsts' (c.pages + 1) c.forms (m ++ (record { identifier = c.texts; forms = [] } ∷ [])))
-      where
-        pub page_added : (ps : List Property)
-            → Extends (Holding heap starts lens kinds names identifiers firsts groups codes) (Holding heap' starts' lens' kinds names identifiers' firsts' groups codes) c
-            (record { texts = e.texts; bytes = e.bytes; properties = c.properties; pages = f; forms = c.forms }) (λ d. added ps d (page n x))
-        unfolding added
-        page_added ps = record { held = go }
-          where
-            go : (d : Dictionary) → Fits (added ps d (page n x)) → Holding heap starts lens kinds names identifiers firsts groups codes c d
-                → Holding heap' starts' lens' kinds names identifiers' firsts' groups codes (record { texts = e.texts; bytes = e.bytes; properties = c.properties; pages = f; forms = c.forms }) (added ps d (page n x))
-            go d fit h =
-                let count : c.pages ≡ length d.pages = counted c.pages (page_in identifiers firsts) d.pages h.pages.rows in
-                let more = length-append d.pages (record { identifier = length d.texts; forms = [] } ∷ []) in
-                let below : c.pages < 256 = omega (arith, fit.pages) in
-                let next : f ≡ c.pages + 1 = ef ∙ mod-eq_of_lt (omega arith) in
-                record {
-                  texts = subst (λ (k : List Bytes). Texts heap' starts' lens' e.texts e.bytes (d.texts ++ k)) el (texts_held d.texts h.texts (rw el (omega (arith, fit.texts))) (rw el fit.bytes));
-                  properties = h.properties;
-                  pages = rw (next, ← h.texts.count) (q d.pages h.pages below);
-                  terms = h.terms;
-                }
+  -- A page.
+  module _ (n x : Bytes) (el : l ≡ labelled n x ∷ []) (P' : PageTable)
+      (q : (m : List PageRow) → Pages P.identifiers P.firsts P.count V.count m → P.count < 256 → Pages P'.identifiers P'.firsts P'.count V.count (m ++ (record { identifier = t.count; forms = [] } ∷ [])))
+    where
+      pub page_added : (ps : List Property) → Extends A (record { texts = u; properties = R; pages = P'; terms = V }) (λ d. added ps d (page n x))
+      unfolding added
+      page_added ps = record { held = go }
+        where
+          go : (d : Dictionary) → Fits (added ps d (page n x)) → Holding A d → Holding (record { texts = u; properties = R; pages = P'; terms = V }) (added ps d (page n x))
+          go d fit h =
+              let count : P.count ≡ length d.pages = counted P.count (page_in P.identifiers P.firsts) d.pages h.pages.rows in
+              let more = length-append d.pages (record { identifier = length d.texts; forms = [] } ∷ []) in
+              let below : P.count < 256 = omega (arith, fit.pages) in
+              record {
+                texts = texts_held d.texts (labelled n x ∷ []) el h.texts (omega (arith, fit.texts)) fit.bytes;
+                properties = h.properties;
+                pages = rw (← h.texts.count) (q d.pages h.pages below);
+                terms = h.terms;
+              }
 
 -- A value under a property.
 spaced : (w : Value) → is_storable w ≡ true → Spaced w
@@ -153,12 +146,12 @@ module _ (s : Bytes) (t props : List ℕ) (np : ℕ) (x v : Bytes) (ps : List Pr
     unfolding value_of
     reads = let f : (kind_among ps x >>= λ k. read_value k v) ≡ Some q.value = q.read in let g : read_value (kind_of q.value) v ≡ Some q.value = rw q.kind at f in rw kind_is at g
 
-    pub val_added : (H K : Counts → Dictionary → Type 0) (c d : Counts) → ((w : Value) → read_value k v ≡ Some w → Spaced w → Extends H K c d (with_value g w)) → Extends H K c d (λ b. added ps b (val x v))
+    pub val_added : (B C : DraftTables) → ((w : Value) → read_value k v ≡ Some w → Spaced w → Extends B C (with_value g w)) → Extends B C (λ b. added ps b (val x v))
     unfolding added
-    val_added H K c d f =
+    val_added B C f =
         let a = f q.value reads (spaced q.value q.storable) in
         record {
           held = λ b fit h.
               let same : added ps b (val x v) ≡ with_value g q.value b = rw (q.read, group_is) in
-              subst (K d) (sym same) (a.held b (subst Fits same fit) h);
+              subst (Holding C) (sym same) (a.held b (subst Fits same fit) h);
         }

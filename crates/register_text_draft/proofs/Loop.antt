@@ -1,6 +1,6 @@
 -- The loop over the rows of an accepted text.
 use Rattle.std.specs.Prelude.{Result, Ok}
-use Prim.Native.Nat.{ℕ, suc, ◌+◌, ◌-◌, ◌≤◌, ◌<◌}
+use Prim.Native.Nat.{ℕ, suc, ◌+◌, ◌-◌, ◌<◌}
 use mathlib.Core.Path.{◌≡◌, refl, sym, ap, ◌∙◌, subst}
 use mathlib.Core.Bool.{Bool, true, false}
 use mathlib.Core.List.Memᴰ
@@ -29,14 +29,14 @@ use Rattle.register_text_verdict.proofs.Verdict.{verdict}
 use Rattle.register_form.specs.Dictionary.{PageRow, Dictionary}
 use Rattle.register_form.specs.Form.{joined}
 use Rattle.register_form.specs.Draft.{drafted, Draft}
-use Rattle.register_form.specs.Tables.{tables_of, between, forms_at, draft_in}
+use Rattle.register_form.specs.Tables.{between, forms_at, draft_in}
 use Rattle.register_form.proofs.Lists.{mem_at}
 use Rattle.buffer.proofs.Parts.{part_before}
-use Rattle.register_text_draft.specs.declared.Counts.{Counts}
+use Rattle.register_text_draft.specs.declared.DraftTables.{DraftTables}
 use Rattle.register_text_draft.specs.Drafting.{no_draft, added, draft_from, draft_of}
 use Rattle.register_text_draft.specs.Sizes.{Fits, Good}
 use Rattle.register_text_draft.specs.Lookup.{Lists}
-use Rattle.register_text_draft.specs.Tables.{Texts, page_in, Pages, Holding, Extends, Roomy, Accepted, Own}
+use Rattle.register_text_draft.specs.Tables.{Texts, page_in, Pages, Holding, Extends, Roomy, Accepted, Own, tables_in}
 use Rattle.register_text_draft.proofs.Growing.{draft_more}
 use Rattle.register_text_draft.proofs.Entries.{passed_good}
 use Rattle.register_text_draft.proofs.Bounds.{passed_fits}
@@ -104,13 +104,13 @@ module _ (s c : Bytes) (t props : List ℕ) (n np : ℕ) (a : Accepted s c t pro
     here : Memᴰ (entry_at c t i) L
     here = Memᴰ.cast (sym (rows_at c t n i close below)) (mem_at L i close (omega (arith, rows_length c t n)))
 
-    pub row_added : (H' K' : Counts → Dictionary → Type 0) (q r : Counts) (x : Item) → ((u : Bytes) → entry_in u x ≡ entry_at u t i)
-        → ((ps : List Property) → Lists c t props np ps → Good ps (entry_in c x) → Extends H' K' q r (λ d. added ps d (entry_in c x)))
-        → H' q (draft_of (properties L) (entries_in c t i)) → K' r (draft_of (properties L) (entries_in c t (i + 1)))
-    row_added H' K' q r x e f h =
+    pub row_added : (A B : DraftTables) (x : Item) → ((u : Bytes) → entry_in u x ≡ entry_at u t i)
+        → ((ps : List Property) → Lists c t props np ps → Good ps (entry_in c x) → Extends A B (λ d. added ps d (entry_in c x)))
+        → Holding A (draft_of (properties L) (entries_in c t i)) → Holding B (draft_of (properties L) (entries_in c t (i + 1)))
+    row_added A B x e f h =
         let good : Good (properties L) (entry_in c x) = subst (Good (properties L)) (sym (e c)) (passed_good s K L accepted_passed here) in
         let same : draft_of (properties L) (entries_in c t (i + 1)) ≡ added (properties L) (draft_of (properties L) (entries_in c t i)) (entry_in c x) = next_draft ∙ ap (added (properties L) (draft_of (properties L) (entries_in c t i))) (sym (e c)) in
-        subst (K' r) (sym same) ((f (properties L) accepted_lists good).held (draft_of (properties L) (entries_in c t i)) (subst Fits same next_fits) h)
+        subst (Holding B) (sym same) ((f (properties L) accepted_lists good).held (draft_of (properties L) (entries_in c t i)) (subst Fits same next_fits) h)
 
 -- From what judging rows answers.
 pub judged_accepted : (s c : Bytes) (t : List ℕ) (n : ℕ) (props pages : List ℕ) (r : Result Judged Refusal) (q : Judged) → Prepared s c t n → Judges s t n props pages r → r ≡ Ok q → Accepted s c t props n q.props
@@ -120,12 +120,21 @@ judged_accepted s c t n props pages r q p j e =
     record { answer = sym z; rows = p; properties = rw k j.index.properties }
 
 -- The tables at the start and at the end.
-module _ (heap starts lens kinds names identifiers firsts groups codes : List ℕ) where
-  pub holding_none : Roomy heap starts lens kinds names identifiers firsts groups codes → (v : List ℕ) → firsts ≡ set v 0 0 → (ps : List Property) (s : Bytes) (t : List ℕ)
-      → Holding heap starts lens kinds names identifiers firsts groups codes (record { texts = 0; bytes = 0; properties = 0; pages = 0; forms = 0 }) (draft_of ps (entries_in s t 0))
-  unfolding draft_of draft_from entries_in tabulate flat_map
-  holding_none r v e ps s t =
-      let zero-first : get_or firsts 0 0 ≡ 0 = rw e (get_or-set_same v 0 0 0 (omega (arith, r.firsts_room, ap length e, length-set v 0 0))) in
+module _ (t : DraftTables) (r : Roomy t) (v : List ℕ) (e : v ≡ set t.pages.firsts 0 0) where
+  abbrev empty : DraftTables
+  empty =
+      record {
+        texts = record { heap = t.texts.heap; starts = t.texts.starts; lens = t.texts.lens; count = 0; end = 0 };
+        properties = record { kinds = t.properties.kinds; names = t.properties.names; count = 0 };
+        pages = record { identifiers = t.pages.identifiers; firsts = v; count = 0 };
+        terms = record { groups = t.terms.groups; codes = t.terms.codes; count = 0 };
+      }
+
+  pub holding_none : Holding empty no_draft
+  unfolding tabulate flat_map
+  holding_none =
+      let many : length v ≡ length t.pages.firsts = ap length e ∙ length-set t.pages.firsts 0 0 in
+      let zero-first : get_or v 0 0 ≡ 0 = ap (λ z. get_or z 0 0) e ∙ get_or-set_same t.pages.firsts 0 0 0 (omega (arith, r.firsts_room)) in
       record {
         texts = record { count = refl; end = refl; bytes = refl; lies = λ i b. absurd (omega arith); heap_room = r.heap_room; starts_room = r.starts_room; lens_room = r.lens_room };
         properties = record { rows = refl; kinds_room = r.kinds_room; names_room = r.names_room };
@@ -135,11 +144,16 @@ module _ (heap starts lens kinds names identifiers firsts groups codes : List �
               last = zero-first;
               most = λ i b. let q : i ≡ 0 = omega arith in rw (q, zero-first) (omega arith);
               identifiers_room = r.identifiers_room;
-              firsts_room = r.firsts_room;
+              firsts_room = omega (arith, r.firsts_room);
             };
         terms = record { rows = refl; groups_room = r.groups_room; codes_room = r.codes_room };
       }
 
+pub none_drafted : (ps : List Property) (s : Bytes) (t : List ℕ) → draft_of ps (entries_in s t 0) ≡ no_draft
+unfolding draft_of draft_from entries_in tabulate
+none_drafted ps s t = refl
+
+module _ (heap starts lens identifiers firsts : List ℕ) where
   texts_are : (m at : ℕ) (l : List Bytes) → Texts heap starts lens m at l → tabulate m (text_at heap starts lens) ≡ l
   unfolding text_at
   texts_are m at l t =
@@ -159,35 +173,9 @@ module _ (heap starts lens kinds names identifiers firsts groups codes : List �
           tabulate_ext (get_or firsts (suc i) 0 - get_or firsts i 0) (λ j. get_or uses (get_or firsts i 0 + j) 0) (λ j. get_or firsts i 0 + j)
           (λ j c. own (get_or firsts i 0 + j) (omega (arith, p.most (suc i) (omega arith))))
 
-  holding_is : (c : Counts) (d : Dictionary) → Holding heap starts lens kinds names identifiers firsts groups codes c d → (uses : List ℕ) → Own c.forms uses
-      → draft_in (tables_of heap starts lens c.texts kinds names c.properties identifiers firsts c.pages uses groups codes c.forms) ≡ d
-  unfolding draft_in
-  holding_is c d h uses own =
-      let texts = texts_are c.texts c.bytes d.texts h.texts in
-      let pages = pages_are c.pages c.forms d.pages h.pages uses own in
-      λ i. record { properties = h.properties.rows i; pages = pages i; terms = h.terms.rows i; texts = texts i }
-
--- After the last row; the tables are those at the start but for the first entry of firsts.
-module _ (s c : Bytes) (t props : List ℕ) (n np : ℕ) (heap₀ starts₀ lens₀ kinds₀ names₀ identifiers₀ firsts₀ groups₀ codes₀ v : List ℕ) (ev : firsts₀ ≡ set v 0 0) where
-  roomy : Roomy heap₀ starts₀ lens₀ kinds₀ names₀ identifiers₀ v groups₀ codes₀ → Roomy heap₀ starts₀ lens₀ kinds₀ names₀ identifiers₀ firsts₀ groups₀ codes₀
-  roomy r =
-      record {
-        heap_room = r.heap_room;
-        starts_room = r.starts_room;
-        lens_room = r.lens_room;
-        kinds_room = r.kinds_room;
-        names_room = r.names_room;
-        identifiers_room = r.identifiers_room;
-        firsts_room = omega (arith, r.firsts_room, ap length ev, length-set v 0 0);
-        groups_room = r.groups_room;
-        codes_room = r.codes_room;
-      }
-
-  pub draft_done : (heap starts lens kinds names identifiers firsts groups codes : List ℕ) (q : Counts) (i : ℕ) → i ≤ n → n ≤ i
-      → (Accepted s c t props n np → Roomy heap₀ starts₀ lens₀ kinds₀ names₀ identifiers₀ firsts₀ groups₀ codes₀ → Holding heap starts lens kinds names identifiers firsts groups codes q (draft_of (properties (entries_in c t n)) (entries_in c t i)))
-      → Accepted s c t props n np → Roomy heap₀ starts₀ lens₀ kinds₀ names₀ identifiers₀ v groups₀ codes₀ → (uses : List ℕ) → Own q.forms uses
-      → draft_in (tables_of heap starts lens q.texts kinds names q.properties identifiers firsts q.pages uses groups codes q.forms) ≡ draft_of (properties (entries_in c t n)) (entries_in c t n)
-  draft_done heap starts lens kinds names identifiers firsts groups codes q i l m h a r uses own =
-      let e : i ≡ n = omega arith in
-      holding_is heap starts lens kinds names identifiers firsts groups codes q (draft_of (properties (entries_in c t n)) (entries_in c t i)) (h a (roomy r)) uses own
-      ∙ ap (λ (k : ℕ). draft_of (properties (entries_in c t n)) (entries_in c t k)) e
+pub holding_is : (t : DraftTables) (d : Dictionary) → Holding t d → (uses : List ℕ) → Own t.terms.count uses → draft_in (tables_in t uses) ≡ d
+unfolding draft_in
+holding_is t d h uses own =
+    let texts = texts_are t.texts.heap t.texts.starts t.texts.lens t.pages.identifiers t.pages.firsts t.texts.count t.texts.end d.texts h.texts in
+    let pages = pages_are t.texts.heap t.texts.starts t.texts.lens t.pages.identifiers t.pages.firsts t.pages.count t.terms.count d.pages h.pages uses own in
+    λ i. record { properties = h.properties.rows i; pages = pages i; terms = h.terms.rows i; texts = texts i }

@@ -1,6 +1,6 @@
 -- One property, page or form more in the tables.
 use Prim.Native.Nat.{ℕ, zero, suc, ◌+◌, ◌-◌, ◌%◌, ◌≤◌, ◌<◌}
-use mathlib.Core.Path.{◌≡◌, sym, ap, ap₂, ◌∙◌}
+use mathlib.Core.Path.{◌≡◌, sym, ap, ap₂, ◌∙◌, subst}
 use mathlib.Core.List.{List, [], ◌∷◌, ◌++◌}
 use native.Mathlib.Nat.{mod-eq_of_lt}
 use native.Mathlib.Decide.{ℕ_discrete}
@@ -17,6 +17,8 @@ use Rattle.values.specs.declared.Kind.{Kind}
 use Rattle.register_form.specs.Dictionary.{PropertyRow, PageRow, term_of}
 use Rattle.register_text_draft.specs.Drafting.{with_form, on_last}
 use Rattle.register_text_draft.specs.Tables.{property_in, Properties, page_in, Pages, term_in, Terms, FormsPushed}
+use Rattle.register_text_draft.specs.declared.PageTable.{PageTable}
+use Rattle.register_text_draft.specs.declared.TermTable.{TermTable}
 use Rattle.register_text_draft.proofs.Pages.{on_last_lem}
 
 -- A table of n rows with one more behind them.
@@ -28,10 +30,11 @@ table_more {A} n f g l a e h k = rw (add-one n) (ap₂ (λ (x : List A) (y : A).
 other : (t : List ℕ) (n v i : ℕ) → i < n → get_or (set t n v) i 0 ≡ get_or t i 0
 other t n v i b = get_or-set_other t n i v 0 (λ e. omega arith)
 
-module _ (kinds names : List ℕ) (n : ℕ) (k : Kind) (x : ℕ) (i v : ℕ) (ei : i ≡ n) (ev : v ≡ kind_code k) (kinds' : List ℕ) (ek : kinds' ≡ set kinds i v) (j : ℕ) (ej : j ≡ n) (names' : List ℕ) (en : names' ≡ set names j x) where
-  pub property_pushed : (l : List PropertyRow) → Properties kinds names n l → n < 64 → Properties kinds' names' (n + 1) (l ++ (record { kind = k; name = x } ∷ []))
+module _ (kinds names : List ℕ) (n : ℕ) (k : Kind) (x : ℕ) (i v : ℕ) (ei : i ≡ n) (ev : v ≡ kind_code k) (kinds' : List ℕ) (ek : kinds' ≡ set kinds i v) (names' : List ℕ) (en : names' ≡ set names i x) (m : ℕ) (em : m ≡ (n + 1) % 65536) where
+  pub property_pushed : (l : List PropertyRow) → Properties kinds names n l → n < 64 → Properties kinds' names' m (l ++ (record { kind = k; name = x } ∷ []))
   property_pushed l t b =
-      rw (ek, en, ei, ej, ev) (record {
+      let next : m ≡ n + 1 = em ∙ mod-eq_of_lt (omega arith) in
+      rw (next, ek, en, ei, ev) (record {
         rows =
             table_more n (property_in kinds names) (property_in (set kinds n (kind_code k)) (set names n x)) l (record { kind = k; name = x }) t.rows
             (λ p c. rw (other kinds n (kind_code k) p c, other names n x p c))
@@ -45,9 +48,9 @@ no_forms : (n : ℕ) (f : ℕ → ℕ) → tabulate (n - n) f ≡ []
 unfolding tabulate
 no_forms n f = let z : n - n ≡ 0 = omega arith in rw z
 
-module _ (identifiers firsts : List ℕ) (n f x : ℕ) (i : ℕ) (ei : i ≡ n) (identifiers' : List ℕ) (en : identifiers' ≡ set identifiers i x) (j : ℕ) (ej : j ≡ n) (firsts' : List ℕ) (ef : firsts' ≡ set firsts (j + 1) f) where
-  pub page_pushed : (l : List PageRow) → Pages identifiers firsts n f l → n < 256 → Pages identifiers' firsts' (n + 1) f (l ++ (record { identifier = x; forms = [] } ∷ []))
-  page_pushed l t b = rw (en, ef, ei, ej) done
+module _ (identifiers firsts : List ℕ) (n f x : ℕ) (i : ℕ) (ei : i ≡ n) (identifiers' : List ℕ) (en : identifiers' ≡ set identifiers i x) (firsts' : List ℕ) (ef : firsts' ≡ set firsts (i + 1) f) (m : ℕ) (em : m ≡ (n + 1) % 65536) where
+  pub page_pushed : (l : List PageRow) → Pages identifiers firsts n f l → n < 256 → Pages identifiers' firsts' m f (l ++ (record { identifier = x; forms = [] } ∷ []))
+  page_pushed l t b = let next : m ≡ n + 1 = em ∙ mod-eq_of_lt (omega arith) in rw (next, en, ef, ei) done
     where
       old : (i : ℕ) → i < n + 1 → get_or (set firsts (n + 1) f) i 0 ≡ get_or firsts i 0
       old i c = other firsts (n + 1) f i c
@@ -127,5 +130,17 @@ module _ (firsts groups codes : List ℕ) (n f g c : ℕ) (i : ℕ) (ei : i ≡ 
         codes_room = omega (arith, t.codes_room, length-set codes f c);
       })
 
-  pub form_pushed : FormsPushed firsts groups codes n f g c firsts' groups' codes'
-  form_pushed = record { pages = on_pages; terms = on_terms }
+-- The same of the structs.
+module _ (p : PageTable) (t : TermTable) (g c : ℕ) (i : ℕ) (ei : i ≡ t.count) (v : ℕ) (ev : v ≡ (t.count + 1) % 65536) (groups' : List ℕ) (eg : groups' ≡ set t.groups i g) (codes' : List ℕ) (ec : codes' ≡ set t.codes i c)
+    (k : ℕ) (ek : k ≡ p.count) (firsts' : List ℕ) (ef : firsts' ≡ set p.firsts k v)
+  where
+    pub form_pushed : FormsPushed p t g c (record { identifiers = p.identifiers; firsts = firsts'; count = p.count }) (record { groups = groups'; codes = codes'; count = v })
+    form_pushed =
+        record {
+          pages = λ l h b few.
+              let q : v ≡ t.count + 1 = ev ∙ mod-eq_of_lt (omega arith) in
+              subst (λ (n : ℕ). Pages p.identifiers firsts' p.count n (on_last t.count l)) (sym q) (on_pages p.firsts t.groups t.codes p.count t.count g c i ei groups' eg i ei codes' ec k ek v ev firsts' ef p.identifiers l h b few);
+          terms = λ l h few.
+              let q : v ≡ t.count + 1 = ev ∙ mod-eq_of_lt (omega arith) in
+              subst (λ (n : ℕ). Terms groups' codes' n (l ++ (term_of g c ∷ []))) (sym q) (on_terms p.firsts t.groups t.codes p.count t.count g c i ei groups' eg i ei codes' ec k ek v ev firsts' ef l h few);
+        }

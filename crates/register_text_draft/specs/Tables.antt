@@ -9,8 +9,11 @@ use Rattle.register_text_verdict.specs.Checks.{rows_that, Prepared}
 use Rattle.register_text_verdict.specs.declared.Declared.{Declared}
 use Rattle.register_form.specs.Dictionary.{PropertyRow, PageRow, Dictionary, term_of}
 use Rattle.register_form.specs.Form.{joined}
-use Rattle.register_text_draft.specs.declared.Counts.{Counts}
-use Rattle.register_text_draft.specs.declared.Ends.{Ends}
+use Rattle.register_form.specs.Tables.{Tables, tables_of}
+use Rattle.register_text_draft.specs.declared.TextTable.{TextTable}
+use Rattle.register_text_draft.specs.declared.PageTable.{PageTable}
+use Rattle.register_text_draft.specs.declared.TermTable.{TermTable}
+use Rattle.register_text_draft.specs.declared.DraftTables.{DraftTables}
 use Rattle.register_text_draft.specs.Drafting.{on_last}
 use Rattle.register_text_draft.specs.Sizes.{Fits}
 
@@ -62,43 +65,49 @@ pub record Terms (groups codes : List ℕ) (n : ℕ) (l : List Bytes) : Type 0 w
   pub codes_room : 2048 ≤ length codes
 
 -- The tables hold the draft d.
-pub record Holding (heap starts lens kinds names identifiers firsts groups codes : List ℕ) (c : Counts) (d : Dictionary) : Type 0 where
-  pub texts : Texts heap starts lens c.texts c.bytes d.texts
-  pub properties : Properties kinds names c.properties d.properties
-  pub pages : Pages identifiers firsts c.pages c.forms d.pages
-  pub terms : Terms groups codes c.forms d.terms
+pub record Holding (t : DraftTables) (d : Dictionary) : Type 0 where
+  pub texts : Texts t.texts.heap t.texts.starts t.texts.lens t.texts.count t.texts.end d.texts
+  pub properties : Properties t.properties.kinds t.properties.names t.properties.count d.properties
+  pub pages : Pages t.pages.identifiers t.pages.firsts t.pages.count t.terms.count d.pages
+  pub terms : Terms t.terms.groups t.terms.codes t.terms.count d.terms
+
+-- The same tables as those that a draft is written from, uses being the term of each form.
+abbrev pub tables_in : DraftTables → List ℕ → Tables
+tables_in t uses =
+    tables_of t.texts.heap t.texts.starts t.texts.lens t.texts.count t.properties.kinds t.properties.names t.properties.count t.pages.identifiers t.pages.firsts t.pages.count uses t.terms.groups t.terms.codes t.terms.count
 
 -- What ending a text answers, a and b being how long its namespace and its name are.
-pub record Ended (starts lens : List ℕ) (m at a b : ℕ) (starts' lens' : List ℕ) (r : Ends) : Type 0 where
-  pub start : starts' ≡ set starts m at
-  pub len : lens' ≡ set lens m ((1 + a + b) % 65536)
-  pub texts : r.texts ≡ (m + 1) % 65536
-  pub bytes : r.bytes ≡ (at + 1 + a + b) % 65536
+pub record Ended (t : TextTable) (a b : ℕ) (u : TextTable) : Type 0 where
+  pub heap : u.heap ≡ t.heap
+  pub start : u.starts ≡ set t.starts t.count t.end
+  pub len : u.lens ≡ set t.lens t.count ((1 + a + b) % 65536)
+  pub texts : u.count ≡ (t.count + 1) % 65536
+  pub bytes : u.end ≡ (t.end + 1 + a + b) % 65536
 
 -- What adding the texts l behind others answers, where they fit.
-pub record Pushed (heap starts lens : List ℕ) (m at : ℕ) (l : List Bytes) (heap' starts' lens' : List ℕ) (r : Ends) : Type 0 where
-  pub texts : (k : List Bytes) → Texts heap starts lens m at k → length (k ++ l) ≤ 2368 → length (joined (k ++ l)) ≤ 35136 → Texts heap' starts' lens' r.texts r.bytes (k ++ l)
+pub record Pushed (t : TextTable) (l : List Bytes) (u : TextTable) : Type 0 where
+  pub texts : (k : List Bytes) → Texts t.heap t.starts t.lens t.count t.end k → length (k ++ l) ≤ 2368 → length (joined (k ++ l)) ≤ 35136 → Texts u.heap u.starts u.lens u.count u.end (k ++ l)
 
--- What adding a form behind f forms answers, on the last of n pages.
-pub record FormsPushed (firsts groups codes : List ℕ) (n f group code : ℕ) (firsts' groups' codes' : List ℕ) : Type 0 where
-  pub pages : (identifiers : List ℕ) (l : List PageRow) → Pages identifiers firsts n f l → n ≤ 256 → f < 2048 → Pages identifiers firsts' n (f + 1) (on_last f l)
-  pub terms : (l : List Bytes) → Terms groups codes f l → f < 2048 → Terms groups' codes' (f + 1) (l ++ (term_of group code ∷ []))
+-- What adding a form answers, on the last page.
+pub record FormsPushed (g : PageTable) (v : TermTable) (group code : ℕ) (h : PageTable) (w : TermTable) : Type 0 where
+  pub pages : (l : List PageRow) → Pages g.identifiers g.firsts g.count v.count l → g.count ≤ 256 → v.count < 2048 → Pages h.identifiers h.firsts h.count w.count (on_last v.count l)
+  pub terms : (l : List Bytes) → Terms v.groups v.codes v.count l → v.count < 2048 → Terms w.groups w.codes w.count (l ++ (term_of group code ∷ []))
 
 -- Each of the first n forms is a term of its own.
 abbrev pub Own : ℕ → List ℕ → Type 0
 Own n uses = (f : ℕ) → f < n → get_or uses f 0 ≡ f
 
 -- Tables with room for any draft.
-pub record Roomy (heap starts lens kinds names identifiers firsts groups codes : List ℕ) : Type 0 where
-  pub heap_room : 35136 ≤ length heap
-  pub starts_room : 2368 ≤ length starts
-  pub lens_room : 2368 ≤ length lens
-  pub kinds_room : 64 ≤ length kinds
-  pub names_room : 64 ≤ length names
-  pub identifiers_room : 256 ≤ length identifiers
-  pub firsts_room : 257 ≤ length firsts
-  pub groups_room : 2048 ≤ length groups
-  pub codes_room : 2048 ≤ length codes
+pub record Roomy (t : DraftTables) : Type 0 where
+  pub heap_room : 35136 ≤ length t.texts.heap
+  pub starts_room : 2368 ≤ length t.texts.starts
+  pub lens_room : 2368 ≤ length t.texts.lens
+  pub kinds_room : 64 ≤ length t.properties.kinds
+  pub names_room : 64 ≤ length t.properties.names
+  pub identifiers_room : 256 ≤ length t.pages.identifiers
+  pub firsts_room : 257 ≤ length t.pages.firsts
+  pub groups_room : 2048 ≤ length t.terms.groups
+  pub codes_room : 2048 ≤ length t.terms.codes
 
 -- The tables t and props hold the n entries, over the text c, and the np properties of an accepted text s.
 pub record Accepted (s c : Bytes) (t props : List ℕ) (n np : ℕ) : Type 0 where
@@ -106,6 +115,6 @@ pub record Accepted (s c : Bytes) (t props : List ℕ) (n np : ℕ) : Type 0 whe
   pub rows : Prepared s c t n
   pub properties : take np props ≡ rows_that Declared.Property t n
 
--- What a function does to a draft f d that fits: H and K are what the tables hold before and behind it.
-pub record Extends (H K : Counts → Dictionary → Type 0) (c r : Counts) (f : Dictionary → Dictionary) : Type 0 where
-  pub held : (d : Dictionary) → Fits (f d) → H c d → K r (f d)
+-- What a function does to the tables a: they are then b, and hold f d where that fits and they held d.
+pub record Extends (a b : DraftTables) (f : Dictionary → Dictionary) : Type 0 where
+  pub held : (d : Dictionary) → Fits (f d) → Holding a d → Holding b (f d)

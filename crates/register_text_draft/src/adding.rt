@@ -7,150 +7,86 @@ ghost use Rattle.register_form.specs.Dictionary.{PropertyRow, PageRow, term_of};
 ghost use Rattle.register_text_draft.specs.Drafting.{on_last, with_value, added};
 ghost use Rattle.register_text_draft.specs.Sizes.{Valued, Spaced};
 ghost use Rattle.register_text_draft.specs.Lookup.{Lists};
-ghost use Rattle.register_text_draft.specs.Tables.{Properties, Pages, Terms, FormsPushed, Holding, Extends};
+ghost use Rattle.register_text_draft.specs.Tables.{Properties, Pages, FormsPushed, Extends};
 
-use super::Counts;
 use super::lookup::property_place;
-use super::texts::{byte, push_text, push_value, value_code};
-use tables::{narrow, next, put};
+use super::texts::{byte, value_code};
+use super::{DraftTables, PageTable, PropertyTable, TermTable};
+use tables::{next, put};
 use text::part;
 use values::{Kind, kind_code};
 
-// Adds a property behind n properties.
-fn push_property(kinds: &mut [u8], names: &mut [u16], n: u16, kind: Kind, name: u16)
-    ensures { (l : List PropertyRow) → Properties kinds.old names.old n l → n < 64 → Properties kinds.new names.new (n + 1) (l ++ (record { kind = kind; name = name } ∷ [])) }
-{
-    put(kinds, usize::from(n), kind_code(kind));
-    put(names, usize::from(n), name);
-}
-
-// Adds a page without forms behind n pages that have f forms.
-fn push_page(identifiers: &mut [u16], firsts: &mut [u16], n: u16, f: u16, identifier: u16)
-    ensures { (l : List PageRow) → Pages identifiers.old firsts.old n f l → n < 256 → Pages identifiers.new firsts.new (n + 1) f (l ++ (record { identifier = identifier; forms = [] } ∷ [])) }
-{
-    put(identifiers, usize::from(n), identifier);
-    put(firsts, usize::from(n) + 1, f);
-}
-
-// Adds a form behind f forms, on the last of n pages.
-fn push_form(
-    firsts: &mut [u16],
-    groups: &mut [u8],
-    codes: &mut [u64],
-    n: u16,
-    f: u16,
-    group: u8,
-    code: u64,
-)
-    ensures { FormsPushed firsts.old groups.old codes.old n f group code firsts.new groups.new codes.new }
-{
-    put(groups, usize::from(f), group);
-    put(codes, usize::from(f), code);
-    put(firsts, usize::from(n), next(f));
-}
-
-// Adds a value of a kind in a group.
-pub fn draft_value(
-    v: &[u8],
-    kind: Kind,
-    group: u8,
-    heap: &mut [u8],
-    starts: &mut [u32],
-    lens: &mut [u16],
-    firsts: &mut [u16],
-    groups: &mut [u8],
-    codes: &mut [u64],
-    c: Counts,
-) -> Counts
-    ensures { (w : Value) (kinds names identifiers : List ℕ) → read_value kind v.now ≡ Some w → Spaced w → Extends (Holding heap.old starts.old lens.old kinds names identifiers firsts.old groups.old codes.old) (Holding heap.new starts.new lens.new kinds names identifiers firsts.new groups.new codes.new) c result (with_value group w) }
-{
-    let m = c.texts;
-    let f = c.forms;
-    let code = value_code(kind, v, m);
-    let ends = push_value(heap, starts, lens, m, c.bytes, kind, v);
-    push_form(firsts, groups, codes, c.pages, f, group, code);
-    Counts {
-        texts: ends.texts,
-        bytes: ends.bytes,
-        properties: c.properties,
-        pages: c.pages,
-        forms: next(f),
+impl PropertyTable {
+    // Adds a property.
+    fn push(&mut self, kind: Kind, name: u16)
+        ensures { (l : List PropertyRow) → Properties self.old.kinds self.old.names self.old.count l → self.old.count < 64 → Properties self.new.kinds self.new.names self.new.count (l ++ (record { kind = kind; name = name } ∷ [])) }
+    {
+        let n = usize::from(self.count);
+        put(&mut self.kinds, n, kind_code(kind));
+        put(&mut self.names, n, name);
+        self.count = next(self.count);
     }
 }
 
-// Adds a property with its name.
-pub fn draft_prop(
-    kind: Kind,
-    name: &[u8],
-    heap: &mut [u8],
-    starts: &mut [u32],
-    lens: &mut [u16],
-    kinds: &mut [u8],
-    names: &mut [u16],
-    c: Counts,
-) -> Counts
-    ensures { (ps : List Property) (identifiers firsts groups codes : List ℕ) → Extends (Holding heap.old starts.old lens.old kinds.old names.old identifiers firsts groups codes) (Holding heap.new starts.new lens.new kinds.new names.new identifiers firsts groups codes) c result (λ d. added ps d (prop name.now kind)) }
-{
-    let m = c.texts;
-    let p = c.properties;
-    let ends = push_text(heap, starts, lens, m, c.bytes, part(name, 0, 0), name);
-    push_property(kinds, names, p, kind, m);
-    Counts {
-        texts: ends.texts,
-        bytes: ends.bytes,
-        properties: next(p),
-        pages: c.pages,
-        forms: c.forms,
+impl PageTable {
+    // Adds a page without forms behind pages that have f forms.
+    fn push(&mut self, f: u16, identifier: u16)
+        ensures { (l : List PageRow) → Pages self.old.identifiers self.old.firsts self.old.count f l → self.old.count < 256 → Pages self.new.identifiers self.new.firsts self.new.count f (l ++ (record { identifier = identifier; forms = [] } ∷ [])) }
+    {
+        let n = usize::from(self.count);
+        put(&mut self.identifiers, n, identifier);
+        put(&mut self.firsts, n + 1, f);
+        self.count = next(self.count);
     }
 }
 
-// Adds a page with its identifier.
-pub fn draft_page(
-    space: &[u8],
-    name: &[u8],
-    heap: &mut [u8],
-    starts: &mut [u32],
-    lens: &mut [u16],
-    identifiers: &mut [u16],
-    firsts: &mut [u16],
-    c: Counts,
-) -> Counts
-    ensures { (ps : List Property) (kinds names groups codes : List ℕ) → length space.now ≤ 64 → Extends (Holding heap.old starts.old lens.old kinds names identifiers.old firsts.old groups codes) (Holding heap.new starts.new lens.new kinds names identifiers.new firsts.new groups codes) c result (λ d. added ps d (page space.now name.now)) }
+// Adds a form, on the last page.
+fn push_form(pages: &mut PageTable, terms: &mut TermTable, group: u8, code: u64)
+    ensures { FormsPushed pages.old terms.old group code pages.new terms.new }
 {
-    let m = c.texts;
-    let g = c.pages;
-    let ends = push_text(heap, starts, lens, m, c.bytes, space, name);
-    push_page(identifiers, firsts, g, c.forms, m);
-    Counts {
-        texts: ends.texts,
-        bytes: ends.bytes,
-        properties: c.properties,
-        pages: next(g),
-        forms: c.forms,
-    }
+    let f = usize::from(terms.count);
+    let behind = next(terms.count);
+    put(&mut terms.groups, f, group);
+    put(&mut terms.codes, f, code);
+    put(&mut pages.firsts, usize::from(pages.count), behind);
+    terms.count = behind;
 }
 
-// Adds a value under the property x.
-pub fn draft_val(
-    s: &[u8],
-    t: &[u16],
-    props: &[u16],
-    np: usize,
-    x: &[u8],
-    v: &[u8],
-    heap: &mut [u8],
-    starts: &mut [u32],
-    lens: &mut [u16],
-    firsts: &mut [u16],
-    groups: &mut [u8],
-    codes: &mut [u64],
-    c: Counts,
-) -> Counts
-    ensures { (ps : List Property) (kinds names identifiers : List ℕ) → Lists s.now t.now props.now np ps → Valued ps x.now v.now → Extends (Holding heap.old starts.old lens.old kinds names identifiers firsts.old groups.old codes.old) (Holding heap.new starts.new lens.new kinds names identifiers firsts.new groups.new codes.new) c result (λ d. added ps d (val x.now v.now)) }
-{
-    let Some((kind, place)) = property_place(s, t, props, np, x) else {
-        return c;
-    };
-    let group = byte(usize::from(place) + 1);
-    draft_value(v, kind, group, heap, starts, lens, firsts, groups, codes, c)
+impl DraftTables {
+    // Adds a value of a kind in a group.
+    pub fn draft_value(&mut self, v: &[u8], kind: Kind, group: u8)
+        ensures { (w : Value) → read_value kind v.now ≡ Some w → Spaced w → Extends self.old self.new (with_value group w) }
+    {
+        let code = value_code(kind, v, self.texts.count);
+        self.texts.push_value(kind, v);
+        push_form(&mut self.pages, &mut self.terms, group, code);
+    }
+
+    // Adds a property with its name.
+    pub fn draft_prop(&mut self, kind: Kind, name: &[u8])
+        ensures { (ps : List Property) → Extends self.old self.new (λ d. added ps d (prop name.now kind)) }
+    {
+        let m = self.texts.count;
+        self.texts.push_text(part(name, 0, 0), name);
+        self.properties.push(kind, m);
+    }
+
+    // Adds a page with its identifier.
+    pub fn draft_page(&mut self, space: &[u8], name: &[u8])
+        ensures { (ps : List Property) → length space.now ≤ 64 → Extends self.old self.new (λ d. added ps d (page space.now name.now)) }
+    {
+        let m = self.texts.count;
+        self.texts.push_text(space, name);
+        self.pages.push(self.terms.count, m);
+    }
+
+    // Adds a value under the property x.
+    pub fn draft_val(&mut self, s: &[u8], t: &[u16], props: &[u16], np: usize, x: &[u8], v: &[u8])
+        ensures { (ps : List Property) → Lists s.now t.now props.now np ps → Valued ps x.now v.now → Extends self.old self.new (λ d. added ps d (val x.now v.now)) }
+    {
+        let Some((kind, place)) = property_place(s, t, props, np, x) else {
+            return;
+        };
+        self.draft_value(v, kind, byte(usize::from(place) + 1));
+    }
 }

@@ -7,134 +7,101 @@ ghost use Rattle.language.specs.Register.{Property};
 ghost use Rattle.language.specs.RegisterText.{properties};
 ghost use Rattle.register_text_entries.specs.Items.{entry_in};
 ghost use Rattle.register_text_entries.specs.Table.{entries_in};
-ghost use Rattle.register_form.specs.Tables.{tables_of, draft_in};
-ghost use Rattle.register_text_draft.specs.Drafting.{added, draft_of};
+ghost use Rattle.register_form.specs.Tables.{draft_in};
+ghost use Rattle.register_text_draft.specs.Drafting.{no_draft, added, draft_of};
 ghost use Rattle.register_text_draft.specs.Sizes.{Good};
 ghost use Rattle.register_text_draft.specs.Lookup.{Lists};
-ghost use Rattle.register_text_draft.specs.Tables.{Holding, Extends, Roomy, Accepted, Own};
+ghost use Rattle.register_text_draft.specs.Tables.{Extends, Holding, Roomy, Accepted, Own, tables_in};
 
 pub mod adding; // adding.rt: what each entry adds
 pub mod lookup; // lookup.rt: a property by its name
 pub mod texts; // texts.rt: writing texts, and the codes of values
 
-use adding::{draft_page, draft_prop, draft_val, draft_value};
+use register_form::layout;
 use register_text_entries::table::item_at;
 use register_text_entries::{Item, Tag};
-use tables::put;
 use text::part;
 use values::Kind;
 
-// How many texts there are, and how many bytes they have.
-#[derive(Clone, Copy)]
-pub struct Ends {
-    pub texts: u16,
-    pub bytes: u16,
+// Texts, one behind the other: how many there are, and where the last ends.
+#[derive(Drop)]
+pub struct TextTable {
+    pub heap: [u8; layout::TEXT_BYTE_ROOM],
+    pub starts: [u32; layout::TEXT_ROOM],
+    pub lens: [u16; layout::TEXT_ROOM],
+    pub count: u16,
+    pub end: u16,
 }
 
-// How many texts, bytes of texts, properties, pages and forms there are.
-#[derive(Clone, Copy)]
-pub struct Counts {
-    pub texts: u16,
-    pub bytes: u16,
-    pub properties: u16,
-    pub pages: u16,
-    pub forms: u16,
+// Properties: the code of the kind of each, and the text that names it.
+#[derive(Drop)]
+pub struct PropertyTable {
+    pub kinds: [u8; layout::PROPERTY_ROOM],
+    pub names: [u16; layout::PROPERTY_ROOM],
+    pub count: u16,
 }
 
-// Adds an entry.
-fn draft_entry(
-    s: &[u8],
-    t: &[u16],
-    props: &[u16],
-    np: usize,
-    item: Item,
-    heap: &mut [u8],
-    starts: &mut [u32],
-    lens: &mut [u16],
-    kinds: &mut [u8],
-    names: &mut [u16],
-    identifiers: &mut [u16],
-    firsts: &mut [u16],
-    groups: &mut [u8],
-    codes: &mut [u64],
-    c: Counts,
-) -> Counts
-    ensures { (ps : List Property) → Lists s.now t.now props.now np ps → Good ps (entry_in s.now item) → Extends (Holding heap.old starts.old lens.old kinds.old names.old identifiers.old firsts.old groups.old codes.old) (Holding heap.new starts.new lens.new kinds.new names.new identifiers.new firsts.new groups.new codes.new) c result (λ d. added ps d (entry_in s.now item)) }
-{
-    let tag = item.tag;
-    let kind = item.kind;
-    let a = item.first;
-    let b = item.second;
-    let x = part(s, a.start, a.len);
-    let y = part(s, b.start, b.len);
-    match tag {
-        Tag::Prop => draft_prop(kind, x, heap, starts, lens, kinds, names, c),
-        Tag::Page => draft_page(x, y, heap, starts, lens, identifiers, firsts, c),
-        Tag::Cat => draft_value(
-            x,
-            Kind::String,
-            0,
-            heap,
-            starts,
-            lens,
-            firsts,
-            groups,
-            codes,
-            c,
-        ),
-        Tag::Val => draft_val(
-            s, t, props, np, x, y, heap, starts, lens, firsts, groups, codes, c,
-        ),
-        Tag::Close => c,
+// Pages: the text of each one's identifier, and which forms it has, from firsts[i] to firsts[i + 1].
+#[derive(Drop)]
+pub struct PageTable {
+    pub identifiers: [u16; layout::PAGE_ROOM],
+    pub firsts: [u16; layout::PAGE_START_ROOM],
+    pub count: u16,
+}
+
+// Terms, one for each form: its group, and the code of its value.
+#[derive(Drop)]
+pub struct TermTable {
+    pub groups: [u8; layout::FORM_ROOM],
+    pub codes: [u64; layout::FORM_ROOM],
+    pub count: u16,
+}
+
+// The tables of a draft.
+#[derive(Drop)]
+pub struct DraftTables {
+    pub texts: TextTable,
+    pub properties: PropertyTable,
+    pub pages: PageTable,
+    pub terms: TermTable,
+}
+
+impl DraftTables {
+    // Adds an entry.
+    fn draft_entry(&mut self, s: &[u8], t: &[u16], props: &[u16], np: usize, item: Item)
+        ensures { (ps : List Property) → Lists s.now t.now props.now np ps → Good ps (entry_in s.now item) → Extends self.old self.new (λ d. added ps d (entry_in s.now item)) }
+    {
+        let x = part(s, item.first.start, item.first.len);
+        let y = part(s, item.second.start, item.second.len);
+        match item.tag {
+            Tag::Prop => self.draft_prop(item.kind, x),
+            Tag::Page => self.draft_page(x, y),
+            Tag::Cat => self.draft_value(x, Kind::String, 0),
+            Tag::Val => self.draft_val(s, t, props, np, x, y),
+            Tag::Close => (),
+        }
     }
-}
 
-// Writes the draft of the first n entries in t, whose names are composed, and of which the first np in props are properties.
-pub fn draft_text(
-    s: &[u8],
-    t: &[u16],
-    n: usize,
-    props: &[u16],
-    np: usize,
-    heap: &mut [u8],
-    starts: &mut [u32],
-    lens: &mut [u16],
-    kinds: &mut [u8],
-    names: &mut [u16],
-    identifiers: &mut [u16],
-    firsts: &mut [u16],
-    groups: &mut [u8],
-    codes: &mut [u64],
-) -> Counts
-    ensures { (typed : Bytes) → Accepted typed s.now t.now props.now n np → Roomy heap.old starts.old lens.old kinds.old names.old identifiers.old firsts.old groups.old codes.old → (uses : List ℕ) → Own result.forms uses → draft_in (tables_of heap.new starts.new lens.new result.texts kinds.new names.new result.properties identifiers.new firsts.new result.pages uses groups.new codes.new result.forms) ≡ draft_of (properties (entries_in s.now t.now n)) (entries_in s.now t.now n) }
-{
-    put(firsts, 0, 0);
-    let mut c = Counts {
-        texts: 0,
-        bytes: 0,
-        properties: 0,
-        pages: 0,
-        forms: 0,
-    };
-    for i in 0..n {
-        let item = item_at(t, i);
-        c = draft_entry(
-            s,
-            t,
-            props,
-            np,
-            item,
-            heap,
-            starts,
-            lens,
-            kinds,
-            names,
-            identifiers,
-            firsts,
-            groups,
-            codes,
-            c,
-        );
+    // Takes all rows away.
+    fn clear(&mut self)
+        ensures { Roomy self.old → Holding self.new no_draft }
+    {
+        self.texts.count = 0;
+        self.texts.end = 0;
+        self.properties.count = 0;
+        self.pages.count = 0;
+        self.pages.firsts[0] = 0;
+        self.terms.count = 0;
     }
-    c
+
+    // Writes the draft of the first n entries in t, whose names are composed, and of which the first np in props are
+    // properties.
+    pub fn draft_text(&mut self, s: &[u8], t: &[u16], n: usize, props: &[u16], np: usize)
+        ensures { (typed : Bytes) → Accepted typed s.now t.now props.now n np → Roomy self.old → (uses : List ℕ) → Own self.new.terms.count uses → draft_in (tables_in self.new uses) ≡ draft_of (properties (entries_in s.now t.now n)) (entries_in s.now t.now n) }
+    {
+        self.clear();
+        for i in 0..n {
+            self.draft_entry(s, t, props, np, item_at(t, i));
+        }
+    }
 }

@@ -9,7 +9,7 @@ ghost use Rattle.register_text_draft.specs.Drafting.{code_in};
 ghost use Rattle.register_text_draft.specs.Sizes.{Spaced};
 ghost use Rattle.register_text_draft.specs.Tables.{Ended, Pushed};
 
-use super::Ends;
+use super::TextTable;
 use buffer::put_bytes;
 use names::put_composed;
 use tables::{narrow, next, put};
@@ -23,97 +23,64 @@ pub fn byte(n: usize) -> u8
     (n % 256) as u8
 }
 
-// Ends a text behind m texts, from a place on: what it has of a namespace and of a name, and its length before both.
-fn end_text(starts: &mut [u32], lens: &mut [u16], m: u16, at: u16, a: usize, b: usize) -> Ends
-    requires { (a < 65536) × (b < 65536) }
-    ensures { Ended starts.old lens.old m at a b starts.new lens.new result }
-{
-    put(starts, usize::from(m), u32::from(at));
-    put(lens, usize::from(m), narrow(1 + a + b));
-    Ends {
-        texts: next(m),
-        bytes: narrow(usize::from(at) + 1 + a + b),
+impl TextTable {
+    // Ends a text: what it has of a namespace and of a name, and its length before both.
+    fn end_text(&mut self, a: usize, b: usize)
+        requires { (a < 65536) × (b < 65536) }
+        ensures { Ended self.old a b self.new }
+    {
+        let m = usize::from(self.count);
+        put(&mut self.starts, m, u32::from(self.end));
+        put(&mut self.lens, m, narrow(1 + a + b));
+        self.count = next(self.count);
+        self.end = narrow(usize::from(self.end) + 1 + a + b);
     }
-}
 
-// Adds a text, of a namespace and a name, behind m texts that end at a place.
-pub fn push_text(
-    heap: &mut [u8],
-    starts: &mut [u32],
-    lens: &mut [u16],
-    m: u16,
-    at: u16,
-    space: &[u8],
-    name: &[u8],
-) -> Ends
-    ensures { length space.now ≤ 64 → Pushed heap.old starts.old lens.old m at (labelled space.now name.now ∷ []) heap.new starts.new lens.new result }
-{
-    let first = usize::from(at);
-    let a = usize::from(narrow(space.len()));
-    let b = usize::from(narrow(name.len()));
-    put(heap, first, byte(a));
-    put_bytes(heap, first + 1, space);
-    put_bytes(heap, first + 1 + a, name);
-    end_text(starts, lens, m, at, a, b)
-}
-
-// Adds the text of a namespace and a name, both composed where they then lie.
-fn push_names(
-    heap: &mut [u8],
-    starts: &mut [u32],
-    lens: &mut [u16],
-    m: u16,
-    at: u16,
-    space: &[u8],
-    name: &[u8],
-) -> Ends
-    ensures { length (composed_name space.now) ≤ 64 → Pushed heap.old starts.old lens.old m at (labelled (composed_name space.now) (composed_name name.now) ∷ []) heap.new starts.new lens.new result }
-{
-    let first = usize::from(at);
-    let a = usize::from(narrow(put_composed(heap, first + 1, space)));
-    put(heap, first, byte(a));
-    let b = usize::from(narrow(put_composed(heap, first + 1 + a, name)));
-    end_text(starts, lens, m, at, a, b)
-}
-
-// Adds the text of the link that v writes, its names composed.
-fn push_link(
-    heap: &mut [u8],
-    starts: &mut [u32],
-    lens: &mut [u16],
-    m: u16,
-    at: u16,
-    v: &[u8],
-) -> Ends
-    ensures { Spaced (link (identifier (composed_reference (reference v.now)))) → Pushed heap.old starts.old lens.old m at (identifier_text (identifier (composed_reference (reference v.now))) ∷ []) heap.new starts.new lens.new result }
-{
-    let split = split_reference(v);
-    let name = part(v, split.article.start, split.article.len);
-    match split.namespace {
-        Some(n) => push_names(heap, starts, lens, m, at, part(v, n.start, n.len), name),
-        None => push_names(heap, starts, lens, m, at, part(v, 0, 0), name),
+    // Adds a text, of a namespace and a name.
+    pub fn push_text(&mut self, space: &[u8], name: &[u8])
+        ensures { length space.now ≤ 64 → Pushed self.old (labelled space.now name.now ∷ []) self.new }
+    {
+        let first = usize::from(self.end);
+        let a = usize::from(narrow(space.len()));
+        let b = usize::from(narrow(name.len()));
+        put(&mut self.heap, first, byte(a));
+        put_bytes(&mut self.heap, first + 1, space);
+        put_bytes(&mut self.heap, first + 1 + a, name);
+        self.end_text(a, b);
     }
-}
 
-// Adds the text of the value of a kind that v writes, if it has one.
-pub fn push_value(
-    heap: &mut [u8],
-    starts: &mut [u32],
-    lens: &mut [u16],
-    m: u16,
-    at: u16,
-    kind: Kind,
-    v: &[u8],
-) -> Ends
-    ensures { (w : Value) → read_value kind v.now ≡ Some w → Spaced w → Pushed heap.old starts.old lens.old m at (value_texts w) heap.new starts.new lens.new result }
-{
-    match kind {
-        Kind::Page => push_link(heap, starts, lens, m, at, v),
-        Kind::Scalar(_) => Ends {
-            texts: m,
-            bytes: at,
-        },
-        Kind::String => push_text(heap, starts, lens, m, at, part(v, 0, 0), v),
+    // Adds the text of a namespace and a name, both composed where they then lie.
+    fn push_names(&mut self, space: &[u8], name: &[u8])
+        ensures { length (composed_name space.now) ≤ 64 → Pushed self.old (labelled (composed_name space.now) (composed_name name.now) ∷ []) self.new }
+    {
+        let first = usize::from(self.end);
+        let a = usize::from(narrow(put_composed(&mut self.heap, first + 1, space)));
+        put(&mut self.heap, first, byte(a));
+        let b = usize::from(narrow(put_composed(&mut self.heap, first + 1 + a, name)));
+        self.end_text(a, b);
+    }
+
+    // Adds the text of the link that v writes, its names composed.
+    fn push_link(&mut self, v: &[u8])
+        ensures { Spaced (link (identifier (composed_reference (reference v.now)))) → Pushed self.old (identifier_text (identifier (composed_reference (reference v.now))) ∷ []) self.new }
+    {
+        let split = split_reference(v);
+        let name = part(v, split.article.start, split.article.len);
+        match split.namespace {
+            Some(n) => self.push_names(part(v, n.start, n.len), name),
+            None => self.push_names(part(v, 0, 0), name),
+        }
+    }
+
+    // Adds the text of the value of a kind that v writes, if it has one.
+    pub fn push_value(&mut self, kind: Kind, v: &[u8])
+        ensures { (w : Value) → read_value kind v.now ≡ Some w → Spaced w → Pushed self.old (value_texts w) self.new }
+    {
+        match kind {
+            Kind::Page => self.push_link(v),
+            Kind::Scalar(_) => (),
+            Kind::String => self.push_text(part(v, 0, 0), v),
+        }
     }
 }
 
