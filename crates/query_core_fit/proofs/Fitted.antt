@@ -1,5 +1,5 @@
 -- What fitting a tree answers, by what was called.
-use Rattle.std.specs.Prelude.{Option, Some, None}
+use Rattle.std.specs.Prelude.{Option, Some, None, Ok, Err}
 use Prim.Native.Nat.{ℕ, ◌+◌, ◌≤◌, ◌<◌, min}
 use mathlib.Core.Path.{◌≡◌, sym, ap, subst, ◌∙◌}
 use mathlib.Core.Bool.{Bool, true, false, cond}
@@ -30,7 +30,7 @@ use Rattle.query_core_emit.specs.Emission.{Emits}
 use Rattle.query_tree_spelling.specs.Spelled.{is_spelled}
 use Rattle.query_tree.specs.Nodes.{tree}
 use Rattle.query_tree.specs.Form.{node_count, node_in, nodes_in}
-use Rattle.query_core_fit.specs.declared.Fit.{Fit}
+use Rattle.language.specs.declared.refusals.Refusal.{Refusal}
 use Rattle.query_core_fit.specs.Answers.{FitsTree}
 use Rattle.query_core_fit.specs.Fitting.{node_undeclared, Fits, core_of_query}
 use Rattle.query_core_fit.proofs.Undeclared.{query17}
@@ -54,7 +54,7 @@ module _ (t g : Bytes) (n w : ℕ) (u : Bool) (there : w ≡ two_at t 0) (wide :
   unfolding nodes_in
   named q e = is ∙ ap (λ (k : ℕ). any (node_undeclared Γ) (tabulate k (node_in t))) counted ∙ ap (any (node_undeclared Γ)) e ∙ query17 Γ q
 
-  pub fit_undeclared : (h : Bytes) → u ≡ true → FitsTree t (kinds_of (register_in g)) h Fit.Undeclared h
+  pub fit_undeclared : (h : Bytes) → u ≡ true → FitsTree t (kinds_of (register_in g)) h (Err Refusal.Undeclared) h
   unfolding fit
   fit_undeclared h f =
       record {
@@ -72,7 +72,7 @@ module _ (t g : Bytes) (n w : ℕ) (u : Bool) (there : w ≡ two_at t 0) (wide :
     emitted q e =
         put.is [] [] q (e ∙ sym (append-nil (tree q))) (counted ∙ sym (length_tabulate (node_count t) (node_in t)) ∙ ap length e ∙ (let z : length (tree q) ≡ 0 + length (tree q) = omega arith in z))
 
-    pub fit_unfit : v ≡ None → FitsTree t (kinds_of (register_in g)) h Fit.Unfit h₁
+    pub fit_unfit : v ≡ None → FitsTree t (kinds_of (register_in g)) h (Err Refusal.UnfitPiece) h₁
     unfolding Emits
     fit_unfit f =
         record {
@@ -98,7 +98,7 @@ module _ (t g : Bytes) (n w : ℕ) (u : Bool) (there : w ≡ two_at t 0) (wide :
           let l : Laid h₁ p (post d.0) = d.2.laid [] (subst (λ (x : Bytes). Laid x start []) (sym z) laid_none) in
           record { core = d.0; says = d.1; laid = l; count = l.count ∙ ap (min 257) (length_post d.0) }
 
-      pub fit_many : (k : ℕ) → k ≡ count_of p → 256 < k → FitsTree t (kinds_of (register_in g)) h Fit.TooMany h₁
+      pub fit_many : (k : ℕ) → k ≡ count_of p → 256 < k → FitsTree t (kinds_of (register_in g)) h (Err Refusal.TooManyNodes) h₁
       fit_many k i m =
           record {
             number = λ q e s z. rw (many q e z);
@@ -108,7 +108,7 @@ module _ (t g : Bytes) (n w : ℕ) (u : Bool) (there : w ≡ two_at t 0) (wide :
           many : (q : Query) → nodes_in t ≡ tree q → h ≡ zeros query_size → fit Γ q ≡ refused 19
           many q e z = let d = laid_core q e z in rw (declared_is q e, d.says, lt-ltb 256 (nodes d.core) (omega (arith, i, m, d.count)))
 
-      pub fit_accepted : (h₂ : Bytes) (k : ℕ) → k ≡ count_of p → k ≤ 256 → Finishes h₁ p h₂ → FitsTree t (kinds_of (register_in g)) h Fit.Accepted h₂
+      pub fit_accepted : (h₂ : Bytes) (k : ℕ) → k ≡ count_of p → k ≤ 256 → Finishes h₁ p h₂ → FitsTree t (kinds_of (register_in g)) h (Ok tt) h₂
       unfolding Finishes query_of
       fit_accepted h₂ k i m done =
           record {

@@ -1,7 +1,7 @@
 -- What a single node puts.
 use Rattle.std.specs.Prelude.{Option, Some, None}
-use mathlib.Core.Path.{◌≡◌, refl, ap, ◌∙◌}
-use mathlib.Core.Bool.{true, false}
+use mathlib.Core.Logic.{◌⊎◌, ⊎_elim}
+use mathlib.Core.Path.{◌≡◌, refl}
 use mathlib.Core.List.{[], ◌∷◌}
 use Rattle.text.specs.Bytes.{Bytes}
 use Rattle.text.specs.Parts.{part_of}
@@ -9,60 +9,38 @@ use Rattle.text.specs.declared.Span.{Span}
 use Rattle.values.specs.declared.Kind.{Kind}
 use Rattle.values.specs.declared.Scalar.{Scalar}
 use Rattle.values.specs.Answers.{split_of}
-use Rattle.language.specs.Register.{kinds_of}
-use Rattle.register_form.specs.Form.{register_in}
 use Rattle.language.specs.Core.{Core}
 use Rattle.language.specs.Core as Core
-use Rattle.language.specs.Elaboration.{elaborate_reference, elaborate_value, inside}
+use Rattle.language.specs.Elaboration.{elaborate_reference, inside}
 use Rattle.language.specs.declared.SurfaceComparator.{SurfaceComparator}
 use Rattle.query_core.specs.declared.Place.{Place}
 use Rattle.query_core.specs.declared.Selector.{Selector}
 use Rattle.query_core.specs.Postfix.{post}
 use Rattle.query_core.specs.Reading.{selector_by}
-use Rattle.register_form_view.specs.View.{kind_of}
 use Rattle.query_core_emit.specs.Emission.{Adds, Emits}
 use Rattle.query_tree.specs.declared.TreeNode.{TreeNode}
 use Rattle.query_tree.specs.Reading.{node_by}
-use Rattle.query_core_fit.specs.declared.Step.{Step}
-use Rattle.query_core_fit.specs.Fitting.{step_of, piece_core, LeafAt, LeafIn, Wraps}
-
--- What a node asks for, by what it is.
-pub step_is : (node t : TreeNode) (r : Step) → node ≡ t → r ≡ step_of t → r ≡ step_of node
-step_is node t r e f = rw e f
-
-pub kind_there : (g s t : Bytes) (x : Span) (r : Option Kind) → t ≡ part_of s x → r ≡ kinds_of (register_in g) t → r ≡ kinds_of (register_in g) (part_of s x)
-kind_there g s t x r e f = f ∙ ap (kinds_of (register_in g)) e
+use Rattle.query_core_fit.specs.Fitting.{piece_core, LeafAt, LeafIn, Wraps}
 
 -- A subquery's node.
 module _ (x : Bytes) (kind : Option Kind) (h : Bytes) (p : Place) where
-  pub wraps_nothing : kind ≡ None → Wraps x (kind) h p None h
+  pub wraps_nothing : kind ≡ None → Wraps x kind h p None h
   unfolding inside
   wraps_nothing e o = rw e
 
-  pub wraps_page : (k : Kind) (h' : Bytes) (p' : Place) → kind ≡ Some k → k ≡ Kind.Page → Adds (Rattle.query_core.specs.Postfix.subquery x ∷ []) h p h' p' → Wraps x (kind) h p (Some p') h'
+  pub wraps_page : (k : Kind) (h' : Bytes) (p' : Place) → kind ≡ Some k → k ≡ Kind.Page → Adds (Rattle.query_core.specs.Postfix.subquery x ∷ []) h p h' p' → Wraps x kind h p (Some p') h'
   wraps_page k h' p' e f a = (rw (e, f), a)
 
-  module _ (k : Kind) (e : kind ≡ Some k) where
-    pub wraps_scalar : (j : Scalar) → k ≡ Kind.Scalar j → Wraps x (kind) h p None h
-    unfolding inside
-    wraps_scalar j f o = rw (e, f)
+  pub wraps_other : (k : Kind) → kind ≡ Some k → ((j : Scalar) × (k ≡ Kind.Scalar j)) ⊎ (k ≡ Kind.String) → Wraps x kind h p None h
+  unfolding inside
+  wraps_other k e f o = ⊎_elim (λ (s : (j : Scalar) × (k ≡ Kind.Scalar j)). rw (e, s.1)) (λ (s : k ≡ Kind.String). rw (e, s)) f
 
-    pub wraps_string : k ≡ Kind.String → Wraps x (kind) h p None h
-    unfolding inside
-    wraps_string f o = rw (e, f)
+pub ruleset wrapping = (wraps_nothing, wraps_page)
 
-pub ruleset wrapping = (wraps_nothing, wraps_page, wraps_scalar, wraps_string)
-
--- A piece.
-module _ (x v : Bytes) (c : SurfaceComparator) (kind : Option Kind) (h : Bytes) (p : Place) (r : Option Place) (h' : Bytes) where
-  pub piece_kind : (k : Kind) → kind ≡ Some k → Emits (elaborate_value x c v k) h p r h' → Emits (piece_core x c v (kind)) h p r h'
-  piece_kind k e d = rw e d
-
-pub piece_none : (x v : Bytes) (c : SurfaceComparator) (kind : Option Kind) (h : Bytes) (p : Place) → kind ≡ None → Emits (piece_core x c v (kind)) h p None h
+-- A piece of a property that has no kind.
+pub piece_none : (x v : Bytes) (c : SurfaceComparator) (kind : Option Kind) (h : Bytes) (p : Place) → kind ≡ None → Emits (piece_core x c v kind) h p None h
 unfolding Emits
 piece_none x v c kind h p e = rw e
-
-pub ruleset pieces = (piece_kind, piece_none)
 
 -- A node alone.
 module _ (s : Bytes) (node : TreeNode) (h : Bytes) (p : Place) where
@@ -87,15 +65,4 @@ module _ (s : Bytes) (node : TreeNode) (h : Bytes) (p : Place) where
     unfolding Emits post
     in_existence x k e a = rw e (Core.select (Core.existence (part_of s x)), refl, a)
 
-  pub in_value : (x : Bytes) (k : Option Kind) (c : SurfaceComparator) (y : Span) (r : Option Place) (h' : Bytes) → node ≡ TreeNode.Value c y → Emits (piece_core x c (part_of s y) k) h p r h' → LeafIn x k (node_by s node) h p r h'
-  in_value x k c y r h' e d = rw e d
-
-  -- any other
-  module _ (t : TreeNode) (e : node ≡ t) (r : Option Place) (h' : Bytes) where
-    pub leaf_other : LeafAt (node_by s t) h p r h' → LeafAt (node_by s node) h p r h'
-    leaf_other d = rw e d
-
-    pub in_other : (x : Bytes) (k : Option Kind) → LeafIn x k (node_by s t) h p r h' → LeafIn x k (node_by s node) h p r h'
-    in_other x k d = rw e d
-
-pub ruleset leaves = (leaf_other, in_other, leaf_category, leaf_namespace, leaf_bare, leaf_qualified, in_existence, in_value)
+pub ruleset leaves = (leaf_category, leaf_namespace, leaf_bare, leaf_qualified, in_existence)

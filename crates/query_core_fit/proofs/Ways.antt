@@ -9,13 +9,13 @@ use lib.ListN.{length, length-append}
 use Rattle.text.specs.Bytes.{Bytes, part}
 use Rattle.text.specs.Parts.{part_of}
 use Rattle.text.specs.declared.Span.{Span}
+use Rattle.values.specs.declared.Kind.{Kind}
 use Rattle.language.specs.Core.{Core}
 use Rattle.language.specs.Elaboration.{inside}
 use Rattle.language.specs.Register.{Typing, kinds_of}
 use Rattle.language.specs.Surface.{Chain, single, chain, Categories, Identifiers, Alternatives, Query}
 use Rattle.query_core.specs.declared.Place.{Place}
 use Rattle.register_form.specs.Form.{register_in}
-use Rattle.register_form_view.specs.View.{kind_of}
 use Rattle.query_core_emit.specs.Emission.{Adds, connective_node}
 use Rattle.query_tree.specs.Nodes.{Node, tree_categories, tree_identifiers, tree_chain, tree_in, tree}
 use Rattle.query_tree.specs.declared.TreeNode.{TreeNode}

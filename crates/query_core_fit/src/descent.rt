@@ -9,8 +9,8 @@ ghost use Rattle.query_core_fit.specs.Fitting.{Fits, core_of_query, chain_tree, 
 use crate::Step;
 use crate::leaves::{kind_at, put_leaf, put_leaf_in, put_subquery, step_of};
 use query_core::Place;
-use query_core_emit::writing::put_join;
 use query_core_emit::again;
+use query_core_emit::writing::put_join;
 use query_tree::layout;
 use query_tree::reading::node_at;
 use text::{Span, part};
@@ -18,7 +18,13 @@ use values::Kind;
 
 // A query.
 #[cycle(fit_chain_fit_in_fit_query)]
-pub fn fit_query(tree: &[u8], i: usize, register: &[u8], held: &mut [u8], at: Place) -> Option<Place>
+pub fn fit_query(
+    tree: &[u8],
+    i: usize,
+    register: &[u8],
+    held: &mut [u8],
+    at: Place,
+) -> Option<Place>
     ensures { Fits tree_of (core_of_query (kinds_of (register_in register.now))) (nodes_in tree.now) i held.old at result held.new }
 {
     if i == 0 {

@@ -22,14 +22,13 @@ pub fn step_of(node: TreeNode) -> Step
 {
     match node {
         TreeNode::And(n) => Step::Two(n, false),
-        TreeNode::Or(n) => Step::Two(n, true),
-        TreeNode::Bar(n) => Step::Two(n, true),
-        TreeNode::Category(_) => Step::Leaf,
-        TreeNode::Namespace(_) => Step::Leaf,
-        TreeNode::Bare(_, _) => Step::Leaf,
-        TreeNode::Qualified(_, _, _) => Step::Leaf,
-        TreeNode::Existence => Step::Leaf,
-        TreeNode::Value(_, _) => Step::Leaf,
+        TreeNode::Or(n) | TreeNode::Bar(n) => Step::Two(n, true),
+        TreeNode::Category(_)
+        | TreeNode::Namespace(_)
+        | TreeNode::Bare(_, _)
+        | TreeNode::Qualified(_, _, _)
+        | TreeNode::Existence
+        | TreeNode::Value(_, _) => Step::Leaf,
         TreeNode::Subquery => Step::Subquery,
         TreeNode::Property(x) => Step::Property(x),
         TreeNode::Link(x) => Step::Link(x),
@@ -44,13 +43,18 @@ pub fn kind_at(s: &[u8], x: Span, register: &[u8]) -> Option<Kind>
 }
 
 // The node of a subquery: a page property's.
-pub fn put_subquery(s: &[u8], held: &mut [u8], at: Place, x: Span, kind: Option<Kind>) -> Option<Place>
+pub fn put_subquery(
+    s: &[u8],
+    held: &mut [u8],
+    at: Place,
+    x: Span,
+    kind: Option<Kind>,
+) -> Option<Place>
     ensures { Wraps (part_of s.now x) kind held.old at result held.new }
 {
     match kind? {
         Kind::Page => Some(put_select(s, s, held, at, Selector::Subquery(x))),
-        Kind::Scalar(_) => None,
-        Kind::String => None,
+        Kind::Scalar(_) | Kind::String => None,
     }
 }
 
@@ -77,27 +81,23 @@ pub fn put_leaf(s: &[u8], held: &mut [u8], at: Place, node: TreeNode) -> Option<
         TreeNode::Category(x) => Some(put_select(s, s, held, at, Selector::Category(x))),
         TreeNode::Namespace(n) => Some(put_select(s, s, held, at, Selector::Namespace(n))),
         TreeNode::Bare(c, article) => {
-            let split = Split {
-                namespace: None,
-                article,
-            };
+            let namespace = None;
+            let split = Split { namespace, article };
             Some(put_reference(s, held, at, c, split))
         }
         TreeNode::Qualified(c, namespace, article) => {
-            let split = Split {
-                namespace: Some(namespace),
-                article,
-            };
+            let namespace = Some(namespace);
+            let split = Split { namespace, article };
             Some(put_reference(s, held, at, c, split))
         }
-        TreeNode::And(_) => None,
-        TreeNode::Or(_) => None,
-        TreeNode::Bar(_) => None,
-        TreeNode::Existence => None,
-        TreeNode::Value(_, _) => None,
-        TreeNode::Subquery => None,
-        TreeNode::Property(_) => None,
-        TreeNode::Link(_) => None,
+        TreeNode::And(_)
+        | TreeNode::Or(_)
+        | TreeNode::Bar(_)
+        | TreeNode::Existence
+        | TreeNode::Value(_, _)
+        | TreeNode::Subquery
+        | TreeNode::Property(_)
+        | TreeNode::Link(_) => None,
     }
 }
 
@@ -115,15 +115,15 @@ pub fn put_leaf_in(
     match node {
         TreeNode::Existence => Some(put_select(s, s, held, at, Selector::Existence(x))),
         TreeNode::Value(c, p) => put_piece(s, held, at, x, c, p, kind),
-        TreeNode::And(_) => None,
-        TreeNode::Or(_) => None,
-        TreeNode::Bar(_) => None,
-        TreeNode::Category(_) => None,
-        TreeNode::Namespace(_) => None,
-        TreeNode::Bare(_, _) => None,
-        TreeNode::Qualified(_, _, _) => None,
-        TreeNode::Subquery => None,
-        TreeNode::Property(_) => None,
-        TreeNode::Link(_) => None,
+        TreeNode::And(_)
+        | TreeNode::Or(_)
+        | TreeNode::Bar(_)
+        | TreeNode::Category(_)
+        | TreeNode::Namespace(_)
+        | TreeNode::Bare(_, _)
+        | TreeNode::Qualified(_, _, _)
+        | TreeNode::Subquery
+        | TreeNode::Property(_)
+        | TreeNode::Link(_) => None,
     }
 }

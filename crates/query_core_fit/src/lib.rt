@@ -37,7 +37,9 @@ pub fn fit_tree(tree: &[u8], register: &[u8], held: &mut [u8]) -> Result<(), Ref
         return Err(Refusal::Undeclared);
     }
     let start = Place { code: 0 };
-    let place = fit_query(tree, n, register, held, start).ok_or(Refusal::UnfitPiece)?;
+    let Some(place) = fit_query(tree, n, register, held, start) else {
+        return Err(Refusal::UnfitPiece);
+    };
     if layout::MOST_NODES < count_of(place) {
         return Err(Refusal::TooManyNodes);
     }

@@ -1,6 +1,6 @@
 use borrow.Author.Rules.{rules}
 use native.Mathlib.Omega.{arith}
-use Rattle.query_core_fit.proofs.Ways.{descends, in_both}
+use Rattle.query_core_fit.proofs.Ways.{descends}
 use Rattle.query_core_fit.proofs.descent.+fit_chain_fit_in_fit_query.Goals as goal
 
 pub fit_chain-returns-then-i-eq0 : goal.fit_chain-returns-then-i-eq0
@@ -21,12 +21,6 @@ fit_chain-returns-in-Subquery t c = search (descends, rules)
 pub fit_chain-returns-in-Property : goal.fit_chain-returns-in-Property
 fit_chain-returns-in-Property t c = search (descends, rules)
 
-pub fit_chain-returns-in-At : goal.fit_chain-returns-in-At
-fit_chain-returns-in-At t c = search (descends, rules)
-
-pub fit_chain-returns-in-Unfit : goal.fit_chain-returns-in-Unfit
-fit_chain-returns-in-Unfit t c = search (descends, rules)
-
 pub fit_chain-returns-in-Leaf : goal.fit_chain-returns-in-Leaf
 fit_chain-returns-in-Leaf t c = search (descends, rules)
 
@@ -39,26 +33,8 @@ fit_in-returns-then-last-n t c = search (descends, rules)
 pub fit_in-fit_in-requires : goal.fit_in-fit_in-requires
 fit_in-fit_in-requires t c = (omega arith, tt)
 
-pub fit_in-fit_in-requires-in-At : goal.fit_in-fit_in-requires-in-At
-fit_in-fit_in-requires-in-At t c = (omega arith, tt)
-
 pub fit_in-fit_query-requires : goal.fit_in-fit_query-requires
 fit_in-fit_query-requires t c = (omega arith, tt)
-
-pub fit_in-returns-in-At-fit_in : goal.fit_in-returns-in-At-fit_in
-fit_in-returns-in-At-fit_in t c = in_both _ _ c.node_at-node.result _ _ c.if-i-eq0.false c.node_at-node.ensures c.step_of.ensures _ _ c.in-Two.is _ _ c.if-last-n.false _ _ _ _ _ _ _ _ _ _ c.fit_in.ensures c.in-At.is c.fit_in-in-At.ensures c.in-At-fit_in.is c.put_join.ensures
-
-pub fit_in-returns-in-Unfit-fit_in : goal.fit_in-returns-in-Unfit-fit_in
-fit_in-returns-in-Unfit-fit_in t c = search (descends, rules)
-
-pub fit_in-returns-in-Unfit : goal.fit_in-returns-in-Unfit
-fit_in-returns-in-Unfit t c = search (descends, rules)
-
-pub fit_in-returns-in-At-fit_query : goal.fit_in-returns-in-At-fit_query
-fit_in-returns-in-At-fit_query t c = search (descends, rules)
-
-pub fit_in-returns-in-Unfit-fit_query : goal.fit_in-returns-in-Unfit-fit_query
-fit_in-returns-in-Unfit-fit_query t c = search (descends, rules)
 
 pub fit_in-returns-in-Property : goal.fit_in-returns-in-Property
 fit_in-returns-in-Property t c = search (descends, rules)
@@ -78,23 +54,11 @@ fit_query-returns-then-last-n t c = search (descends, rules)
 pub fit_query-fit_query-requires : goal.fit_query-fit_query-requires
 fit_query-fit_query-requires t c = (omega arith, tt)
 
-pub fit_query-fit_query-requires-in-At : goal.fit_query-fit_query-requires-in-At
-fit_query-fit_query-requires-in-At t c = (omega arith, tt)
-
 pub fit_query-fit_chain-requires : goal.fit_query-fit_chain-requires
 fit_query-fit_chain-requires t c = (omega arith, tt)
 
 pub fit_query-fit_chain-requires-in-Link : goal.fit_query-fit_chain-requires-in-Link
 fit_query-fit_chain-requires-in-Link t c = (omega arith, tt)
-
-pub fit_query-returns-in-At-fit_query : goal.fit_query-returns-in-At-fit_query
-fit_query-returns-in-At-fit_query t c = search (descends, rules)
-
-pub fit_query-returns-in-Unfit-fit_query : goal.fit_query-returns-in-Unfit-fit_query
-fit_query-returns-in-Unfit-fit_query t c = search (descends, rules)
-
-pub fit_query-returns-in-Unfit : goal.fit_query-returns-in-Unfit
-fit_query-returns-in-Unfit t c = search (descends, rules)
 
 pub fit_query-returns-in-Subquery : goal.fit_query-returns-in-Subquery
 fit_query-returns-in-Subquery t c = search (descends, rules)
@@ -107,3 +71,33 @@ fit_query-returns-in-Link t c = rw c.again-in-Link.ensures (search (descends, ru
 
 pub fit_query-returns-in-Leaf : goal.fit_query-returns-in-Leaf
 fit_query-returns-in-Leaf t c = rw c.again-in-Leaf.ensures (search (descends, rules))
+
+pub fit_chain-returns-in_err-rest-in-Link : goal.fit_chain-returns-in_err-rest-in-Link
+fit_chain-returns-in_err-rest-in-Link t c = let n = c.in_err-rest-in-Link.was in rw c.from_residual.ensures (search (descends, rules))
+
+pub fit_in-returns-in_err-first-in-Two : goal.fit_in-returns-in_err-first-in-Two
+fit_in-returns-in_err-first-in-Two t c = let n = c.in_err-first-in-Two.was in rw c.from_residual.ensures (search (descends, rules))
+
+pub fit_in-returns-in_err-inner-in-Subquery : goal.fit_in-returns-in_err-inner-in-Subquery
+fit_in-returns-in_err-inner-in-Subquery t c = let n = c.in_err-inner-in-Subquery.was in rw c.from_residual-in_err-inner-in-Subquery.ensures (search (descends, rules))
+
+pub fit_query-returns-in_err-first-in-Two : goal.fit_query-returns-in_err-first-in-Two
+fit_query-returns-in_err-first-in-Two t c = let n = c.in_err-first-in-Two.was in rw c.from_residual.ensures (search (descends, rules))
+
+pub fit_in-returns-in_err-second-in-Two : goal.fit_in-returns-in_err-second-in-Two
+fit_in-returns-in_err-second-in-Two t c = let m = c.in_ok-first-in-Two.was in let n = c.in_err-second-in-Two.was in rw c.from_residual-in_err-second-in-Two.ensures (search (descends, rules))
+
+pub fit_query-returns-in_err-second-in-Two : goal.fit_query-returns-in_err-second-in-Two
+fit_query-returns-in_err-second-in-Two t c = let m = c.in_ok-first-in-Two.was in let n = c.in_err-second-in-Two.was in rw c.from_residual-in_err-second-in-Two.ensures (search (descends, rules))
+
+pub fit_chain-returns-in_ok-rest-in-Link : goal.fit_chain-returns-in_ok-rest-in-Link
+fit_chain-returns-in_ok-rest-in-Link t c = let n = c.in_ok-rest-in-Link.was in search (descends, rules)
+
+pub fit_in-returns-in_ok-inner-in-Subquery : goal.fit_in-returns-in_ok-inner-in-Subquery
+fit_in-returns-in_ok-inner-in-Subquery t c = let n = c.in_ok-inner-in-Subquery.was in search (descends, rules)
+
+pub fit_in-returns-in_ok-second-in-Two : goal.fit_in-returns-in_ok-second-in-Two
+fit_in-returns-in_ok-second-in-Two t c = let m = c.in_ok-first-in-Two.was in let n = c.in_ok-second-in-Two.was in search (descends, rules)
+
+pub fit_query-returns-in_ok-second-in-Two : goal.fit_query-returns-in_ok-second-in-Two
+fit_query-returns-in_ok-second-in-Two t c = let m = c.in_ok-first-in-Two.was in let n = c.in_ok-second-in-Two.was in search (descends, rules)

@@ -1,9 +1,6 @@
-use Rattle.query_core_fit.proofs.Singles.{pieces}
+use Rattle.query_core_fit.proofs.Singles.{piece_none}
 use borrow.Author.Rules.{rules}
 use Rattle.query_core_fit.proofs.leaves.put_piece.Goals as goal
 
-pub returns-in-Kind : goal.returns-in-Kind
-returns-in-Kind c = search (pieces, rules)
-
-pub returns-in-Nothing : goal.returns-in-Nothing
-returns-in-Nothing c = search (pieces, rules)
+pub returns-in_err-kind : goal.returns-in_err-kind
+returns-in_err-kind c = let n = c.in_err-kind.was in rw c.from_residual.ensures (search (piece_none, rules))
