@@ -37,11 +37,8 @@ pub fn word_length(c: SurfaceComparator) -> u8
 {
     match c {
         SurfaceComparator::Equal => 0,
-        SurfaceComparator::Unequal => 1,
-        SurfaceComparator::Greater => 2,
-        SurfaceComparator::Less => 2,
-        SurfaceComparator::AtLeast => 1,
-        SurfaceComparator::AtMost => 1,
+        SurfaceComparator::Unequal | SurfaceComparator::AtLeast | SurfaceComparator::AtMost => 1,
+        SurfaceComparator::Greater | SurfaceComparator::Less => 2,
     }
 }
 
@@ -49,24 +46,26 @@ pub fn word_length(c: SurfaceComparator) -> u8
 pub fn is_equal(c: SurfaceComparator) -> bool
     ensures { result ≡ is_equal c }
 {
-    word_length(c) == 0
+    c == SurfaceComparator::Equal
 }
 
 // The byte of a comparator in held trees.
-pub fn comparator_code(c: SurfaceComparator) -> u8
-    ensures { result ≡ comparator_code c }
-{
-    match c {
-        SurfaceComparator::Equal => 0,
-        SurfaceComparator::Unequal => 1,
-        SurfaceComparator::Greater => 2,
-        SurfaceComparator::Less => 3,
-        SurfaceComparator::AtLeast => 4,
-        SurfaceComparator::AtMost => LAST_COMPARATOR,
+impl From<SurfaceComparator> for u8 {
+    ghost from_gives = { λ c n. n ≡ comparator_code c };
+
+    fn from(c: SurfaceComparator) -> u8 {
+        match c {
+            SurfaceComparator::Equal => 0,
+            SurfaceComparator::Unequal => 1,
+            SurfaceComparator::Greater => 2,
+            SurfaceComparator::Less => 3,
+            SurfaceComparator::AtLeast => 4,
+            SurfaceComparator::AtMost => LAST_COMPARATOR,
+        }
     }
 }
 
-// The comparator of a byte; of one that no comparator has, the last.
+// The comparator of a byte; of one that no comparator has, the last. A TryFrom would refuse that byte, and this answers for every byte.
 pub fn comparator_from(code: u8) -> SurfaceComparator
     ensures { result ≡ comparator_from code }
 {
@@ -87,10 +86,8 @@ pub fn strict(c: SurfaceComparator) -> Comparator
     match c {
         SurfaceComparator::Equal => Comparator::Equal,
         SurfaceComparator::Unequal => Comparator::Unequal,
-        SurfaceComparator::Greater => Comparator::Greater,
-        SurfaceComparator::Less => Comparator::Less,
-        SurfaceComparator::AtLeast => Comparator::Greater,
-        SurfaceComparator::AtMost => Comparator::Less,
+        SurfaceComparator::Greater | SurfaceComparator::AtLeast => Comparator::Greater,
+        SurfaceComparator::Less | SurfaceComparator::AtMost => Comparator::Less,
     }
 }
 
@@ -98,26 +95,12 @@ pub fn strict(c: SurfaceComparator) -> Comparator
 pub fn or_equal(c: SurfaceComparator) -> bool
     ensures { result ≡ or_equal c }
 {
-    match c {
-        SurfaceComparator::Equal => false,
-        SurfaceComparator::Unequal => false,
-        SurfaceComparator::Greater => false,
-        SurfaceComparator::Less => false,
-        SurfaceComparator::AtLeast => true,
-        SurfaceComparator::AtMost => true,
-    }
+    matches!(c, SurfaceComparator::AtLeast | SurfaceComparator::AtMost)
 }
 
 // Whether a name is looked for in every namespace, whichever is written.
 pub fn in_any_namespace(c: SurfaceComparator) -> bool
     ensures { result ≡ in_any_namespace c }
 {
-    match c {
-        SurfaceComparator::Equal => false,
-        SurfaceComparator::Unequal => true,
-        SurfaceComparator::Greater => false,
-        SurfaceComparator::Less => false,
-        SurfaceComparator::AtLeast => false,
-        SurfaceComparator::AtMost => false,
-    }
+    c == SurfaceComparator::Unequal
 }

@@ -1,6 +1,6 @@
 // What differs from kind to kind: its word, its byte, and of a scalar kind how it is read, what codes it has, how long it is, spelled.
 ghost use Rattle.std.specs.Prelude.{◌≡◌, length, drop};
-ghost use Rattle.values.specs.Values.{kind_word, scalar_code, kind_code, kind_from, same_scalar, same_kind, read_scalar, lowest, above, in_range};
+ghost use Rattle.values.specs.Values.{kind_word, kind_code, kind_from, read_scalar, lowest, above, in_range};
 ghost use Rattle.values.specs.Spelling.{spell_scalar};
 ghost use Rattle.values.specs.Answers.{kind_at};
 
@@ -41,26 +41,20 @@ pub fn word_length(k: Kind) -> usize
 }
 
 // The byte of a kind in held forms.
-fn scalar_code(k: Scalar) -> u8
-    ensures { result ≡ scalar_code k }
-{
-    match k {
-        Scalar::Number => 1,
-        Scalar::Boolean => 2,
+impl From<Kind> for u8 {
+    ghost from_gives = { λ k n. n ≡ kind_code k };
+
+    fn from(k: Kind) -> u8 {
+        match k {
+            Kind::Page => 0,
+            Kind::Scalar(Scalar::Number) => 1,
+            Kind::Scalar(Scalar::Boolean) => 2,
+            Kind::String => 3,
+        }
     }
 }
 
-pub fn kind_code(k: Kind) -> u8
-    ensures { result ≡ kind_code k }
-{
-    match k {
-        Kind::Page => 0,
-        Kind::Scalar(s) => scalar_code(s),
-        Kind::String => 3,
-    }
-}
-
-// The kind of a byte; of one that no kind has, the last kind.
+// The kind of a byte; of one that no kind has, the last kind. A TryFrom would refuse that byte, and this answers for every byte.
 pub fn kind_from(b: u8) -> Kind
     ensures { result ≡ kind_from b }
 {
@@ -70,20 +64,6 @@ pub fn kind_from(b: u8) -> Kind
         2 => Kind::Scalar(Scalar::Boolean),
         _ => Kind::String,
     }
-}
-
-// Whether two scalar kinds are one.
-pub fn same_scalar(a: Scalar, b: Scalar) -> bool
-    ensures { result ≡ same_scalar a b }
-{
-    a == b
-}
-
-// Whether two kinds are one.
-pub fn same_kind(a: Kind, b: Kind) -> bool
-    ensures { result ≡ same_kind a b }
-{
-    a == b
 }
 
 // The code of the value that the bytes write in a scalar kind.

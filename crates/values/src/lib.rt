@@ -14,8 +14,7 @@ pub mod rules; // rules.rt: the rules for bytes, in a table
 
 pub use dates::{is_date_code, read_date};
 pub use kinds::{
-    KIND_COUNT, in_range, kind_at, kind_code, kind_from, read_scalar, same_kind, same_scalar,
-    scalar_length, word_length,
+    KIND_COUNT, in_range, kind_at, kind_from, read_scalar, scalar_length, word_length,
 };
 use names::{is_name, is_namespace};
 use tables::get_or;
