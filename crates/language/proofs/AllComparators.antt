@@ -38,10 +38,7 @@ pub typed_none : (s : Bytes) → SurfaceComparator.Equal ≡ first_typed [] s
 unfolding first_typed
 typed_none s = refl
 
-pub equal_by_length : (c : SurfaceComparator) (n : ℕ) → n ≡ length (word c) → eqb n 0 ≡ is_equal c
-equal_by_length c n e = rw e
-
-pub ruleset typing = (typed_here, typed_later, typed_none, equal_by_length)
+pub ruleset typing = (typed_here, typed_later, typed_none)
 
 -- What holds of every comparison with the core's comparators, and of two of them joined by OR, holds of one as written.
 pub of_cond : {A : Type 0} (P : A → Type 0) (t : Bool) (a b : A) → P a → P b → P (cond t a b)

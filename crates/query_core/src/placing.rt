@@ -5,9 +5,9 @@ ghost use Rattle.query_core.specs.Form.{comparator_code, span_at, no_span, tagge
 ghost use Rattle.query_core.specs.Writing.{written_in, mark_if, constant_strings, selector_strings, node_strings, constant_slot, selector_slot, slot_of, joint};
 
 use crate::{Connective, Constant, Node, Selector, Slot, Strings, layout};
-use language::{Comparator, SurfaceComparator, comparator_code};
+use language::{Comparator, SurfaceComparator};
 use text::Span;
-use values::{Kind, Split, kind_code};
+use values::{Kind, Split};
 
 // The code of a comparator.
 fn code_of(c: Comparator) -> u8
@@ -136,7 +136,7 @@ fn constant_slot(code: u8, k: Constant, p: Span, q: Span) -> Slot
         Constant::Scalar(j, n) => Slot {
             tag: layout::VALUE,
             comparator: code,
-            kind: kind_code(Kind::Scalar(j)),
+            kind: u8::from(Kind::Scalar(j)),
             first: p,
             second: none,
             number: n,
@@ -144,7 +144,7 @@ fn constant_slot(code: u8, k: Constant, p: Span, q: Span) -> Slot
         Constant::String(_) => Slot {
             tag: layout::VALUE,
             comparator: code,
-            kind: kind_code(Kind::String),
+            kind: u8::from(Kind::String),
             first: p,
             second: q,
             number: 0,
@@ -173,7 +173,7 @@ fn link_slot(c: SurfaceComparator, namespace: Option<Span>, p: Span, q: Span, t:
     };
     Slot {
         tag: layout::LINK,
-        comparator: comparator_code(c),
+        comparator: u8::from(c),
         kind: mark_of(namespace, q.len),
         first,
         second: t,

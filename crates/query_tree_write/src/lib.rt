@@ -10,7 +10,7 @@ ghost use Rattle.query_tree.specs.Reading.{node_by};
 ghost use Rattle.query_tree_write.specs.Laying.{entry_with, entry_of, string_as, has_room, Puts};
 
 use buffer::{put_bytes, put_two};
-use language::{SurfaceComparator, comparator_code};
+use language::SurfaceComparator;
 use names::put_composed;
 use query_tree::{Row, TreeNode, layout};
 use tables::narrow;
@@ -135,7 +135,7 @@ pub fn put_node(s: &[u8], tree: &mut [u8], at: Place, node: TreeNode) -> Place
     }
     let row = Row {
         tag: e.tag,
-        comparator: comparator_code(e.comparator),
+        comparator: u8::from(e.comparator),
         number: narrow(e.number),
         first: n as u8,
         second: m as u8,

@@ -14,7 +14,7 @@ use super::texts::{byte, value_code};
 use super::{DraftTables, PageTable, PropertyTable, TermTable};
 use tables::{next, put};
 use text::part;
-use values::{Kind, kind_code};
+use values::Kind;
 
 impl PropertyTable {
     // Adds a property.
@@ -22,7 +22,7 @@ impl PropertyTable {
         ensures { (l : List PropertyRow) → Properties self.old.kinds self.old.names self.old.count l → self.old.count < 64 → Properties self.new.kinds self.new.names self.new.count (l ++ (record { kind = kind; name = name } ∷ [])) }
     {
         let n = usize::from(self.count);
-        put(&mut self.kinds, n, kind_code(kind));
+        put(&mut self.kinds, n, u8::from(kind));
         put(&mut self.names, n, name);
         self.count = next(self.count);
     }

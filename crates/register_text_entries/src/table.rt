@@ -8,7 +8,7 @@ ghost use Rattle.register_text_entries.specs.Table.{entry_code, tag_from, kind_o
 use super::{Item, Tag};
 use tables::{get_or, narrow};
 use text::Span;
-use values::{Kind, kind_code, kind_from};
+use values::{Kind, kind_from};
 
 // Writes a number at a place of a table, where there is room.
 pub fn put(t: &mut [u16], at: usize, v: usize)
@@ -26,7 +26,7 @@ pub fn code_of(tag: Tag, kind: Kind) -> usize
         Tag::Cat => 1,
         Tag::Val => 2,
         Tag::Close => 3,
-        Tag::Prop => 4 + usize::from(kind_code(kind)),
+        Tag::Prop => 4 + usize::from(u8::from(kind)),
     }
 }
 

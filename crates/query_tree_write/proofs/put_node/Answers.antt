@@ -42,4 +42,4 @@ pub overflow_add-result-3 : goal.overflow_add-result-3
 overflow_add-result-3 c = let r = in_room _ _ c.has_room.ensures c.if-not-has_room.false-raw in omega (arith, r.0, r.1, c.if-n-gt64.false, c.if-m-gt64.false)
 
 pub returns : goal.returns
-returns c = put_is _ _ _ c.args.node _ _ _ c.entry_of-e.ensures c.part-a.ensures c.part-b.ensures _ _ (name_is _ _ _ _ _ c.put_string-n.ensures) _ _ c.put_string-m.ensures _ _ _ c.comparator_code.ensures c.narrow.ensures c.put_row.ensures
+returns c = put_is _ _ _ c.args.node _ _ _ c.entry_of-e.ensures c.part-a.ensures c.part-b.ensures _ _ (name_is _ _ _ _ _ c.put_string-n.ensures) _ _ c.put_string-m.ensures _ _ _ c.from.ensures c.narrow.ensures c.put_row.ensures

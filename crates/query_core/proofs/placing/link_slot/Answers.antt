@@ -1,4 +1,4 @@
 use Rattle.query_core.proofs.placing.link_slot.Goals as goal
 
 pub returns : goal.returns
-returns c = rw (c.mark_of.ensures, c.comparator_code.ensures)
+returns c = rw (c.mark_of.ensures, c.from.ensures)
