@@ -1,4 +1,5 @@
 -- The ways through `eval` and `eval_selector`.
+use Rattle.std.specs.Option.{option_map}
 use Rattle.std.specs.Prelude.{Option, Some, None}
 use Prim.Native.Nat.{ℕ, zero, suc, ◌-◌, ◌≤◌, ◌<◌}
 use mathlib.Core.Path.{◌≡◌, refl, sym, ap, ◌∙◌}
@@ -24,12 +25,11 @@ use Rattle.language.specs.Register.{Page, Register, holds}
 use Rattle.language.specs.Semantics.{S, Q, follows, no_mixed}
 use Rattle.query_core.specs.Held.{heap_in, node_in}
 use Rattle.query_core.specs.Postfix.{Node, stepped}
-use Rattle.query_core.specs.Reading.{constant_by, joined_by, node_by, read_by, ReadsNode}
+use Rattle.query_core.specs.Reading.{constant_by, joined_by, node_by, ReadsNode}
 use Rattle.query_core.specs.Stack.{stack_at}
 use Rattle.query_core.specs.declared.Selector.{Selector}
 use Rattle.query_core.specs.declared.Connective.{Connective}
 use Rattle.query_core.specs.declared.Node.{Node as DeclaredNode}
-use Rattle.query_core.specs.declared.NodeRead.{NodeRead}
 use Rattle.query_core.proofs.Stacks.{stack_zero, stack_suc, stack_step}
 use Rattle.register_form.specs.Opened.{page_in}
 use Rattle.register_form_view.specs.View.{Agrees}
@@ -170,11 +170,11 @@ module _ (h : Bytes) (places : List ℕ) (q : Bytes) where
   unfolding Evaluates Means
   eval_zero at r e R o = rw (e, stack_zero q) tt
 
-  module _ (at : ℕ) (some_node : at ≡ 0 → ⊥) (read : NodeRead) (u : ReadsNode (heap_in q) (node_in q (at - 1)) read) where
+  module _ (at : ℕ) (some_node : at ≡ 0 → ⊥) (read : Option DeclaredNode) (u : ReadsNode (heap_in q) (node_in q (at - 1)) read) where
     back : suc (at - 1) ≡ at
     back = omega arith
 
-    pub eval_unread : (r : Evaluated) → read ≡ NodeRead.Nothing → Evaluates h places q at (stack_at q at) r
+    pub eval_unread : (r : Evaluated) → read ≡ None → Evaluates h places q at (stack_at q at) r
     unfolding Evaluates Means
     eval_unread r f R o = rw (← back, stack_suc q (at - 1), u.is, f) (go (stack_at q (at - 1)))
       where
@@ -183,9 +183,9 @@ module _ (h : Bytes) (places : List ℕ) (q : Bytes) where
         go (Some st) = tt
 
     -- a selector, or two queries
-    module _ (node : DeclaredNode) (f : read ≡ NodeRead.Is node) (b : Bool) (is : b ≡ is_selection node.connective) where
+    module _ (node : DeclaredNode) (f : read ≡ Some node) (b : Bool) (is : b ≡ is_selection node.connective) where
       stack_here : stack_at q at ≡ (stack_at q (at - 1) >>= stepped (node_by (heap_in q) node))
-      stack_here = sym (ap (stack_at q) back) ∙ stack_step q (at - 1) (node_by (heap_in q) node) (u.is ∙ ap (read_by (heap_in q)) f)
+      stack_here = sym (ap (stack_at q) back) ∙ stack_step q (at - 1) (node_by (heap_in q) node) (u.is ∙ ap (option_map (node_by (heap_in q))) f)
 
       pub eval_selection : (r : Evaluated) → b ≡ true → Evaluates h places q (suc (at - 1)) (stack_with q (at - 1) node.selector) r → Evaluates h places q at (stack_at q at) r
       unfolding Evaluates

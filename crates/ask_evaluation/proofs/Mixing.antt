@@ -12,15 +12,11 @@ use Rattle.text.specs.Parts.{part_of}
 use Rattle.text.specs.declared.Span.{Span}
 use Rattle.values.specs.Values.{kind_of_constant}
 use Rattle.values.specs.declared.Kind.{Kind}
-use Rattle.values.specs.declared.Scalar.{Scalar}
-use Rattle.values.specs.declared.Split.{Split}
 use Rattle.language.specs.Answer.{◌>>=◌, found}
 use Rattle.language.specs.Core.{Core}
 use Rattle.language.specs.Core as Selectors
 use Rattle.language.specs.Register.{Register}
 use Rattle.language.specs.Semantics.{some_other, mismatch, mismatch_in}
-use Rattle.language.specs.declared.Comparator.{Comparator}
-use Rattle.language.specs.declared.SurfaceComparator.{SurfaceComparator}
 use Rattle.query_core.specs.Held.{count_in, heap_in, node_in}
 use Rattle.query_core.specs.Postfix.{Node, stepped}
 use Rattle.query_core.specs.Reading.{joined_by, ReadsNode, expects_kind, TestsNode}
@@ -29,33 +25,14 @@ use Rattle.query_core.specs.declared.Constant.{Constant}
 use Rattle.query_core.specs.declared.Selector.{Selector}
 use Rattle.query_core.specs.declared.Connective.{Connective}
 use Rattle.query_core.specs.declared.Node.{Node as DeclaredNode}
-use Rattle.query_core.specs.declared.NodeRead.{NodeRead}
 use Rattle.query_core.proofs.Stacks.{stack_zero, stack_suc}
 use Rattle.register_form.specs.Opened.{Opened}
 use Rattle.ask_evaluation.specs.Mixing.{any_to, expected_in, mixes, mixes_in, Mixes, SomeMixes, Mismatches}
-use Rattle.ask_evaluation.specs.declared.Expected.{Expected}
-
--- expected_by
-module _ (k : Connective) (e : k ≡ Connective.Select) (y : Selector) (p : Span) where
-  pub expects_page : y ≡ Selector.Subquery p → Expected.Kind p Kind.Page ≡ expected_in k y
-  expects_page f = rw (e, f)
-
-  pub expects_link : (c : SurfaceComparator) (r : Split) → y ≡ Selector.Link p c r → Expected.Kind p Kind.Page ≡ expected_in k y
-  expects_link c r f = rw (e, f)
-
-  module _ (c : Comparator) (v : Constant) (f : y ≡ Selector.Value p c v) where
-    pub expects_scalar : (j : Scalar) (n : ℕ) → v ≡ Constant.Scalar j n → Expected.Kind p (Kind.Scalar j) ≡ expected_in k y
-    expects_scalar j n g = rw (e, f, g)
-
-    pub expects_string : (s : Span) → v ≡ Constant.String s → Expected.Kind p Kind.String ≡ expected_in k y
-    expects_string s g = rw (e, f, g)
-
-pub ruleset expecting = (expects_page, expects_link, expects_scalar, expects_string)
 
 -- the kind that is expected of a property is not that of some page's value
-abbrev other_than : Register → Bytes → Expected → Bool
-other_than R q (Expected.Kind p k) = some_other R (part_of q p) k
-other_than R q Expected.Nothing = false
+abbrev other_than : Register → Bytes → Option (Span × Kind) → Bool
+other_than R q (Some (p, k)) = some_other R (part_of q p) k
+other_than R q None = false
 
 mixes_expected : (R : Register) (q : Bytes) (k : Connective) (y : Selector) → mixes R (joined_by q k y) ≡ other_than R q (expected_in k y)
 mixes_expected R q Connective.And y = refl
@@ -151,21 +128,21 @@ module _ (h q : Bytes) where
       go None f = refl
       go (Some m) f = sym (mixes_quiet R m (sym (f m refl) ∙ not-true b e))
 
-  module _ (i : ℕ) (read : NodeRead) (u : ReadsNode (heap_in q) (node_in q i) read) where
-    pub mixes_unread : read ≡ NodeRead.Nothing → Mixes h q i false
+  module _ (i : ℕ) (read : Option DeclaredNode) (u : ReadsNode (heap_in q) (node_in q i) read) where
+    pub mixes_unread : read ≡ None → Mixes h q i false
     unfolding Mixes mixes_in
     mixes_unread e places R o = rw (u.is, e)
 
-    module _ (node : DeclaredNode) (e : read ≡ NodeRead.Is node) (w : Expected) (f : w ≡ expected_in node.connective node.selector) where
+    module _ (node : DeclaredNode) (e : read ≡ Some node) (w : Option (Span × Kind)) (f : w ≡ expected_in node.connective node.selector) where
       mixes_is : (R : Register) → other_than R (heap_in q) w ≡ mixes_in R q i
       unfolding mixes_in
       mixes_is R = rw (u.is, e, f) (sym (mixes_expected R (heap_in q) node.connective node.selector))
 
-      pub mixes_none : w ≡ Expected.Nothing → Mixes h q i false
+      pub mixes_none : w ≡ None → Mixes h q i false
       unfolding Mixes
       mixes_none g places R o = rw (← mixes_is R, g)
 
-      pub mixes_kind : (p : Span) (kind : Kind) (t x : Bytes) (r : Bool) → w ≡ Expected.Kind p kind → t ≡ heap_in q → x ≡ part_of t p
+      pub mixes_kind : (p : Span) (kind : Kind) (t x : Bytes) (r : Bool) → w ≡ Some (p, kind) → t ≡ heap_in q → x ≡ part_of t p
           → ((places : List ℕ) (R : Register) → Opened h places R → r ≡ some_other R x kind) → Mixes h q i r
       unfolding Mixes
       mixes_kind p kind t x r g k l f places R o =

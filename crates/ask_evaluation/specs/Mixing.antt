@@ -1,6 +1,7 @@
 -- Working definitions: the nodes whose values may be of two kinds.
-use Rattle.std.specs.Prelude.{ℕ, zero, suc, ◌≡◌, Bool, false, ◌||◌, List}
+use Rattle.std.specs.Prelude.{ℕ, zero, suc, ◌≡◌, Bool, false, ◌||◌, List, Option, Some, None}
 use Rattle.text.specs.Bytes.{Bytes}
+use Rattle.text.specs.declared.Span.{Span}
 use Rattle.values.specs.Values.{kind_of_constant}
 use Rattle.values.specs.declared.Kind.{Kind}
 use Rattle.language.specs.Answer.{found}
@@ -14,7 +15,6 @@ use Rattle.query_core.specs.declared.Constant.{Constant}
 use Rattle.query_core.specs.declared.Selector.{Selector}
 use Rattle.query_core.specs.declared.Connective.{Connective}
 use Rattle.register_form.specs.Opened.{Opened}
-use Rattle.ask_evaluation.specs.declared.Expected.{Expected}
 
 -- The test holds of some number below n.
 unfoldable pub any_to : ℕ → (ℕ → Bool) → Bool
@@ -22,19 +22,19 @@ any_to zero g = false
 any_to (suc n) g = any_to n g || g n
 
 -- The kind that a node expects of the values under a property.
-abbrev pub wanted_by : Selector → Expected
-wanted_by (Selector.Category p) = Expected.Nothing
-wanted_by (Selector.Namespace p) = Expected.Nothing
-wanted_by (Selector.Existence p) = Expected.Nothing
-wanted_by (Selector.Subquery p) = Expected.Kind p Kind.Page
-wanted_by (Selector.Article c p) = Expected.Nothing
-wanted_by (Selector.Value p c (Constant.Scalar k n)) = Expected.Kind p (Kind.Scalar k)
-wanted_by (Selector.Value p c (Constant.String t)) = Expected.Kind p Kind.String
-wanted_by (Selector.Link p c r) = Expected.Kind p Kind.Page
+abbrev pub wanted_by : Selector → Option (Span × Kind)
+wanted_by (Selector.Category p) = None
+wanted_by (Selector.Namespace p) = None
+wanted_by (Selector.Existence p) = None
+wanted_by (Selector.Subquery p) = Some (p, Kind.Page)
+wanted_by (Selector.Article c p) = None
+wanted_by (Selector.Value p c (Constant.Scalar k n)) = Some (p, Kind.Scalar k)
+wanted_by (Selector.Value p c (Constant.String t)) = Some (p, Kind.String)
+wanted_by (Selector.Link p c r) = Some (p, Kind.Page)
 
-abbrev pub expected_in : Connective → Selector → Expected
-expected_in Connective.And y = Expected.Nothing
-expected_in Connective.Or y = Expected.Nothing
+abbrev pub expected_in : Connective → Selector → Option (Span × Kind)
+expected_in Connective.And y = None
+expected_in Connective.Or y = None
 expected_in Connective.Select y = wanted_by y
 
 -- Some page holds a value of another kind than the node expects.

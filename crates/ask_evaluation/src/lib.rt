@@ -11,26 +11,18 @@ pub mod mismatch; // mismatch.rt: number 23's test
 
 pub use mismatch::has_mismatch;
 use pageset::PageSet;
-use query_core::{Connective, NodeRead, Selector, layout, node_at};
+use query_core::{Connective, Selector, layout, node_at};
 use register_form_view::{
     NameTest, ValueTest, pages_in_category, pages_named, pages_with_link, pages_with_property,
     pages_with_value,
 };
 use text::{Span, part};
-use values::Kind;
 
 // The pages that a query selects, and the place where its nodes begin.
 #[derive(Clone, Copy)]
 pub struct Evaluated {
     pub set: PageSet,
     pub next: usize,
-}
-
-// The kind that is expected of the values under a property, or none.
-#[derive(Clone, Copy)]
-pub enum Expected {
-    Kind(Span, Kind),
-    Nothing,
 }
 
 // The names and string constants of a held query.
@@ -44,7 +36,7 @@ pub fn query_heap(q: &[u8]) -> &[u8]
 pub fn capped(n: u16) -> u16
     ensures { Capped n result }
 {
-    if n < 256 { n } else { 256 }
+    n.min(register_form::layout::MOST_PAGES)
 }
 
 // The name that a selector carries.
@@ -52,38 +44,26 @@ pub fn name_of(selector: Selector) -> Span
     ensures { result ≡ name_span selector }
 {
     match selector {
-        Selector::Category(p) => p,
-        Selector::Namespace(p) => p,
-        Selector::Existence(p) => p,
-        Selector::Subquery(p) => p,
-        Selector::Article(_, p) => p,
-        Selector::Value(p, _, _) => p,
-        Selector::Link(p, _, _) => p,
+        Selector::Category(p)
+        | Selector::Namespace(p)
+        | Selector::Existence(p)
+        | Selector::Subquery(p)
+        | Selector::Article(_, p)
+        | Selector::Value(p, _, _)
+        | Selector::Link(p, _, _) => p,
     }
 }
 
 fn is_subquery(selector: Selector) -> bool
     ensures { result ≡ is_subquery selector }
 {
-    match selector {
-        Selector::Category(_) => false,
-        Selector::Namespace(_) => false,
-        Selector::Existence(_) => false,
-        Selector::Subquery(_) => true,
-        Selector::Article(_, _) => false,
-        Selector::Value(_, _, _) => false,
-        Selector::Link(_, _, _) => false,
-    }
+    matches!(selector, Selector::Subquery(_))
 }
 
 fn is_selection(connective: Connective) -> bool
     ensures { result ≡ is_selection connective }
 {
-    match connective {
-        Connective::And => false,
-        Connective::Or => false,
-        Connective::Select => true,
-    }
+    matches!(connective, Connective::Select)
 }
 
 // The pages that match a selector; inner are those that its subquery selects. With one caller this was compiled into the recursion,
@@ -137,8 +117,7 @@ pub fn eval(q: &[u8], at: usize, h: &[u8], places: &[u16]) -> Evaluated
         return nothing();
     }
     let last = at - 1;
-    let read = node_at(q, last);
-    let NodeRead::Is(node) = read else {
+    let Some(node) = node_at(q, last) else {
         return nothing();
     };
     let connective = node.connective;

@@ -3,33 +3,30 @@ ghost use Rattle.std.specs.Prelude.{◌≡◌};
 ghost use Rattle.language.specs.Semantics.{mismatch};
 ghost use Rattle.ask_evaluation.specs.Mixing.{expected_in, Mixes, Mismatches};
 
-use crate::{Expected, query_heap};
+use crate::query_heap;
 use buffer::two_at;
-use query_core::{Connective, Constant, Node, NodeRead, Selector, expects_kind_at, node_at};
+use query_core::{Connective, Constant, Node, Selector, expects_kind_at, node_at};
 use register_form_view::other_kind;
-use text::part;
+use text::{Span, part};
 use values::Kind;
 
-// The kind that a node expects of the values under a property.
-fn expected_by(node: Node) -> Expected
+// The property whose values a node expects to be of one kind, by where its name lies, and the kind.
+fn expected_by(node: Node) -> Option<(Span, Kind)>
     ensures { result ≡ expected_in node.connective node.selector }
 {
     let connective = node.connective;
     let selector = node.selector;
     match connective {
-        Connective::And => Expected::Nothing,
-        Connective::Or => Expected::Nothing,
+        Connective::And | Connective::Or => None,
         Connective::Select => match selector {
-            Selector::Category(_) => Expected::Nothing,
-            Selector::Namespace(_) => Expected::Nothing,
-            Selector::Existence(_) => Expected::Nothing,
-            Selector::Subquery(p) => Expected::Kind(p, Kind::Page),
-            Selector::Article(_, _) => Expected::Nothing,
-            Selector::Value(p, _, v) => match v {
-                Constant::Scalar(k, _) => Expected::Kind(p, Kind::Scalar(k)),
-                Constant::String(_) => Expected::Kind(p, Kind::String),
-            },
-            Selector::Link(p, _, _) => Expected::Kind(p, Kind::Page),
+            Selector::Category(_)
+            | Selector::Namespace(_)
+            | Selector::Existence(_)
+            | Selector::Article(_, _) => None,
+            Selector::Subquery(p) => Some((p, Kind::Page)),
+            Selector::Value(p, _, Constant::Scalar(k, _)) => Some((p, Kind::Scalar(k))),
+            Selector::Value(p, _, Constant::String(_)) => Some((p, Kind::String)),
+            Selector::Link(p, _, _) => Some((p, Kind::Page)),
         },
     }
 }
@@ -41,12 +38,10 @@ fn mixes_at(q: &[u8], i: usize, h: &[u8]) -> bool
     if !expects_kind_at(q, i) {
         return false;
     }
-    let read = node_at(q, i);
-    let NodeRead::Is(node) = read else {
+    let Some(node) = node_at(q, i) else {
         return false;
     };
-    let expected = expected_by(node);
-    let Expected::Kind(p, kind) = expected else {
+    let Some((p, kind)) = expected_by(node) else {
         return false;
     };
     other_kind(h, part(query_heap(q), p.start, p.len), kind)
@@ -58,10 +53,8 @@ pub fn has_mismatch(q: &[u8], h: &[u8]) -> bool
 {
     let n = usize::from(two_at(q, 0));
     let mut some = false;
-    let mut i: usize = 0;
-    while i < n {
+    for i in 0..n {
         some = some | mixes_at(q, i, h);
-        i += 1;
     }
     some
 }

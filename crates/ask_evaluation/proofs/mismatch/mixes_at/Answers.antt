@@ -8,8 +8,8 @@ returns-then-not-expects_kind_at c = search (mixing, rules)
 pub returns-in_default : goal.returns-in_default
 returns-in_default c = search (mixing, rules)
 
-pub returns-in_default-expected : goal.returns-in_default-expected
-returns-in_default-expected c = search (mixing, rules)
+pub returns-in_default-expected_by : goal.returns-in_default-expected_by
+returns-in_default-expected_by c = search (mixing, rules)
 
 pub returns : goal.returns
 returns c = search (mixing, rules)
