@@ -32,11 +32,12 @@ pub enum Refusal {
     NoTree,
 }
 
-impl From<Refusal> for i32 {
-    ghost from_gives = { λ r n. n ≡ pos (refusal_number r) };
-
-    fn from(refusal: Refusal) -> i32 {
-        match refusal {
+impl Refusal {
+    // The number by which a caller knows it.
+    pub fn number(self) -> u8
+        ensures { result ≡ refusal_number self }
+    {
+        match self {
             Refusal::TextTooLong => 1,
             Refusal::TextUnread => 2,
             Refusal::RuleBroken => 3,
@@ -63,5 +64,13 @@ impl From<Refusal> for i32 {
             Refusal::TreeTooShort => 33,
             Refusal::NoTree => 34,
         }
+    }
+}
+
+impl From<Refusal> for i32 {
+    ghost from_gives = { λ r n. n ≡ pos (refusal_number r) };
+
+    fn from(refusal: Refusal) -> i32 {
+        i32::from(refusal.number())
     }
 }

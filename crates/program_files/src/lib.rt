@@ -9,25 +9,14 @@ use std::process::ExitCode;
 use std::rt::Files;
 use std::{io, str};
 
-// How many bytes of a buffer were read, or that the file cannot be read, and the system's reason.
-#[derive(Clone, Copy)]
-pub enum Read {
-    Bytes(usize),
-    Failed(io::Error),
-}
-
 // One read behind the first bytes of a buffer.
-fn read_behind<F: io::Read>(file: &mut F, buf: &mut [u8], done: usize) -> Read
+fn read_behind<F: io::Read>(file: &mut F, buf: &mut [u8], done: usize) -> io::Result<usize>
     ensures { Within done (length buf.old) result }
 {
     if buf.len() < done {
-        return Read::Failed(io::Error::from(io::ErrorKind::InvalidInput));
+        return Err(io::Error::from(io::ErrorKind::InvalidInput));
     }
-    let rest = &mut buf[done..];
-    match file.read(rest) {
-        Ok(n) => Read::Bytes(n),
-        Err(reason) => Read::Failed(reason),
-    }
+    file.read(&mut buf[done..])
 }
 
 // The file of a name, which is text.
@@ -38,26 +27,20 @@ fn file_named<R: Files>(rt: &R, path: &[u8]) -> io::Result<R::File> {
     }
 }
 
-// Reads a file until it ends or the buffer is full.
-pub fn read_file<R: Files>(rt: &R, path: &[u8], buf: &mut [u8]) -> Read
+// Reads a file until it ends or the buffer is full: how many bytes there are, or the system's reason why it cannot be read.
+pub fn read_file<R: Files>(rt: &R, path: &[u8], buf: &mut [u8]) -> io::Result<usize>
     ensures { Within 0 (length buf.old) result }
 {
-    let mut file = match file_named(rt, path) {
-        Ok(file) => file,
-        Err(reason) => return Read::Failed(reason),
-    };
+    let mut file = file_named(rt, path)?;
     let mut done: usize = 0;
     while done < buf.len() {
-        let read = read_behind(&mut file, buf, done);
-        let Read::Bytes(n) = read else {
-            return read;
-        };
+        let n = read_behind(&mut file, buf, done)?;
         if n == 0 {
-            return Read::Bytes(done);
+            return Ok(done);
         }
         done += n;
     }
-    Read::Bytes(done)
+    Ok(done)
 }
 
 // Writes a line to standard error: what failed, a colon and the system's reason.

@@ -13,7 +13,7 @@ mod steps; // steps.rt: the script, taken apart
 use call_ask::{Asked, ask};
 use call_query::query;
 use call_register::register;
-use program_files::{Read, fail, read_file};
+use program_files::{fail, read_file};
 use query_core::QUERY_BYTES;
 use register_form::{REGISTER_BYTES, page_count};
 use std::io;
@@ -130,12 +130,11 @@ fn main(rt: HostRuntime) -> ExitCode {
     let mut file = [0u8; 131072];
     let mut held = [0u8; REGISTER_BYTES];
     let mut asked = [0u8; QUERY_BYTES];
-    let read = read_file(&rt, b"script", &mut file);
-    match read {
-        Read::Bytes(n) => match perform_all(&rt, part(&file, 0, n), &mut held, &mut asked) {
+    match read_file(&rt, b"script", &mut file) {
+        Ok(n) => match perform_all(&rt, part(&file, 0, n), &mut held, &mut asked) {
             Ok(()) => ExitCode::SUCCESS,
             Err(reason) => fail(&rt, "standard output", reason),
         },
-        Read::Failed(reason) => fail(&rt, "script", reason),
+        Err(reason) => fail(&rt, "script", reason),
     }
 }
