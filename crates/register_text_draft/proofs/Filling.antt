@@ -172,9 +172,6 @@ module _ (t u : TextTable) where
         let near : (length (composed_name space) ≤ 64) × (length (composed_name name) ≤ 64) = subst (λ (j : Identifier). Spaced (link j)) is short in
         rw is (f near.0)
 
-    pub link_qualified : (a : Span) → i.namespace ≡ Some a → (space : Bytes) → space ≡ part v a.start a.len → Named space name → Spaced (link (link_of v)) → Pushes (identifier_text (link_of v) ∷ [])
-    link_qualified a e space es = by_split space (ap (λ (r : Reference). identifier (composed_reference r)) (sym p.is) ∙ rw (e, es, en))
-
     pub link_bare : i.namespace ≡ None → (space : Bytes) → space ≡ [] → Named space name → Spaced (link (link_of v)) → Pushes (identifier_text (link_of v) ∷ [])
     link_bare e space es = by_split space (ap (λ (r : Reference). identifier (composed_reference r)) (sym p.is) ∙ rw (e, es, en, composed_empty))
 

@@ -120,9 +120,6 @@ module _ (s : Bytes) (t props : List ℕ) (np : ℕ) (x v : Bytes) (ps : List Pr
   found_at : r ≡ Some (kind_of q.value, place_among ps x % 65536)
   found_at = er ∙ ap property_found (i.found x ∙ ap (λ (o : Option Kind). o >>= λ k. Some (k, place_among ps x)) q.kind)
 
-  pub val_lost : {A : Type 0} → r ≡ None → A
-  val_lost e = absurd (let z : ◌≡◌ {A = ℕ} 0 1 = (let f = found_at in cc) in omega arith)
-
   module _ (k : Kind) (p : ℕ) (e : r ≡ Some (k, p)) (p' g : ℕ) (ep : p' ≡ p) (eg : g ≡ (p' + 1) % 256) where
     found_is : ◌≡◌ {A = Kind × ℕ} (kind_of q.value, place_among ps x % 65536) (k, p)
     found_is = let f = found_at in cc

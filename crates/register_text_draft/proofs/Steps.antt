@@ -36,9 +36,6 @@ module _ (s : Bytes) (i : Item) (ps : List Property) (A B : DraftTables) (x : By
     pub entry_page : i.tag ≡ Tag.Page → (length x ≤ 64 → Does (page x y)) → Good ps (entry_in s i) → Does (entry_in s i)
     entry_page h f = by_entry (page x y) (rw (h, ex, ey)) f
 
-    pub entry_val : i.tag ≡ Tag.Val → (Valued ps x y → Does (val x y)) → Good ps (entry_in s i) → Does (entry_in s i)
-    entry_val h f = by_entry (val x y) (rw (h, ex, ey)) f
-
 module _ (s : Bytes) (i : Item) (ps : List Property) (A : DraftTables) where
   no_entry : entry_in s i ≡ close → Extends A A (λ d. added ps d (entry_in s i))
   unfolding added

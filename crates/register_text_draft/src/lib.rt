@@ -67,6 +67,36 @@ pub struct DraftTables {
 }
 
 impl DraftTables {
+    // Tables without rows.
+    pub fn new() -> Self
+        ensures { Roomy result }
+    {
+        DraftTables {
+            texts: TextTable {
+                heap: [0; layout::TEXT_BYTE_ROOM],
+                starts: [0; layout::TEXT_ROOM],
+                lens: [0; layout::TEXT_ROOM],
+                count: 0,
+                end: 0,
+            },
+            properties: PropertyTable {
+                kinds: [0; layout::PROPERTY_ROOM],
+                names: [0; layout::PROPERTY_ROOM],
+                count: 0,
+            },
+            pages: PageTable {
+                identifiers: [0; layout::PAGE_ROOM],
+                firsts: [0; layout::PAGE_START_ROOM],
+                count: 0,
+            },
+            terms: TermTable {
+                groups: [0; layout::FORM_ROOM],
+                codes: [0; layout::FORM_ROOM],
+                count: 0,
+            },
+        }
+    }
+
     // Adds an entry.
     fn draft_entry(&mut self, s: &[u8], t: &[u16], props: &[u16], np: usize, item: Item)
         ensures { (ps : List Property) → Lists s.now t.now props.now np ps → Good ps (entry_in s.now item) → Extends self.old self.new (λ d. added ps d (entry_in s.now item)) }
