@@ -27,9 +27,10 @@ use Rattle.register_text_verdict.specs.declared.Judged.{Judged}
 use Rattle.register_form.specs.Dictionary.{Dictionary}
 use Rattle.register_form.specs.Form.{register_size, form_of, stored}
 use Rattle.register_form.specs.Draft.{Draft, drafted, write_into}
-use Rattle.register_form.specs.Tables.{Tables, tables_of, draft_in}
+use Rattle.register_form.specs.Tables.{Tables, draft_in}
+use Rattle.register_text_draft.specs.declared.DraftTables.{DraftTables}
 use Rattle.register_text_draft.specs.Drafting.{draft_of}
-use Rattle.register_text_draft.specs.Tables.{Roomy, Accepted, Own}
+use Rattle.register_text_draft.specs.Tables.{Accepted, Own, tables_in}
 use Rattle.register_text_draft.proofs.Kept.{draft_fits}
 use Rattle.register_text_draft.proofs.Loop.{accepted_passed, accepted_reads, accepted_kept, accepted_describes, judged_accepted}
 use Rattle.register_form_assembly.specs.Terms.{Filling}
@@ -51,20 +52,6 @@ terms_many t = length_tabulate t.nt _
 -- Tables of zeros have room for any draft of an accepted text, and for any text.
 zeros_many : (n : ℕ) → length (replicate {A = ℕ} n 0) ≡ n
 zeros_many n = length-replicate n 0
-
-pub zeros_roomy : Roomy (replicate 35136 0) (replicate 2368 0) (replicate 2368 0) (replicate 64 0) (replicate 64 0) (replicate 256 0) (replicate 257 0) (replicate 2048 0) (replicate 2048 0)
-zeros_roomy =
-    record {
-      heap_room = omega (arith, zeros_many 35136);
-      starts_room = omega (arith, zeros_many 2368);
-      lens_room = omega (arith, zeros_many 2368);
-      kinds_room = omega (arith, zeros_many 64);
-      names_room = omega (arith, zeros_many 64);
-      identifiers_room = omega (arith, zeros_many 256);
-      firsts_room = omega (arith, zeros_many 257);
-      groups_room = omega (arith, zeros_many 2048);
-      codes_room = omega (arith, zeros_many 2048);
-    }
 
 zeros_room : Room (replicate 5500 0) (replicate 5500 0)
 zeros_room = record { properties = omega (arith, zeros_many 5500); places = omega (arith, zeros_many 5500) }
@@ -94,19 +81,18 @@ module _ (c : Bytes) (t props : List ℕ) (n np : ℕ) (b : Bytes) where
   unfolding register_call write_into
   call_is s a = rw (accepted_reads s c t props n np a, within_limits s a)
 
-  module _ (heap : Bytes) (starts lens : List ℕ) (m : ℕ) (kinds names : List ℕ) (props-many : ℕ) (identifiers firsts : List ℕ) (pages_many : ℕ) (groups codes : List ℕ) (forms : ℕ)
-      (f : (s : Bytes) → Accepted s c t props n np → (uses : List ℕ) → Own forms uses → draft_in (tables_of heap starts lens m kinds names props-many identifiers firsts pages_many uses groups codes forms) ≡ whole) where
+  module _ (D : DraftTables) (f : (s : Bytes) → Accepted s c t props n np → (uses : List ℕ) → Own D.terms.count uses → draft_in (tables_in D uses) ≡ whole) where
     abbrev T : List ℕ → Tables
-    T uses = tables_of heap starts lens m kinds names props-many identifiers firsts pages_many uses groups codes forms
+    T uses = tables_in D uses
 
     -- as many forms as a register may have, whatever table tells that they are terms of their own
-    forms_few : (s : Bytes) → Accepted s c t props n np → forms ≤ 2048
+    forms_few : (s : Bytes) → Accepted s c t props n np → D.terms.count ≤ 2048
     forms_few s a =
-        let own = tabulate forms (λ x. x) in
-        let e = f s a own (λ x b. get_d_tabulate forms (λ x. x) 0 x b) in
+        let own = tabulate D.terms.count (λ x. x) in
+        let e = f s a own (λ x b. get_d_tabulate D.terms.count (λ x. x) 0 x b) in
         omega (arith, terms_many (T own), ap (λ (d : Dictionary). length d.terms) e, (draft_fits s a.rows.typed (entries_in c t n) (accepted_passed s c t props n np a)).terms)
 
-    pub text_written : (uses : List ℕ) (number : ℕ) (after : Bytes) → Filling (λ x. x) (replicate 2048 0) forms uses → DraftWritten (T uses) b number after → (r : Result (Unit {0}) Refusal) → (WritingNumber number → refusals.number_of r ≡ number) → Writes c t props n np b r after
+    pub text_written : (uses : List ℕ) (number : ℕ) (after : Bytes) → Filling (λ x. x) (replicate 2048 0) D.terms.count uses → DraftWritten (T uses) b number after → (r : Result (Unit {0}) Refusal) → (WritingNumber number → refusals.number_of r ≡ number) → Writes c t props n np b r after
     text_written uses number after own w r same =
         record {
           is = λ s a.

@@ -12,7 +12,7 @@ use language::Refusal;
 use register_form::layout;
 use register_form_assembly::terms::put_own;
 use register_form_write::write_draft;
-use register_text_draft::draft_text;
+use register_text_draft::DraftTables;
 use register_text_entries::composing::compose;
 use register_text_verdict::{judge, judge_typed, read_rows};
 
@@ -38,48 +38,25 @@ fn write_text(
 ) -> Result<(), Refusal>
     ensures { Writes text.now t.now props.now n np held.old result held.new }
 {
-    let mut heap = [0u8; layout::TEXT_BYTE_ROOM];
-    let mut starts = [0u32; layout::TEXT_ROOM];
-    let mut lens = [0u16; layout::TEXT_ROOM];
-    let mut kinds = [0u8; layout::PROPERTY_ROOM];
-    let mut names = [0u16; layout::PROPERTY_ROOM];
-    let mut identifiers = [0u16; layout::PAGE_ROOM];
-    let mut firsts = [0u16; layout::PAGE_START_ROOM];
+    let mut draft = DraftTables::new();
+    draft.draft_text(text, t, n, props, np);
     let mut uses = [0u16; layout::FORM_ROOM];
-    let mut groups = [0u8; layout::FORM_ROOM];
-    let mut codes = [0u64; layout::FORM_ROOM];
-    let c = draft_text(
-        text,
-        t,
-        n,
-        props,
-        np,
-        &mut heap,
-        &mut starts,
-        &mut lens,
-        &mut kinds,
-        &mut names,
-        &mut identifiers,
-        &mut firsts,
-        &mut groups,
-        &mut codes,
-    );
-    put_own(&mut uses, c.forms); // each form is a term of its own
+    put_own(&mut uses, draft.terms.count); // each form is a term of its own
     let number = write_draft(
-        &heap,
-        &starts,
-        &lens,
-        c.texts,
-        &kinds,
-        &names,
-        c.properties,
-        &identifiers,
-        &firsts,
-        c.pages,
+        &draft.texts.heap,
+        &draft.texts.starts,
+        &draft.texts.lens,
+        draft.texts.count,
+        &draft.properties.kinds,
+        &draft.properties.names,
+        draft.properties.count,
+        &draft.pages.identifiers,
+        &draft.pages.firsts,
+        draft.pages.count,
         &uses,
-        &groups,
-        &codes,
-        c.forms,
+        &draft.terms.groups,
+        &draft.terms.codes,
+        draft.terms.count,
         held,
     );
     refused(number)
