@@ -1,12 +1,12 @@
 // The texts of two held registers as one ascending list, each text once, and the item that each number of a text has in it.
 #![tactic(auto)]
 
-ghost use Rattle.std.specs.Prelude.{◌≡◌, replicate};
+ghost use Rattle.std.specs.Prelude.{◌≡◌};
 ghost use Rattle.register_form.specs.Form.{text_at};
 ghost use Rattle.register_join_merge.specs.Merging.{next_order, takes_first, takes_second, next_text, Pasted, Added, Noted, Merger};
 
 use dictionary::Texts;
-use register_form::{layout, text_at, text_count};
+use register_form::{text_at, text_count};
 use std::cmp::Ordering;
 use tables::{narrow, narrow_start, next, put};
 use text::compare;
@@ -62,47 +62,37 @@ fn put_text(heap: &mut [u8], at: usize, t: &[u8]) -> usize
     end
 }
 
-// The texts of two registers as items, one behind the other in a heap that has room for both.
+// The texts of two registers as items, one behind the other in a heap.
 #[derive(Drop)]
-pub struct Heap {
-    pub bytes: [u8; layout::DRAFT_TEXT_BYTES],
-    pub starts: [u32; layout::DRAFT_TEXTS],
-    pub lens: [u16; layout::DRAFT_TEXTS],
+pub struct Heap<'a> {
+    pub bytes: &'a mut [u8],
+    pub starts: &'a mut [u32],
+    pub lens: &'a mut [u16],
 }
 
-impl Heap {
-    // No text yet.
-    pub fn new() -> Heap
-        ensures bytes { result.bytes ≡ replicate 70272 0 }
-        ensures starts { result.starts ≡ replicate 4736 0 }
-        ensures lens { result.lens ≡ replicate 4736 0 }
-    {
-        Heap {
-            bytes: [0; layout::DRAFT_TEXT_BYTES],
-            starts: [0; layout::DRAFT_TEXTS],
-            lens: [0; layout::DRAFT_TEXTS],
-        }
-    }
-
+impl<'a> Heap<'a> {
     // Puts text t behind those before it, as item k; answers where it ends.
     fn add(&mut self, k: u16, end: usize, t: &[u8]) -> usize
-        ensures { Added self.old.bytes self.old.starts self.old.lens k end t.now self.new.bytes self.new.starts self.new.lens result }
+        ensures added { Added self.old.bytes.now self.old.starts.now self.old.lens.now k end t.now self.new.bytes.now self.new.starts.now self.new.lens.now result }
+        ensures same_bytes { self.new.bytes.ghost_name ≡ self.old.bytes.ghost_name }
+        ensures same_starts { self.new.starts.ghost_name ≡ self.old.starts.ghost_name }
+        ensures same_lens { self.new.lens.ghost_name ≡ self.old.lens.ghost_name }
     {
-        put(&mut self.starts, usize::from(k), narrow_start(end));
-        put(&mut self.lens, usize::from(k), narrow(t.len()));
-        put_text(&mut self.bytes, end, t)
+        put(self.starts, usize::from(k), narrow_start(end));
+        put(self.lens, usize::from(k), narrow(t.len()));
+        put_text(self.bytes, end, t)
     }
 
     // The texts as those of a dictionary.
     pub fn texts(&self) -> Texts<'_>
-        ensures bytes { result.bytes.now ≡ self.now.bytes }
-        ensures starts { result.starts.now ≡ self.now.starts }
-        ensures lens { result.lens.now ≡ self.now.lens }
+        ensures bytes { result.bytes.now ≡ self.now.bytes.now }
+        ensures starts { result.starts.now ≡ self.now.starts.now }
+        ensures lens { result.lens.now ≡ self.now.lens.now }
     {
         Texts {
-            bytes: &self.bytes,
-            starts: &self.starts,
-            lens: &self.lens,
+            bytes: self.bytes,
+            starts: self.starts,
+            lens: self.lens,
         }
     }
 }
@@ -126,7 +116,10 @@ pub fn merge<'a>(
     items1: &mut [u16],
     items2: &mut [u16],
 ) -> u16
-    ensures { Merger h.now g.now heap.old.bytes heap.old.starts heap.old.lens items1.old items2.old heap.new.bytes heap.new.starts heap.new.lens items1.new items2.new result }
+    ensures merger { Merger h.now g.now heap.old.bytes.now heap.old.starts.now heap.old.lens.now items1.old items2.old heap.new.bytes.now heap.new.starts.now heap.new.lens.now items1.new items2.new result }
+    ensures same_bytes { heap.new.bytes.ghost_name ≡ heap.old.bytes.ghost_name }
+    ensures same_starts { heap.new.starts.ghost_name ≡ heap.old.starts.ghost_name }
+    ensures same_lens { heap.new.lens.ghost_name ≡ heap.old.lens.ghost_name }
 {
     let n = text_count(h);
     let m = text_count(g);
