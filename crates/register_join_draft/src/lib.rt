@@ -1,7 +1,7 @@
 // The draft of the join of two held registers, in tables.
 #![tactic(auto)]
 
-ghost use Rattle.std.specs.Prelude.{◌≡◌, replicate};
+ghost use Rattle.std.specs.Prelude.{◌≡◌};
 ghost use Rattle.register_form.specs.Form.{page_count, property_count};
 ghost use Rattle.register_join_draft.specs.Drafting.{items_in, Entering, PropertiesPut, IdentifiersPut, new_row, PagesPut, JoinPut, clashes_at, some_clash, Clashed};
 
@@ -20,46 +20,20 @@ pub struct Side<'a> {
     pub items: &'a [u16],
 }
 
-// The tables of a draft, with room for the rows of two registers: properties by kinds and names, pages by identifiers and the places
-// where their forms begin, forms by their terms, terms by groups and codes; and how many properties, pages and terms there are.
+// The tables of a draft that are lent to be filled: properties by kinds and names, pages by identifiers and the places where their
+// forms begin, forms by their terms, terms by groups and codes; and how many properties, pages and terms there are.
 #[derive(Drop)]
-pub struct DraftTables {
-    pub kinds: [u8; layout::DRAFT_PROPERTIES],
-    pub names: [u16; layout::DRAFT_PROPERTIES],
+pub struct DraftTables<'a> {
+    pub kinds: &'a mut [u8],
+    pub names: &'a mut [u16],
     pub property_count: u16,
-    pub identifiers: [u16; layout::DRAFT_PAGES],
-    pub firsts: [u16; layout::DRAFT_PAGE_STARTS],
+    pub identifiers: &'a mut [u16],
+    pub firsts: &'a mut [u16],
     pub page_count: u16,
-    pub uses: [u16; layout::DRAFT_FORMS],
-    pub groups: [u8; layout::DRAFT_FORMS],
-    pub codes: [u64; layout::DRAFT_FORMS],
+    pub uses: &'a mut [u16],
+    pub groups: &'a mut [u8],
+    pub codes: &'a mut [u64],
     pub term_count: u16,
-}
-
-impl DraftTables {
-    // Nothing yet.
-    pub fn new() -> DraftTables
-        ensures kinds { result.kinds ≡ replicate 128 0 }
-        ensures names { result.names ≡ replicate 128 0 }
-        ensures identifiers { result.identifiers ≡ replicate 512 0 }
-        ensures firsts { result.firsts ≡ replicate 513 0 }
-        ensures uses { result.uses ≡ replicate 4096 0 }
-        ensures groups { result.groups ≡ replicate 4096 0 }
-        ensures codes { result.codes ≡ replicate 4096 0 }
-    {
-        DraftTables {
-            kinds: [0; layout::DRAFT_PROPERTIES],
-            names: [0; layout::DRAFT_PROPERTIES],
-            property_count: 0,
-            identifiers: [0; layout::DRAFT_PAGES],
-            firsts: [0; layout::DRAFT_PAGE_STARTS],
-            page_count: 0,
-            uses: [0; layout::DRAFT_FORMS],
-            groups: [0; layout::DRAFT_FORMS],
-            codes: [0; layout::DRAFT_FORMS],
-            term_count: 0,
-        }
-    }
 }
 
 // Puts x behind the first n of a list, unless the table has a place for it; answers how many there are.
@@ -174,28 +148,31 @@ fn put_pages(
 // Makes the draft of the join in tables: the properties and pages of the first register and then those of the second that are not
 // there, and the terms of the first and then of the second.
 pub fn draft_join(first: Side, second: Side, draft: &mut DraftTables)
-    ensures { JoinPut first.entry.held.now second.entry.held.now first.entry.items.now second.entry.items.now draft.old.kinds draft.old.names draft.old.identifiers draft.old.firsts draft.old.uses draft.old.groups draft.old.codes draft.new.kinds draft.new.names draft.new.identifiers draft.new.firsts draft.new.uses draft.new.groups draft.new.codes draft.new.property_count draft.new.page_count draft.new.term_count }
+    ensures { JoinPut first.entry.held.now second.entry.held.now first.entry.items.now second.entry.items.now draft.old.kinds.now draft.old.names.now draft.old.identifiers.now draft.old.firsts.now draft.old.uses.now draft.old.groups.now draft.old.codes.now draft.new.kinds.now draft.new.names.now draft.new.identifiers.now draft.new.firsts.now draft.new.uses.now draft.new.groups.now draft.new.codes.now draft.new.property_count draft.new.page_count draft.new.term_count }
 {
     let mut places = [0u16; layout::DRAFT_TEXTS];
     let mut both = [0u16; layout::DRAFT_TEXTS];
     let mut pages = [0u16; layout::DRAFT_TEXTS];
     let mut list = [0u16; layout::PAGE_ROOM];
-    let own = first.put_properties(&mut draft.kinds, &mut draft.names, &mut places, 0);
-    let properties = second.put_properties(&mut draft.kinds, &mut draft.names, &mut places, own);
-    let start = first.put_identifiers(&mut draft.identifiers, &mut both, 0);
-    let count = second.put_identifiers(&mut draft.identifiers, &mut both, start);
+    let (kinds, names) = (&mut *draft.kinds, &mut *draft.names);
+    let own = first.put_properties(kinds, names, &mut places, 0);
+    let properties = second.put_properties(kinds, names, &mut places, own);
+    let identifiers = &mut *draft.identifiers;
+    let start = first.put_identifiers(identifiers, &mut both, 0);
+    let count = second.put_identifiers(identifiers, &mut both, start);
     second.put_identifiers(&mut list, &mut pages, 0);
-    let base = first.put_terms(&places, &mut draft.groups, &mut draft.codes, 0);
-    let terms = second.put_terms(&places, &mut draft.groups, &mut draft.codes, base);
+    let (groups, codes) = (&mut *draft.groups, &mut *draft.codes);
+    let base = first.put_terms(&places, groups, codes, 0);
+    let terms = second.put_terms(&places, groups, codes, base);
     put_pages(
         first.held,
         second.held,
         base,
         &pages,
-        &draft.identifiers,
+        identifiers,
         count,
-        &mut draft.firsts,
-        &mut draft.uses,
+        &mut *draft.firsts,
+        &mut *draft.uses,
     );
     draft.property_count = properties;
     draft.page_count = count;

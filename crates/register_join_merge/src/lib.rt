@@ -73,10 +73,7 @@ pub struct Heap<'a> {
 impl<'a> Heap<'a> {
     // Puts text t behind those before it, as item k; answers where it ends.
     fn add(&mut self, k: u16, end: usize, t: &[u8]) -> usize
-        ensures added { Added self.old.bytes.now self.old.starts.now self.old.lens.now k end t.now self.new.bytes.now self.new.starts.now self.new.lens.now result }
-        ensures same_bytes { self.new.bytes.ghost_name ≡ self.old.bytes.ghost_name }
-        ensures same_starts { self.new.starts.ghost_name ≡ self.old.starts.ghost_name }
-        ensures same_lens { self.new.lens.ghost_name ≡ self.old.lens.ghost_name }
+        ensures { Added self.old.bytes.now self.old.starts.now self.old.lens.now k end t.now self.new.bytes.now self.new.starts.now self.new.lens.now result }
     {
         put(self.starts, usize::from(k), narrow_start(end));
         put(self.lens, usize::from(k), narrow(t.len()));
@@ -116,10 +113,7 @@ pub fn merge<'a>(
     items1: &mut [u16],
     items2: &mut [u16],
 ) -> u16
-    ensures merger { Merger h.now g.now heap.old.bytes.now heap.old.starts.now heap.old.lens.now items1.old items2.old heap.new.bytes.now heap.new.starts.now heap.new.lens.now items1.new items2.new result }
-    ensures same_bytes { heap.new.bytes.ghost_name ≡ heap.old.bytes.ghost_name }
-    ensures same_starts { heap.new.starts.ghost_name ≡ heap.old.starts.ghost_name }
-    ensures same_lens { heap.new.lens.ghost_name ≡ heap.old.lens.ghost_name }
+    ensures { Merger h.now g.now heap.old.bytes.now heap.old.starts.now heap.old.lens.now items1.old items2.old heap.new.bytes.now heap.new.starts.now heap.new.lens.now items1.new items2.new result }
 {
     let n = text_count(h);
     let m = text_count(g);

@@ -1,5 +1,4 @@
 use Prim.Native.Nat.{◌+◌, ◌-◌}
-use mathlib.Core.Path.{◌≡◌}
 use Rattle.register_form.specs.Form.{text_count}
 use Rattle.register_join_merge.proofs.Run.{Run}
 use Rattle.register_join_merge.proofs.merge.Given as goal
@@ -7,9 +6,6 @@ use Rattle.register_join_merge.proofs.merge.Given as goal
 abbrev pub invariant-loop-i : goal.invariant-loop-i
 invariant-loop-i l =
     Run l.h l.g l.initial.heap.bytes.now l.initial.heap.starts.now l.initial.heap.lens.now l.initial.items1 l.initial.items2 l.heap.bytes.now l.heap.starts.now l.heap.lens.now l.items1 l.items2 l.i l.j l.k l.end
-    × (l.heap.bytes.ghost_name ≡ l.initial.heap.bytes.ghost_name)
-    × (l.heap.starts.ghost_name ≡ l.initial.heap.starts.ghost_name)
-    × (l.heap.lens.ghost_name ≡ l.initial.heap.lens.ghost_name)
 
 abbrev pub decreases-loop-i : goal.decreases-loop-i
 decreases-loop-i l =
