@@ -10,6 +10,7 @@ use borrow.Author.Tests.{lt-ltb, le-ltb, leb-true, leb-false}
 use lib.Dec.{ltb, leb}
 use lib.ListN.{length, get_or, drop, set, length-set, length-map, get_or-map}
 use lib.Seq.{set_at, drop-cons}
+use mir.Val.{bool_byte}
 use Rattle.text.specs.Bytes.{Bytes}
 use Rattle.text.specs.Table.{tabulate, bit, count_to}
 use Rattle.text.proofs.Tables.{length_tabulate, get_d_tabulate, is_tabulate, count_ext}
@@ -23,6 +24,11 @@ use Rattle.ask_evaluation.specs.Meaning.{Capped, marks_of}
 use Rattle.call_answers.specs.Calls.{marked}
 use Rattle.call_ask.specs.Running.{MarksWritten}
 
+-- A mark's byte, by the library's word for it.
+byte_is : (m : Bool) → bool_byte m ≡ bit m
+byte_is true = refl
+byte_is false = refl
+
 -- After i bytes: out is the buffer, and b what it was.
 pub record Writing (marks : List Bool) (end : ℕ) (b out : Bytes) (i : ℕ) : Type 0 where
   pub below : i ≤ end
@@ -34,9 +40,10 @@ unfolding tabulate
 writing_none marks end b = record { below = omega arith; size = refl; bytes = refl }
 
 module _ (marks : List Bool) (end : ℕ) (b out : Bytes) (i : ℕ) (w : Writing marks end b out i) where
-  pub writing_more : (x : ℕ) → end ≤ length b → i < end → x ≡ bit (get_or marks i false) → Writing marks end b (set out i x) (i + 1)
+  pub writing_more : (m : Bool) (x : ℕ) → end ≤ length b → i < end → m ≡ get_or marks i false → x ≡ bool_byte m → Writing marks end b (set out i x) (i + 1)
   unfolding tabulate
-  writing_more x room l e =
+  writing_more m x room l f g =
+      let e : x ≡ bit (get_or marks i false) = g ∙ byte_is m ∙ ap bit f in
       record {
         below = omega arith;
         size = length-set out i x ∙ w.size;

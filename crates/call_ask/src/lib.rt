@@ -3,7 +3,6 @@
 
 ghost use Rattle.std.specs.Prelude.{◌≡◌, Bool, ℕ};
 ghost use Rattle.pageset.specs.Marks.{marks_from};
-ghost use Rattle.text.specs.Table.{bit};
 ghost use Rattle.call_ask.specs.Call.{Asks};
 ghost use Rattle.call_ask.specs.Running.{MarksWritten, Selected, Runs};
 
@@ -16,13 +15,6 @@ use query_core::is_query;
 use register_form::{REGISTER_BYTES, page_count};
 use text::part;
 
-// A mark as a byte.
-fn byte_of(b: bool) -> u8
-    ensures { result ≡ bit b }
-{
-    if b { 1 } else { 0 }
-}
-
 // Writes the first n marks, a byte each, where there is room.
 fn write_marks(set: PageSet, n: u16, out: &mut [u8])
     ensures { MarksWritten (marks_from set.words) n out.old out.new }
@@ -33,7 +25,7 @@ fn write_marks(set: PageSet, n: u16, out: &mut [u8])
     }
     let words = set.words;
     for i in 0..end {
-        out[i] = byte_of(mark_at(&words, i));
+        out[i] = u8::from(mark_at(&words, i));
     }
 }
 

@@ -1,6 +1,3 @@
-use mathlib.Core.Path.{ap, ◌∙◌}
-use native.Mathlib.Omega.{arith}
-use Rattle.text.specs.Table.{bit}
 use Rattle.call_ask.proofs.Writing.{writing_none, writing_more, writing_all, no_room}
 use Rattle.call_ask.proofs.write_marks.Goals as goal
 
@@ -10,14 +7,8 @@ returns-then-out-end c = no_room _ _ _ _ _ c.capped.ensures c.from-end.ensures c
 pub loop-i-init : goal.loop-i-init
 loop-i-init c = writing_none _ _ _
 
-pub bounds-out-i : goal.bounds-out-i
-bounds-out-i c = omega (arith, c.loop-i.invariant.size, c.if-out-end.false)
-
 pub loop-i-preserved : goal.loop-i-preserved
-loop-i-preserved c = writing_more _ _ _ _ _ c.loop-i.invariant _ c.if-out-end.false c.loop-i-test.true (c.byte_of.ensures ∙ ap bit c.mark_at.ensures)
-
-pub shape_of-out : goal.shape_of-out
-shape_of-out c = c.loop-i.invariant.size
+loop-i-preserved c = writing_more _ _ _ _ _ c.loop-i.invariant _ _ c.if-out-end.false c.loop-i-test.true c.mark_at.ensures c.from.ensures
 
 pub returns : goal.returns
 returns c = writing_all _ _ _ _ _ c.loop-i.invariant _ _ c.capped.ensures c.from-end.ensures c.loop-i-test.false
