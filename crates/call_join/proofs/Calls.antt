@@ -29,7 +29,7 @@ use Rattle.register_join_draft.specs.Drafting.{items_in, TableRoom, JoinPut, Cla
 use Rattle.register_join_draft.proofs.Whole.{held_draft, held_drafted, held_texts, held_terms}
 use Rattle.call_answers.specs.Calls.{joined, join_call}
 use Rattle.call_answers.proofs.Answers.{as_told}
-use Rattle.call_join.specs.Stages.{Joins, Writes, WritingNumber}
+use Rattle.call_join.specs.Stages.{Joins, Writes}
 
 -- Tables of zeros have room.
 zeros_many : (n : ℕ) → length (replicate {A = ℕ} n 0) ≡ n
@@ -66,26 +66,17 @@ joined_clear R S b e = rw e (go (is_within_limits (join R S)))
     go true = refl
     go false = refl
 
-writing_number : (R : Register) (b : Bytes) (n : ℕ) → n ≡ number_of (write_into R b) → WritingNumber n
-unfolding write_into stored placed
-writing_number R b n e = go (is_within_limits R) (ltb (length b) register_size) e
-  where
-    go : (p q : Bool) → n ≡ number_of (cond p (cond q (refused 8) (accepted (form_of R ++ drop register_size b))) (refused 7)) → WritingNumber n
-    go false q e = inr (inl e)
-    go true true e = inr (inr e)
-    go true false e = inl e
-
 module _ (h g b : Bytes) where
   joined_clash : kinds_clash (register_in h) (register_in g) ≡ true → Answered (joined (register_in h) (register_in g) b) b 32 b
   unfolding joined
   joined_clash e = record { number = rw e; bytes = rw e }
 
   -- The draft of the join, written.
-  pub join_written : (heap : Bytes) (starts lens items1 items2 : List ℕ) (m : ℕ) (ks ns is fs us gs cs : List ℕ) (np ng nt number : ℕ) (after : Bytes) (r : Result (Unit {0}) Refusal)
+  pub join_written : (heap : Bytes) (starts lens items1 items2 : List ℕ) (m : ℕ) (ks ns is fs us gs cs : List ℕ) (np ng nt : ℕ) (r : Result (Unit {0}) Refusal) (after : Bytes)
       → JoinPut h g items1 items2 (replicate 128 0) (replicate 128 0) (replicate 512 0) (replicate 513 0) (replicate 4096 0) (replicate 4096 0) (replicate 4096 0) ks ns is fs us gs cs np ng nt
-      → OrderedWritten (tables_of heap starts lens m ks ns np is fs ng us gs cs nt) b number after → (WritingNumber number → refusals.number_of r ≡ number)
+      → OrderedWritten (tables_of heap starts lens m ks ns np is fs ng us gs cs nt) b (refusals.number_of r) after
       → Writes h g heap starts lens m items1 items2 b r after
-  join_written heap starts lens items1 items2 m ks ns is fs us gs cs np ng nt number after r put w same =
+  join_written heap starts lens items1 items2 m ks ns is fs us gs cs np ng nt r after put w =
       record {
         is = λ fh fg merged clear.
             let T = tables_of heap starts lens m ks ns np is fs ng us gs cs nt in
@@ -95,9 +86,7 @@ module _ (h g b : Bytes) where
             } in
             let draft = held_draft h g heap starts lens items1 items2 m fh fg merged clear (replicate 128 0) (replicate 128 0) (replicate 512 0) (replicate 513 0) (replicate 4096 0) (replicate 4096 0) (replicate 4096 0) ks ns is fs us gs cs np ng nt put zeros_space in
             let told = held_drafted h g heap starts lens items1 items2 m fh fg merged clear (replicate 128 0) (replicate 128 0) (replicate 512 0) (replicate 513 0) (replicate 4096 0) (replicate 4096 0) (replicate 4096 0) ks ns is fs us gs cs np ng nt put zeros_space in
-            let answer = w.is draft room merged.up in
-            let known = as_told (joined_clear (register_in h) (register_in g) b clear ∙ ap (λ (R : Register). write_into R b) (sym told)) answer in
-            record { number = same (writing_number _ b number answer.number) ∙ known.number; bytes = known.bytes };
+            as_told (joined_clear (register_in h) (register_in g) b clear ∙ ap (λ (R : Register). write_into R b) (sym told)) (w.is draft room merged.up);
       }
 
   -- Two forms: their texts are merged, and the kinds clash or do not.

@@ -5,26 +5,17 @@ ghost use Rattle.std.specs.Prelude.{◌≡◌};
 ghost use Rattle.language.specs.Answer.{Answered};
 ghost use Rattle.language.specs.Refusals.{number_of};
 ghost use Rattle.call_answers.specs.Calls.{join_call};
-ghost use Rattle.call_join.specs.Stages.{Joins, Writes, WritingNumber};
+ghost use Rattle.call_join.specs.Stages.{Joins, Writes};
 
+use dictionary::Texts;
 use language::Refusal;
 use register_form::{REGISTER_BYTES, layout};
+use register_form_assembly::Draft;
 use register_form_test::open;
 use register_form_write::write_ordered;
 use register_join_draft::{DraftTables, Side, draft_join, kinds_clash};
 use register_join_merge::{Heap, merge};
 use text::part;
-
-// What the number of writing a draft says.
-fn refused(number: usize) -> Result<(), Refusal>
-    ensures { WritingNumber number → number_of result ≡ number }
-{
-    match number {
-        0 => Ok(()),
-        7 => Err(Refusal::OverLimit),
-        _ => Err(Refusal::RegisterTooShort),
-    }
-}
 
 // Writes the join of two forms, the m texts of both being items of the heap: refusal 7 or 8.
 fn write_join(
@@ -36,26 +27,27 @@ fn write_join(
 ) -> Result<(), Refusal>
     ensures { Writes first.entry.held.now second.entry.held.now heap.now.bytes heap.now.starts heap.now.lens m first.entry.items.now second.entry.items.now held.old result held.new }
 {
-    let mut draft = DraftTables::new();
-    draft_join(first, second, &mut draft);
-    let number = write_ordered(
-        &heap.bytes,
-        &heap.starts,
-        &heap.lens,
-        m,
-        &draft.kinds,
-        &draft.names,
-        draft.property_count,
-        &draft.identifiers,
-        &draft.firsts,
-        draft.page_count,
-        &draft.uses,
-        &draft.groups,
-        &draft.codes,
-        draft.term_count,
-        held,
-    );
-    refused(number)
+    let mut tables = DraftTables::new();
+    draft_join(first, second, &mut tables);
+    let draft = Draft {
+        texts: Texts {
+            bytes: &heap.bytes,
+            starts: &heap.starts,
+            lens: &heap.lens,
+        },
+        text_count: m,
+        kinds: &tables.kinds,
+        names: &tables.names,
+        property_count: tables.property_count,
+        identifiers: &tables.identifiers,
+        firsts: &tables.firsts,
+        page_count: tables.page_count,
+        uses: &tables.uses,
+        groups: &tables.groups,
+        codes: &tables.codes,
+        term_count: tables.term_count,
+    };
+    write_ordered(&draft, held)
 }
 
 // Joins two forms, or answers the lowest refusal in order of 32, 7, 8.

@@ -37,7 +37,7 @@ use Rattle.register_form_assembly.specs.Terms.{Filling}
 use Rattle.register_form_write.specs.Writer.{Capacity, DraftWritten}
 use Rattle.call_answers.specs.Calls.{register_call}
 use Rattle.call_answers.proofs.Answers.{as_told}
-use Rattle.call_register.specs.Writing.{WritingNumber, Writes, Registers, RegistersTyped}
+use Rattle.call_register.specs.Writing.{Writes, Registers, RegistersTyped}
 use Rattle.call_register.proofs.Preparing.{ascii_prepared, composed_prepared}
 
 -- The tables of a draft have what the draft has.
@@ -55,16 +55,6 @@ zeros_many n = length-replicate n 0
 
 zeros_room : Room (replicate 5500 0) (replicate 5500 0)
 zeros_room = record { properties = omega (arith, zeros_many 5500); places = omega (arith, zeros_many 5500) }
-
--- Writing a draft answers 0, 7 or 8.
-writing_number : (R : Register) (b : Bytes) (n : ℕ) → n ≡ number_of (write_into R b) → WritingNumber n
-unfolding write_into stored placed
-writing_number R b n e = go (is_within_limits R) (ltb (length b) register_size) e
-  where
-    go : (p q : Bool) → n ≡ number_of (cond p (cond q (refused 8) (accepted (form_of R ++ drop register_size b))) (refused 7)) → WritingNumber n
-    go false q e = inr (inl e)
-    go true true e = inr (inr e)
-    go true false e = inl e
 
 -- The draft of an accepted text, written.
 module _ (c : Bytes) (t props : List ℕ) (n np : ℕ) (b : Bytes) where
@@ -92,8 +82,8 @@ module _ (c : Bytes) (t props : List ℕ) (n np : ℕ) (b : Bytes) where
         let e = f s a own (λ x b. get_d_tabulate D.terms.count (λ x. x) 0 x b) in
         omega (arith, terms_many (T own), ap (λ (d : Dictionary). length d.terms) e, (draft_fits s a.rows.typed (entries_in c t n) (accepted_passed s c t props n np a)).terms)
 
-    pub text_written : (uses : List ℕ) (number : ℕ) (after : Bytes) → Filling (λ x. x) (replicate 2048 0) D.terms.count uses → DraftWritten (T uses) b number after → (r : Result (Unit {0}) Refusal) → (WritingNumber number → refusals.number_of r ≡ number) → Writes c t props n np b r after
-    text_written uses number after own w r same =
+    pub text_written : (uses : List ℕ) (r : Result (Unit {0}) Refusal) (after : Bytes) → Filling (λ x. x) (replicate 2048 0) D.terms.count uses → DraftWritten (T uses) b (refusals.number_of r) after → Writes c t props n np b r after
+    text_written uses r after own w =
         record {
           is = λ s a.
               let few = forms_few s a in
@@ -102,8 +92,7 @@ module _ (c : Bytes) (t props : List ℕ) (n np : ℕ) (b : Bytes) where
               let room : Capacity (T uses) = record { texts = omega (arith, texts_many (T uses), ap (λ (d : Dictionary). length d.texts) e, fits.texts); terms = omega arith } in
               let told : drafted (draft_in (T uses)) ≡ register_of (entries_in c t n) = ap drafted e ∙ accepted_describes s c t props n np a in
               let answer = w.is (subst Draft (sym e) (accepted_kept s c t props n np a)) room in
-              let known = as_told (call_is s a ∙ ap (λ (R : Register). write_into R b) (sym told)) answer in
-              record { number = same (writing_number _ b number answer.number) ∙ known.number; bytes = known.bytes };
+              as_told (call_is s a ∙ ap (λ (R : Register). write_into R b) (sym told)) answer;
         }
 
 refusal_some : (e : Refusal) → refusal_number e ≡ 0 → ⊥

@@ -1,5 +1,5 @@
 -- Working definitions: the register call on rows that a text gave.
-use Rattle.std.specs.Prelude.{ℕ, ◌≡◌, ◌⊎◌, List, Result}
+use Rattle.std.specs.Prelude.{ℕ, List, Result}
 use Rattle.text.specs.Bytes.{Bytes}
 use Rattle.language.specs.Answer.{Answered}
 use Rattle.language.specs.Refusals.{number_of}
@@ -19,7 +19,3 @@ pub record Registers (c : Bytes) (t : List ℕ) (n : ℕ) (b : Bytes) (r : Resul
 -- The same of rows as typed.
 pub record RegistersTyped (s : Bytes) (t : List ℕ) (n : ℕ) (b : Bytes) (r : Result (Unit {0}) Refusal) (after : Bytes) : Type 0 where
   pub is : RowsRead s t n → Answered (register_call s b) b (number_of r) after
-
--- The numbers of writing a draft.
-abbrev pub WritingNumber : ℕ → Type 0
-WritingNumber n = (n ≡ 0) ⊎ ((n ≡ 7) ⊎ (n ≡ 8))

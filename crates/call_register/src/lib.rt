@@ -6,26 +6,17 @@ ghost use Rattle.text.specs.Bytes.{all};
 ghost use Rattle.language.specs.Answer.{Answered};
 ghost use Rattle.language.specs.Refusals.{number_of};
 ghost use Rattle.call_answers.specs.Calls.{register_call};
-ghost use Rattle.call_register.specs.Writing.{WritingNumber, Writes, Registers, RegistersTyped};
+ghost use Rattle.call_register.specs.Writing.{Writes, Registers, RegistersTyped};
 
+use dictionary::Texts;
 use language::Refusal;
 use register_form::layout;
+use register_form_assembly::Draft;
 use register_form_assembly::terms::put_own;
 use register_form_write::write_draft;
 use register_text_draft::DraftTables;
 use register_text_entries::composing::compose;
 use register_text_verdict::{judge, judge_typed, read_rows};
-
-// What the number of writing a draft says.
-fn refused(number: usize) -> Result<(), Refusal>
-    ensures { WritingNumber number → number_of result ≡ number }
-{
-    match number {
-        0 => Ok(()),
-        7 => Err(Refusal::OverLimit),
-        _ => Err(Refusal::RegisterTooShort),
-    }
-}
 
 // Writes the register of accepted rows: refusal 8 where the buffer is too short.
 fn write_text(
@@ -38,28 +29,29 @@ fn write_text(
 ) -> Result<(), Refusal>
     ensures { Writes text.now t.now props.now n np held.old result held.new }
 {
-    let mut draft = DraftTables::new();
-    draft.draft_text(text, t, n, props, np);
+    let mut tables = DraftTables::new();
+    tables.draft_text(text, t, n, props, np);
     let mut uses = [0u16; layout::FORM_ROOM];
-    put_own(&mut uses, draft.terms.count); // each form is a term of its own
-    let number = write_draft(
-        &draft.texts.heap,
-        &draft.texts.starts,
-        &draft.texts.lens,
-        draft.texts.count,
-        &draft.properties.kinds,
-        &draft.properties.names,
-        draft.properties.count,
-        &draft.pages.identifiers,
-        &draft.pages.firsts,
-        draft.pages.count,
-        &uses,
-        &draft.terms.groups,
-        &draft.terms.codes,
-        draft.terms.count,
-        held,
-    );
-    refused(number)
+    put_own(&mut uses, tables.terms.count); // each form is a term of its own
+    let draft = Draft {
+        texts: Texts {
+            bytes: &tables.texts.heap,
+            starts: &tables.texts.starts,
+            lens: &tables.texts.lens,
+        },
+        text_count: tables.texts.count,
+        kinds: &tables.properties.kinds,
+        names: &tables.properties.names,
+        property_count: tables.properties.count,
+        identifiers: &tables.pages.identifiers,
+        firsts: &tables.pages.firsts,
+        page_count: tables.pages.count,
+        uses: &uses,
+        groups: &tables.terms.groups,
+        codes: &tables.terms.codes,
+        term_count: tables.terms.count,
+    };
+    write_draft(&draft, held)
 }
 
 // Judges the first n rows, over the text c, whose names are composed, and writes their register: the lowest refusal of 4 to 8.

@@ -3,6 +3,7 @@ use Prim.Native.Nat.{ℕ, ◌+◌, ◌-◌, ◌%◌, ◌≤◌, ◌<◌, min}
 use mathlib.Core.Path.{◌≡◌, refl, sym, ap, ◌∙◌}
 use mathlib.Core.Bool.{Bool, true, ◌&&◌}
 use mathlib.Core.List.{List, ◌∷◌}
+use Rattle.std.specs.Prelude.{Option, Some, None}
 use native.Mathlib.Numerals.{add-one}
 use native.Mathlib.Omega.{arith}
 use lib.ListN.{length, get_or, drop, drop_of_length-le}
@@ -139,8 +140,12 @@ module _ (sizes : List ℕ) (most : ℕ) (table : List ℕ) (n before : ℕ) whe
       let size : y ≡ capped f v = z ∙ q ∙ rw p (a.at v (ltb-true v most there.0) (ltb-true v (length sizes) there.1)) in
       adding_more f table n before sum i k v y (sum + y) (s both.0 f a) h d e (capped_is f v y size) refl
 
-  pub sized_all : (all : Bool) (sum i : ℕ) → Sized all sum i → n ≤ i → SizesAdded sizes most table n before sum all
-  sized_all all sum i s h = record { is = λ e f a. adding_all f table n before sum i (min sum 32769) (s e f a) h (omega arith) }
+  pub sized_all : (all : Bool) (sum i : ℕ) → Sized all sum i → n ≤ i → all ≡ true → SizesAdded sizes most table n before (Some sum)
+  sized_all all sum i s h t =
+      record { is = λ u e f a. let y : sum ≡ u = cc in adding_all f table n before sum i (min u 32769) (s t f a) h (omega arith) }
 
-  pub sized_is : (all : Bool) (sum r : ℕ) (f : ℕ → ℕ) → SizesAdded sizes most table n before sum all → all ≡ true → r ≡ min (0 + sum) 32769 → Tabled (capped f) most sizes → r ≡ min (before + total f (first_of table n)) 32769
-  sized_is all sum r f s e g a = g ∙ (let y : min (0 + sum) 32769 ≡ min sum 32769 = omega arith in y) ∙ s.is e f a
+  pub sized_none_lem : SizesAdded sizes most table n before None
+  sized_none_lem = record { is = λ u e. absurd (cc) }
+
+  pub sized_is : (r : Option ℕ) (sum y : ℕ) (f : ℕ → ℕ) → SizesAdded sizes most table n before r → r ≡ Some sum → y ≡ min (0 + sum) 32769 → Tabled (capped f) most sizes → y ≡ min (before + total f (first_of table n)) 32769
+  sized_is r sum y f s e g a = g ∙ (let z : min (0 + sum) 32769 ≡ min sum 32769 = omega arith in z) ∙ s.is sum e f a

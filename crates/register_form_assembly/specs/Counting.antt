@@ -1,5 +1,5 @@
 -- Working definitions: the bytes of names and values, counted by a draft's tables. A count stops at 32,769.
-use Rattle.std.specs.Prelude.{ℕ, ◌+◌, ◌-◌, ◌%◌, min, ◌≡◌, Bool, true, cond, not, List, eqb, length, get_or}
+use Rattle.std.specs.Prelude.{ℕ, ◌+◌, ◌-◌, ◌%◌, min, ◌≡◌, cond, not, List, eqb, length, get_or, Option, Some}
 use Rattle.text.specs.Bytes.{Bytes}
 use Rattle.text.specs.Table.{bit, Tabled}
 use Rattle.values.specs.Values.{kind_from}
@@ -34,6 +34,6 @@ module _ (s : Bytes) (starts lens : List ℕ) where
 unfoldable pub capped : (ℕ → ℕ) → ℕ → ℕ
 capped f t = min (f t) 32769
 
--- A sum of the sizes that the first n of a table of terms name, where sizes has those of the first so many terms and `all` tells that none is missing.
-pub record SizesAdded (sizes : List ℕ) (most : ℕ) (table : List ℕ) (n before sum : ℕ) (all : Bool) : Type 0 where
-  pub is : all ≡ true → (f : ℕ → ℕ) → Tabled (capped f) most sizes → min sum 32769 ≡ min (before + total f (first_of table n)) 32769
+-- A sum of the sizes that the first n of a table of terms name, if none is missing, where sizes has those of the first so many terms.
+pub record SizesAdded (sizes : List ℕ) (most : ℕ) (table : List ℕ) (n before : ℕ) (r : Option ℕ) : Type 0 where
+  pub is : (sum : ℕ) → r ≡ Some sum → (f : ℕ → ℕ) → Tabled (capped f) most sizes → min sum 32769 ≡ min (before + total f (first_of table n)) 32769

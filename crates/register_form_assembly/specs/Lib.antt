@@ -1,3 +1,4 @@
 pub mod Terms
 pub mod Keeping
 pub mod Counting
+pub mod Drafts

@@ -2,6 +2,7 @@
 ghost use Rattle.std.specs.Prelude.{◌≡◌, ◌+◌, min};
 ghost use Rattle.register_form_assembly.specs.Keeping.{of_pass, Kept, PassKept, PagesKept, Fresh, Within};
 
+use crate::Draft;
 use register_form::layout;
 use tables::{get_or, put};
 
@@ -35,58 +36,46 @@ fn keep(page: u16, x: u16, wanted: bool, used: &mut [u16], table: &mut [u16], n:
     bump(n)
 }
 
-// One pass over the forms of a page.
+// One pass over the forms of a page, those of its uses from one up to another.
 fn keep_pass(
+    draft: &Draft,
+    numbers: &[u16],
     page: u16,
     first: bool,
-    groups: &[u8],
-    numbers: &[u16],
-    uses: &[u16],
     from: u16,
     to: u16,
     used: &mut [u16],
     table: &mut [u16],
     n: u16,
 ) -> u16
-    ensures { PassKept page first groups.now numbers.now uses.now from to used.old table.old n used.new table.new result }
+    ensures { PassKept page first draft.now.groups.now numbers.now draft.now.uses.now from to used.old table.old n used.new table.new result }
 {
     let mut count = n;
-    let mut f = from;
-    while f < to {
-        let x = usize::from(get_or(uses, usize::from(f), 0));
-        let wanted = is_wanted(first, get_or(groups, x, 0));
+    for f in from..to {
+        let x = usize::from(get_or(draft.uses, usize::from(f), 0));
+        let wanted = is_wanted(first, get_or(draft.groups, x, 0));
         count = keep(page, get_or(numbers, x, 0), wanted, used, table, count);
-        f += 1;
     }
     count
 }
 
-// The forms of the first n pages, in one table, and where each page's begin.
-pub fn keep_forms(
-    groups: &[u8],
-    numbers: &[u16],
-    uses: &[u16],
-    firsts: &[u16],
-    n: u16,
-    table: &mut [u16],
-    starts: &mut [u16],
-) -> u16
-    ensures { Fresh n table.old starts.old → Within numbers.now uses.now firsts.now n 4096 → PagesKept groups.now numbers.now uses.now firsts.now n table.new starts.new result }
+// The forms of the pages, in one table, and where each page's begin.
+pub fn keep_forms(draft: &Draft, numbers: &[u16], table: &mut [u16], starts: &mut [u16]) -> u16
+    ensures { Fresh draft.now.page_count table.old starts.old → Within numbers.now draft.now.uses.now draft.now.firsts.now draft.now.page_count 4096 → PagesKept draft.now.groups.now numbers.now draft.now.uses.now draft.now.firsts.now draft.now.page_count table.new starts.new result }
 {
     let mut used = [0u16; layout::DRAFT_FORMS];
     let mut count: u16 = 0;
-    let mut page: u16 = 0;
-    while page < n {
-        let from = get_or(firsts, usize::from(page), 0);
-        page += 1;
-        let to = get_or(firsts, usize::from(page), 0);
+    for page in 0..draft.page_count {
+        let behind = page + 1;
+        let from = get_or(draft.firsts, usize::from(page), 0);
+        let to = get_or(draft.firsts, usize::from(behind), 0);
         let some = keep_pass(
-            page, true, groups, numbers, uses, from, to, &mut used, table, count,
+            draft, numbers, behind, true, from, to, &mut used, table, count,
         );
         count = keep_pass(
-            page, false, groups, numbers, uses, from, to, &mut used, table, some,
+            draft, numbers, behind, false, from, to, &mut used, table, some,
         );
-        put(starts, usize::from(page), count);
+        put(starts, usize::from(behind), count);
     }
     count
 }

@@ -1,5 +1,5 @@
 // The terms of a draft with the new numbers of their texts.
-ghost use Rattle.std.specs.Prelude.{◌≡◌, ◌*◌, get_or, set};
+ghost use Rattle.std.specs.Prelude.{◌≡◌, ◌*◌, ◌<◌, ◌^◌, ℕ, get_or, set};
 ghost use Rattle.register_form.specs.Dictionary.{term_of};
 ghost use Rattle.register_form.specs.Form.{joined};
 ghost use Rattle.buffer.specs.Writing.{written};
@@ -13,16 +13,15 @@ use values::{Kind, kind_from};
 fn number_at(numbers: &[u16], c: u64) -> u64
     ensures { result ≡ get_or numbers.now c 0 }
 {
-    get_or(numbers, c as usize, 0) as u64
+    u64::from(get_or(numbers, c as usize, 0))
 }
 
 fn code_for(kind: Kind, numbers: &[u16], c: u64) -> u64
     ensures { result ≡ code_for kind numbers.now c }
 {
     match kind {
-        Kind::Page => number_at(numbers, c),
+        Kind::Page | Kind::String => number_at(numbers, c),
         Kind::Scalar(_) => c,
-        Kind::String => number_at(numbers, c),
     }
 }
 
@@ -34,7 +33,7 @@ fn code_by(kinds: &[u8], numbers: &[u16], group: u8, c: u64) -> u64
         return number_at(numbers, c);
     }
     code_for(
-        kind_from(get_or(kinds, (group - 1) as usize, 0)),
+        kind_from(get_or(kinds, usize::from(group - 1), 0)),
         numbers,
         c,
     )
@@ -51,7 +50,8 @@ fn put_term(table: &mut [u8], f: usize, group: u8, code: u64)
     put_eight(table, f + 1, code);
 }
 
-// Writes the terms of the first n forms.
+// Writes the terms of the first n forms. Of the elements of a slice only a function that takes it knows the range: hence the clause on
+// the codes.
 pub fn put_terms(
     kinds: &[u8],
     numbers: &[u16],
@@ -60,10 +60,10 @@ pub fn put_terms(
     n: u16,
     table: &mut [u8],
 )
-    ensures { table.new ≡ written table.old 0 (joined (terms_by kinds.now numbers.now groups.now codes.now n)) }
+    ensures terms { table.new ≡ written table.old 0 (joined (terms_by kinds.now numbers.now groups.now codes.now n)) }
+    ensures codes { (i : ℕ) → get_or codes.now i 0 < 2 ^ 64 }
 {
-    let mut f: u16 = 0;
-    while f < n {
+    for f in 0..n {
         let k = usize::from(f);
         let group = get_or(groups, k, 0);
         put_term(
@@ -72,7 +72,6 @@ pub fn put_terms(
             group,
             code_by(kinds, numbers, group, get_or(codes, k, 0)),
         );
-        f += 1;
     }
 }
 
@@ -80,10 +79,8 @@ pub fn put_terms(
 pub fn put_term_starts(t: &mut [u32], n: u16)
     ensures { Filling (λ i. 9 * i) t.old n t.new }
 {
-    let mut i: u16 = 0;
-    while i < n {
-        put(t, usize::from(i), 9 * (i as u32));
-        i += 1;
+    for i in 0..n {
+        put(t, usize::from(i), 9 * u32::from(i));
     }
 }
 
@@ -91,9 +88,7 @@ pub fn put_term_starts(t: &mut [u32], n: u16)
 pub fn put_own(t: &mut [u16], n: u16)
     ensures { Filling (λ i. i) t.old n t.new }
 {
-    let mut i: u16 = 0;
-    while i < n {
+    for i in 0..n {
         put(t, usize::from(i), i);
-        i += 1;
     }
 }

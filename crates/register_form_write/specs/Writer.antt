@@ -7,7 +7,8 @@ use Rattle.language.specs.Answer.{Answer, refused, Answered}
 use Rattle.language.specs.Rules.{total}
 use Rattle.sorting.specs.Ascending.{ascends}
 use Rattle.sorting.specs.Listing.{listed, Numbered}
-use Rattle.dictionary.specs.Items.{text_at}
+use Rattle.dictionary.specs.Items.{text_at, texts_in}
+use Rattle.dictionary.specs.declared.Texts.{Texts}
 use Rattle.buffer.specs.Numbers.{starts_from}
 use Rattle.register_form.specs.Dictionary.{PageRow, Dictionary}
 use Rattle.register_form.specs.Form.{joined, property_bytes, number_bytes, bytes_of, placed}
@@ -15,6 +16,7 @@ use Rattle.register_form.specs.Tests.{term_uses, counted_bytes, Bounded}
 use Rattle.register_form.specs.Draft.{Draft, assembled, drafted, write_into}
 use Rattle.register_form_bytes.specs.Writing.{picked, first_of, rows_of, four_bytes, Region, regions_of}
 use Rattle.register_form.specs.Tables.{Tables, draft_in}
+use Rattle.register_form_assembly.specs.declared.Order.{Order}
 use Rattle.register_form_assembly.specs.Keeping.{kept_on, kept_up_to, Within}
 use Rattle.register_form_assembly.specs.Counting.{text_bytes, term_bytes_by}
 
@@ -96,6 +98,13 @@ list_regions terms texts =
 abbrev pub found_of : List ℕ → ℕ → List ℕ → Bytes → List ℕ → List ℕ → List ℕ → ℕ → List ℕ → Found
 found_of refs nx numbers table term_starts term_lens term_refs nt term_numbers =
     record { refs = refs; nx = nx; numbers = numbers; table = table; term_starts = term_starts; term_lens = term_lens; term_refs = term_refs; nt = nt; term_numbers = term_numbers }
+
+-- The same by the structs that functions have: texts, terms as spelled, terms; and the texts of items in their order.
+abbrev pub found_in : Order → Texts → Order → Found
+found_in x t o = found_of x.refs.now x.count x.numbers.now t.bytes.now t.starts.now t.lens.now o.refs.now o.count o.numbers.now
+
+abbrev pub ordered_in : Texts → Order → List Bytes
+ordered_in t o = listed (texts_in t) o.refs.now o.count
 
 -- What writing regions that are a dictionary's answers.
 pub record FittedWritten (l : List Region) (h : Bytes) (r : ℕ) (g : Bytes) : Type 0 where

@@ -1,5 +1,5 @@
 use Rattle.register_form_assembly.proofs.Counts.{sized_is}
 use Rattle.register_form_assembly.proofs.counting.count_terms.Goals as goal
 
-pub returns-then-sum : goal.returns-then-sum
-returns-then-sum c = sized_is _ _ _ _ _ _ _ _ _ c.add_sizes-sum.ensures c.if-sum.true c.add_capped.ensures
+pub returns-in-Some : goal.returns-in-Some
+returns-in-Some c = sized_is _ _ _ _ _ _ _ _ _ c.add_sizes.ensures c.in-Some.is c.add_capped.ensures c.put_sizes.ensures.tabled

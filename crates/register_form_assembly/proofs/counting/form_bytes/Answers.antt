@@ -1,5 +1,5 @@
-use Rattle.register_form_assembly.proofs.Counts.{counting}
 use borrow.Author.Rules.{rules}
+use Rattle.register_form_assembly.proofs.Counts.{counting}
 use Rattle.register_form_assembly.proofs.counting.form_bytes.Goals as goal
 
 pub returns-then-group-eq0 : goal.returns-then-group-eq0

@@ -1,5 +1,5 @@
-use Rattle.register_form_assembly.proofs.Counts.{counting}
 use borrow.Author.Rules.{rules}
+use Rattle.register_form_assembly.proofs.Counts.{counting}
 use Rattle.register_form_assembly.proofs.counting.term_bytes.Goals as goal
 
 pub returns : goal.returns

@@ -1,9 +1,6 @@
-use borrow.Author.Tests.{not-true, not-false}
-use Rattle.register_form_assembly.proofs.Keepings.{kept_unwanted, kept_there, kept_new}
+use borrow.Author.Tests.{not-false}
+use Rattle.register_form_assembly.proofs.Keepings.{kept_there, kept_new}
 use Rattle.register_form_assembly.proofs.keeping.keep.Goals as goal
-
-pub returns-then-not-wanted : goal.returns-then-not-wanted
-returns-then-not-wanted c = kept_unwanted _ _ _ _ _ _ (not-true _ c.if-not-wanted.true-raw)
 
 pub returns-then-get_or-page : goal.returns-then-get_or-page
 returns-then-get_or-page c = kept_there _ _ _ _ _ _ _ _ (not-false _ c.if-not-wanted.false-raw) c.from-k.ensures c.get_or.ensures c.if-get_or-page.true

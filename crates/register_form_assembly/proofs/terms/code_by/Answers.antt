@@ -1,5 +1,5 @@
-use Rattle.register_form_assembly.proofs.Coding.{coding}
 use borrow.Author.Rules.{rules}
+use Rattle.register_form_assembly.proofs.Coding.{coding}
 use Rattle.register_form_assembly.proofs.terms.code_by.Goals as goal
 
 pub returns-then-group-eq0 : goal.returns-then-group-eq0

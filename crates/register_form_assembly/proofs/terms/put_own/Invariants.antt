@@ -4,6 +4,3 @@ use Rattle.register_form_assembly.proofs.terms.put_own.Given as goal
 
 abbrev pub invariant-loop-i : goal.invariant-loop-i
 invariant-loop-i l = Filling (λ j. j) l.initial.t l.i l.t
-
-abbrev pub decreases-loop-i : goal.decreases-loop-i
-decreases-loop-i l = l.n - l.i

@@ -4,6 +4,3 @@ use Rattle.register_form_assembly.proofs.terms.put_terms.Given as goal
 
 abbrev pub invariant-loop-f : goal.invariant-loop-f
 invariant-loop-f l = Terming l.kinds l.numbers l.groups l.codes l.n l.initial.table l.table l.f
-
-abbrev pub decreases-loop-f : goal.decreases-loop-f
-decreases-loop-f l = l.n - l.f

@@ -1,4 +1,0 @@
-use Rattle.register_form_assembly.proofs.counting.has_size.Goals as goal
-
-pub returns : goal.returns
-returns c = rw c.from.ensures

@@ -1,7 +1,0 @@
-use Rattle.register_form_assembly.proofs.keeping.is_wanted.Goals as goal
-
-pub returns-then-first : goal.returns-then-first
-returns-then-first c = rw c.if-first.true
-
-pub returns-else-first : goal.returns-else-first
-returns-else-first c = rw c.if-first.false
