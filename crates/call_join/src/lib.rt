@@ -25,26 +25,40 @@ fn write_join(
     m: u16,
     held: &mut [u8],
 ) -> Result<(), Refusal>
-    ensures { Writes first.entry.held.now second.entry.held.now heap.now.bytes heap.now.starts heap.now.lens m first.entry.items.now second.entry.items.now held.old result held.new }
+    ensures { Writes first.entry.held.now second.entry.held.now heap.now.bytes.now heap.now.starts.now heap.now.lens.now m first.entry.items.now second.entry.items.now held.old result held.new }
 {
-    let mut tables = DraftTables::new();
+    let mut kinds = [0u8; layout::DRAFT_PROPERTIES];
+    let mut names = [0u16; layout::DRAFT_PROPERTIES];
+    let mut identifiers = [0u16; layout::DRAFT_PAGES];
+    let mut firsts = [0u16; layout::DRAFT_PAGE_STARTS];
+    let mut uses = [0u16; layout::DRAFT_FORMS];
+    let mut groups = [0u8; layout::DRAFT_FORMS];
+    let mut codes = [0u64; layout::DRAFT_FORMS];
+    let mut tables = DraftTables {
+        kinds: &mut kinds,
+        names: &mut names,
+        property_count: 0,
+        identifiers: &mut identifiers,
+        firsts: &mut firsts,
+        page_count: 0,
+        uses: &mut uses,
+        groups: &mut groups,
+        codes: &mut codes,
+        term_count: 0,
+    };
     draft_join(first, second, &mut tables);
     let draft = Draft {
-        texts: Texts {
-            bytes: &heap.bytes,
-            starts: &heap.starts,
-            lens: &heap.lens,
-        },
+        texts: heap.texts(),
         text_count: m,
-        kinds: &tables.kinds,
-        names: &tables.names,
+        kinds: tables.kinds,
+        names: tables.names,
         property_count: tables.property_count,
-        identifiers: &tables.identifiers,
-        firsts: &tables.firsts,
+        identifiers: tables.identifiers,
+        firsts: tables.firsts,
         page_count: tables.page_count,
-        uses: &tables.uses,
-        groups: &tables.groups,
-        codes: &tables.codes,
+        uses: tables.uses,
+        groups: tables.groups,
+        codes: tables.codes,
         term_count: tables.term_count,
     };
     write_ordered(&draft, held)
@@ -54,7 +68,14 @@ fn write_join(
 fn join_forms<'a>(h: &'a [u8], g: &'a [u8], held: &mut [u8]) -> Result<(), Refusal>
     ensures { Joins h.now g.now held.old result held.new }
 {
-    let mut heap = Heap::new();
+    let mut bytes = [0u8; layout::DRAFT_TEXT_BYTES];
+    let mut starts = [0u32; layout::DRAFT_TEXTS];
+    let mut lens = [0u16; layout::DRAFT_TEXTS];
+    let mut heap = Heap {
+        bytes: &mut bytes,
+        starts: &mut starts,
+        lens: &mut lens,
+    };
     let mut items1 = [0u16; layout::TEXT_ROOM];
     let mut items2 = [0u16; layout::TEXT_ROOM];
     let m = merge(h, g, &mut heap, &mut items1, &mut items2);

@@ -14,7 +14,7 @@ use register_form::layout;
 use register_form_assembly::Draft;
 use register_form_assembly::terms::put_own;
 use register_form_write::write_draft;
-use register_text_draft::DraftTables;
+use register_text_draft::{DraftTables, PageTable, PropertyTable, TermTable, TextTable};
 use register_text_entries::composing::compose;
 use register_text_verdict::{judge, judge_typed, read_rows};
 
@@ -29,26 +29,58 @@ fn write_text(
 ) -> Result<(), Refusal>
     ensures { Writes text.now t.now props.now n np held.old result held.new }
 {
-    let mut tables = DraftTables::new();
+    let mut heap = [0u8; layout::TEXT_BYTE_ROOM];
+    let mut starts = [0u32; layout::TEXT_ROOM];
+    let mut lens = [0u16; layout::TEXT_ROOM];
+    let mut kinds = [0u8; layout::PROPERTY_ROOM];
+    let mut names = [0u16; layout::PROPERTY_ROOM];
+    let mut identifiers = [0u16; layout::PAGE_ROOM];
+    let mut firsts = [0u16; layout::PAGE_START_ROOM];
+    let mut groups = [0u8; layout::FORM_ROOM];
+    let mut codes = [0u64; layout::FORM_ROOM];
+    let mut tables = DraftTables {
+        texts: TextTable {
+            heap: &mut heap,
+            starts: &mut starts,
+            lens: &mut lens,
+            count: 0,
+            end: 0,
+        },
+        properties: PropertyTable {
+            kinds: &mut kinds,
+            names: &mut names,
+            count: 0,
+        },
+        pages: PageTable {
+            identifiers: &mut identifiers,
+            firsts: &mut firsts,
+            count: 0,
+        },
+        terms: TermTable {
+            groups: &mut groups,
+            codes: &mut codes,
+            count: 0,
+        },
+    };
     tables.draft_text(text, t, n, props, np);
     let mut uses = [0u16; layout::FORM_ROOM];
     put_own(&mut uses, tables.terms.count); // each form is a term of its own
     let draft = Draft {
         texts: Texts {
-            bytes: &tables.texts.heap,
-            starts: &tables.texts.starts,
-            lens: &tables.texts.lens,
+            bytes: tables.texts.heap,
+            starts: tables.texts.starts,
+            lens: tables.texts.lens,
         },
         text_count: tables.texts.count,
-        kinds: &tables.properties.kinds,
-        names: &tables.properties.names,
+        kinds: tables.properties.kinds,
+        names: tables.properties.names,
         property_count: tables.properties.count,
-        identifiers: &tables.pages.identifiers,
-        firsts: &tables.pages.firsts,
+        identifiers: tables.pages.identifiers,
+        firsts: tables.pages.firsts,
         page_count: tables.pages.count,
         uses: &uses,
-        groups: &tables.terms.groups,
-        codes: &tables.terms.codes,
+        groups: tables.terms.groups,
+        codes: tables.terms.codes,
         term_count: tables.terms.count,
     };
     write_draft(&draft, held)

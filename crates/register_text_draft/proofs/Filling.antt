@@ -1,6 +1,7 @@
 -- One text, property, page or form more in the tables.
 use Rattle.std.specs.Prelude.{Option, Some, None}
 use Prim.Native.Nat.{ℕ, suc, ◌+◌, ◌%◌, ◌≤◌, ◌<◌}
+use denote.MutBor.{at_last}
 use mathlib.Core.Path.{◌≡◌, refl, sym, ap, ap₂, ◌∙◌, subst}
 use mathlib.Core.List.{List, [], ◌∷◌, ◌++◌, append_assoc, append-nil}
 use native.Mathlib.Nat.{mod-eq_of_lt}
@@ -11,7 +12,6 @@ use lib.ListN.{length, get_or, take, drop, set, length-append, length-set, get_o
 use lib.Seq.{sets-eq, take_at, take-suc-set, take-length, drop-append_seam, get_or-append_seam, get_or-set_same, get_or-set_other, length-take-le}
 use borrow.Author.Tests.{ltb-true, ltb-false}
 use Rattle.text.specs.Bytes.{Bytes, part}
-use Rattle.text.specs.declared.Span.{Span}
 use Rattle.values.specs.declared.Kind.{Kind}
 use Rattle.values.specs.declared.Scalar.{Scalar}
 use Rattle.values.specs.declared.Split.{Split}
@@ -95,22 +95,22 @@ module _ (heap : List ℕ) (at : ℕ) (space name : Bytes) (h1 h2 h3 : List ℕ)
         ∙ rw (second, first, append_assoc (take at heap) (length space ∷ []) space, append_assoc (take at heap) (length space ∷ space) name)
 
 -- A text ended.
-pub ended : (t : TextTable) (a b i x : ℕ) → i ≡ t.count → x ≡ t.end → (s : List ℕ) → s ≡ set t.starts i x → (w : ℕ) → w ≡ (1 + a + b) % 65536 → (n : List ℕ) → n ≡ set t.lens i w
-    → (count first end : ℕ) → count ≡ (t.count + 1) % 65536 → first ≡ t.end → end ≡ (first + 1 + a + b) % 65536 → Ended t a b (record { heap = t.heap; starts = s; lens = n; count = count; end = end })
+pub ended : (t : TextTable) (a b i x : ℕ) → i ≡ t.count → x ≡ t.end → (s : List ℕ) → s ≡ set t.starts.now i x → (w : ℕ) → w ≡ (1 + a + b) % 65536 → (n : List ℕ) → n ≡ set t.lens.now i w
+    → (count first end : ℕ) → count ≡ (t.count + 1) % 65536 → first ≡ t.end → end ≡ (first + 1 + a + b) % 65536 → Ended t a b (record { heap = t.heap; starts = at_last t.starts s; lens = at_last t.lens n; count = count; end = end })
 ended t a b i x ei ex s es w ew n en count first end ec ef ee =
-    record { heap = refl; start = es ∙ ap₂ (set t.starts) ei ex; len = en ∙ ap₂ (set t.lens) ei ew; texts = ec; bytes = rw (← ef) ee }
+    record { heap = refl; start = es ∙ ap₂ (set t.starts.now) ei ex; len = en ∙ ap₂ (set t.lens.now) ei ew; texts = ec; bytes = rw (← ef) ee }
 
 -- The numbers that are written are those meant, where they fit.
 abbrev with_heap : TextTable → List ℕ → TextTable
-with_heap t h = record { heap = h; starts = t.starts; lens = t.lens; count = t.count; end = t.end }
+with_heap t h = record { heap = at_last t.heap h; starts = t.starts; lens = t.lens; count = t.count; end = t.end }
 
 module _ (t : TextTable) (space name : Bytes)
     (first : ℕ) (ef : first ≡ t.end) (a₀ a b₀ b : ℕ) (ea₀ : a₀ ≡ length space % 65536) (ea : a ≡ a₀) (eb₀ : b₀ ≡ length name % 65536) (eb : b ≡ b₀)
-    (v : ℕ) (ev : v ≡ a % 256) (h1 h2 h3 : List ℕ) (e : h1 ≡ set t.heap first v) (f : Copied h1 (first + 1) space h2) (g : Copied h2 (first + 1 + a) name h3)
+    (v : ℕ) (ev : v ≡ a % 256) (h1 h2 h3 : List ℕ) (e : h1 ≡ set t.heap.now first v) (f : Copied h1 (first + 1) space h2) (g : Copied h2 (first + 1 + a) name h3)
     (u : TextTable) (z : Ended (with_heap t h3) a b u)
   where
-    pushed : length space ≤ 64 → (k : List Bytes) → Texts t.heap t.starts t.lens t.count t.end k → length (k ++ (labelled space name ∷ [])) ≤ 2368 → length (joined (k ++ (labelled space name ∷ []))) ≤ 35136
-        → Texts u.heap u.starts u.lens u.count u.end (k ++ (labelled space name ∷ []))
+    pushed : length space ≤ 64 → (k : List Bytes) → Texts t.heap.now t.starts.now t.lens.now t.count t.end k → length (k ++ (labelled space name ∷ [])) ≤ 2368 → length (joined (k ++ (labelled space name ∷ []))) ≤ 35136
+        → Texts u.heap.now u.starts.now u.lens.now u.count u.end (k ++ (labelled space name ∷ []))
     pushed short k x few fit =
         let y = labelled space name in
         let lz = length_labelled space name in
@@ -122,12 +122,12 @@ module _ (t : TextTable) (space name : Bytes)
         let qw : (1 + a + b) % 65536 ≡ length y = mod_is (1 + a + b) (length y) 65536 (omega arith) (omega arith) in
         let qm : u.count ≡ t.count + 1 = z.texts ∙ mod-eq_of_lt (omega (arith, x.count)) in
         let qe : u.end ≡ t.end + length y = z.bytes ∙ mod_is (t.end + 1 + a + b) (t.end + length y) 65536 (omega arith) (omega arith) in
-        let e' : h1 ≡ set t.heap t.end (length space) = e ∙ ap₂ (set t.heap) ef qv in
+        let e' : h1 ≡ set t.heap.now t.end (length space) = e ∙ ap₂ (set t.heap.now) ef qv in
         let f' : Copied h1 (t.end + 1) space h2 = subst (λ (i : ℕ). Copied h1 (i + 1) space h2) ef f in
         let g' : Copied h2 (t.end + 1 + length space) name h3 = subst (λ (i : ℕ). Copied h2 (i + 1 + length space) name h3) ef (subst (λ (i : ℕ). Copied h2 (first + 1 + i) name h3) qa g) in
-        let n' : u.lens ≡ set t.lens t.count (length y) = z.len ∙ ap (set t.lens t.count) qw in
-        let room : t.end + suc (length space + length name) ≤ length t.heap = omega (arith, x.heap_room) in
-        rw (z.heap, qm, qe, z.start, n') (text_more t.heap t.starts t.lens t.count t.end k x y below h3 (written_size t.heap t.end space name h1 h2 h3 room e' f' g') (written t.heap t.end space name h1 h2 h3 room e' f' g'))
+        let n' : u.lens.now ≡ set t.lens.now t.count (length y) = z.len ∙ ap (set t.lens.now t.count) qw in
+        let room : t.end + suc (length space + length name) ≤ length t.heap.now = omega (arith, x.heap_room) in
+        rw (z.heap, qm, qe, z.start, n') (text_more t.heap.now t.starts.now t.lens.now t.count t.end k x y below h3 (written_size t.heap.now t.end space name h1 h2 h3 room e' f' g') (written t.heap.now t.end space name h1 h2 h3 room e' f' g'))
 
     pub text_pushed : length space ≤ 64 → Pushed t (labelled space name ∷ []) u
     text_pushed short = record { texts = pushed short }
@@ -144,15 +144,15 @@ written_copied b v b' at e =
     }
 
 module _ (t : TextTable) (space name : Bytes)
-    (first : ℕ) (ef : first ≡ t.end) (x : ℕ) (h1 : List ℕ) (p : (x ≡ length (composed_name space)) × (h1 ≡ Buffers.written t.heap (first + 1) (composed_name space)))
+    (first : ℕ) (ef : first ≡ t.end) (x : ℕ) (h1 : List ℕ) (p : (x ≡ length (composed_name space)) × (h1 ≡ Buffers.written t.heap.now (first + 1) (composed_name space)))
     (a₀ a : ℕ) (ea₀ : a₀ ≡ x % 65536) (ea : a ≡ a₀) (v : ℕ) (ev : v ≡ a % 256) (h2 : List ℕ) (e : h2 ≡ set h1 first v)
     (y : ℕ) (h3 : List ℕ) (q : (y ≡ length (composed_name name)) × (h3 ≡ Buffers.written h2 (first + 1 + a) (composed_name name)))
     (b₀ b : ℕ) (eb₀ : b₀ ≡ y % 65536) (eb : b ≡ b₀) (u : TextTable) (z : Ended (with_heap t h3) a b u)
   where
     pub names_pushed : length (composed_name space) ≤ 64 → Pushed t (labelled (composed_name space) (composed_name name) ∷ []) u
     names_pushed =
-        text_pushed t (composed_name space) (composed_name name) first ef a₀ a b₀ b (ea₀ ∙ ap (λ (k : ℕ). k % 65536) p.0) ea (eb₀ ∙ ap (λ (k : ℕ). k % 65536) q.0) eb v ev (set t.heap first v) h2 h3 refl
-        (written_copied (set t.heap first v) (composed_name space) h2 (first + 1) (e ∙ ap (λ (h : Bytes). set h first v) p.1 ∙ byte_before (composed_name space) t.heap (first + 1) first v (omega arith)))
+        text_pushed t (composed_name space) (composed_name name) first ef a₀ a b₀ b (ea₀ ∙ ap (λ (k : ℕ). k % 65536) p.0) ea (eb₀ ∙ ap (λ (k : ℕ). k % 65536) q.0) eb v ev (set t.heap.now first v) h2 h3 refl
+        (written_copied (set t.heap.now first v) (composed_name space) h2 (first + 1) (e ∙ ap (λ (h : Bytes). set h first v) p.1 ∙ byte_before (composed_name space) t.heap.now (first + 1) first v (omega arith)))
         (written_copied h2 (composed_name name) h3 (first + 1 + a) q.1) u z
 
 -- The text of a link, and of a value.

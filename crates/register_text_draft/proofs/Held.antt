@@ -1,5 +1,5 @@
 -- What the tables hold after an entry.
-use Rattle.std.specs.Prelude.{Option, Some, None}
+use Rattle.std.specs.Prelude.{Option, Some}
 use Prim.Native.Nat.{ℕ, suc, ◌+◌, ◌%◌, ◌≤◌, ◌<◌}
 use mathlib.Core.Path.{◌≡◌, sym, ap, ◌∙◌, subst}
 use mathlib.Core.Bool.{true, ◌&&◌}
@@ -45,8 +45,8 @@ module _ (t u : TextTable) (l : List Bytes) (p : Pushed t l u) (R : PropertyTabl
   A = record { texts = t; properties = R; pages = P; terms = V }
 
   -- The texts of a draft that fits.
-  texts_held : (k m : List Bytes) → l ≡ m → Texts t.heap t.starts t.lens t.count t.end k → length (k ++ m) ≤ 2368 → length (joined (k ++ m)) ≤ 32768 + length (k ++ m) → Texts u.heap u.starts u.lens u.count u.end (k ++ m)
-  texts_held k m e x few fit = subst (λ (n : List Bytes). Texts u.heap u.starts u.lens u.count u.end (k ++ n)) e (p.texts k x (rw e few) (rw e (omega arith)))
+  texts_held : (k m : List Bytes) → l ≡ m → Texts t.heap.now t.starts.now t.lens.now t.count t.end k → length (k ++ m) ≤ 2368 → length (joined (k ++ m)) ≤ 32768 + length (k ++ m) → Texts u.heap.now u.starts.now u.lens.now u.count u.end (k ++ m)
+  texts_held k m e x few fit = subst (λ (n : List Bytes). Texts u.heap.now u.starts.now u.lens.now u.count u.end (k ++ n)) e (p.texts k x (rw e few) (rw e (omega arith)))
 
   -- A value.
   module _ (P' : PageTable) (V' : TermTable) (g n : ℕ) (q : FormsPushed P V g n P' V') where
@@ -55,8 +55,8 @@ module _ (t u : TextTable) (l : List Bytes) (p : Pushed t l u) (R : PropertyTabl
       where
         go : (d : Dictionary) → Fits (with_value g w d) → Holding A d → Holding (record { texts = u; properties = R; pages = P'; terms = V' }) (with_value g w d)
         go d fit h =
-            let forms : V.count ≡ length d.terms = counted V.count (term_in V.groups V.codes) d.terms h.terms.rows in
-            let pages : P.count ≡ length d.pages = counted P.count (page_in P.identifiers P.firsts) d.pages h.pages.rows in
+            let forms : V.count ≡ length d.terms = counted V.count (term_in V.groups.now V.codes.now) d.terms h.terms.rows in
+            let pages : P.count ≡ length d.pages = counted P.count (page_in P.identifiers.now P.firsts.now) d.pages h.pages.rows in
             let more = length-append d.terms (term_of g (code_in (length d.texts) w) ∷ []) in
             let below : V.count < 2048 = omega (arith, fit.terms) in
             let code : n ≡ code_in (length d.texts) w = en ∙ ap (λ (m : ℕ). code_in m w) h.texts.count in
@@ -69,7 +69,7 @@ module _ (t u : TextTable) (l : List Bytes) (p : Pushed t l u) (R : PropertyTabl
 
   -- A property.
   module _ (k : Kind) (x : Bytes) (el : l ≡ plain_text x ∷ []) (R' : PropertyTable)
-      (q : (m : List PropertyRow) → Properties R.kinds R.names R.count m → R.count < 64 → Properties R'.kinds R'.names R'.count (m ++ (record { kind = k; name = t.count } ∷ [])))
+      (q : (m : List PropertyRow) → Properties R.kinds.now R.names.now R.count m → R.count < 64 → Properties R'.kinds.now R'.names.now R'.count (m ++ (record { kind = k; name = t.count } ∷ [])))
     where
       pub property_added : (ps : List Property) → Extends A (record { texts = u; properties = R'; pages = P; terms = V }) (λ d. added ps d (prop x k))
       unfolding added
@@ -77,7 +77,7 @@ module _ (t u : TextTable) (l : List Bytes) (p : Pushed t l u) (R : PropertyTabl
         where
           go : (d : Dictionary) → Fits (added ps d (prop x k)) → Holding A d → Holding (record { texts = u; properties = R'; pages = P; terms = V }) (added ps d (prop x k))
           go d fit h =
-              let count : R.count ≡ length d.properties = counted R.count (property_in R.kinds R.names) d.properties h.properties.rows in
+              let count : R.count ≡ length d.properties = counted R.count (property_in R.kinds.now R.names.now) d.properties h.properties.rows in
               let more = length-append d.properties (record { kind = k; name = length d.texts } ∷ []) in
               let below : R.count < 64 = omega (arith, fit.properties) in
               record {
@@ -89,7 +89,7 @@ module _ (t u : TextTable) (l : List Bytes) (p : Pushed t l u) (R : PropertyTabl
 
   -- A page.
   module _ (n x : Bytes) (el : l ≡ labelled n x ∷ []) (P' : PageTable)
-      (q : (m : List PageRow) → Pages P.identifiers P.firsts P.count V.count m → P.count < 256 → Pages P'.identifiers P'.firsts P'.count V.count (m ++ (record { identifier = t.count; forms = [] } ∷ [])))
+      (q : (m : List PageRow) → Pages P.identifiers.now P.firsts.now P.count V.count m → P.count < 256 → Pages P'.identifiers.now P'.firsts.now P'.count V.count (m ++ (record { identifier = t.count; forms = [] } ∷ [])))
     where
       pub page_added : (ps : List Property) → Extends A (record { texts = u; properties = R; pages = P'; terms = V }) (λ d. added ps d (page n x))
       unfolding added
@@ -97,7 +97,7 @@ module _ (t u : TextTable) (l : List Bytes) (p : Pushed t l u) (R : PropertyTabl
         where
           go : (d : Dictionary) → Fits (added ps d (page n x)) → Holding A d → Holding (record { texts = u; properties = R; pages = P'; terms = V }) (added ps d (page n x))
           go d fit h =
-              let count : P.count ≡ length d.pages = counted P.count (page_in P.identifiers P.firsts) d.pages h.pages.rows in
+              let count : P.count ≡ length d.pages = counted P.count (page_in P.identifiers.now P.firsts.now) d.pages h.pages.rows in
               let more = length-append d.pages (record { identifier = length d.texts; forms = [] } ∷ []) in
               let below : P.count < 256 = omega (arith, fit.pages) in
               record {

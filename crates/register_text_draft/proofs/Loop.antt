@@ -37,6 +37,7 @@ use Rattle.register_text_draft.specs.Drafting.{no_draft, added, draft_from, draf
 use Rattle.register_text_draft.specs.Sizes.{Fits, Good}
 use Rattle.register_text_draft.specs.Lookup.{Lists}
 use Rattle.register_text_draft.specs.Tables.{Texts, page_in, Pages, Holding, Extends, Roomy, Accepted, Own, tables_in}
+use denote.MutBor.{at_last}
 use Rattle.register_text_draft.proofs.Growing.{draft_more}
 use Rattle.register_text_draft.proofs.Entries.{passed_good}
 use Rattle.register_text_draft.proofs.Bounds.{passed_fits}
@@ -120,21 +121,21 @@ judged_accepted s c t n props pages r q p j e =
     record { answer = sym z; rows = p; properties = rw k j.index.properties }
 
 -- The tables at the start and at the end.
-module _ (t : DraftTables) (r : Roomy t) (v : List ℕ) (e : v ≡ set t.pages.firsts 0 0) where
+module _ (t : DraftTables) (r : Roomy t) (v : List ℕ) (e : v ≡ set t.pages.firsts.now 0 0) where
   abbrev empty : DraftTables
   empty =
       record {
         texts = record { heap = t.texts.heap; starts = t.texts.starts; lens = t.texts.lens; count = 0; end = 0 };
         properties = record { kinds = t.properties.kinds; names = t.properties.names; count = 0 };
-        pages = record { identifiers = t.pages.identifiers; firsts = v; count = 0 };
+        pages = record { identifiers = t.pages.identifiers; firsts = at_last t.pages.firsts v; count = 0 };
         terms = record { groups = t.terms.groups; codes = t.terms.codes; count = 0 };
       }
 
   pub holding_none : Holding empty no_draft
   unfolding tabulate flat_map
   holding_none =
-      let many : length v ≡ length t.pages.firsts = ap length e ∙ length-set t.pages.firsts 0 0 in
-      let zero-first : get_or v 0 0 ≡ 0 = ap (λ z. get_or z 0 0) e ∙ get_or-set_same t.pages.firsts 0 0 0 (omega (arith, r.firsts_room)) in
+      let many : length v ≡ length t.pages.firsts.now = ap length e ∙ length-set t.pages.firsts.now 0 0 in
+      let zero-first : get_or v 0 0 ≡ 0 = ap (λ z. get_or z 0 0) e ∙ get_or-set_same t.pages.firsts.now 0 0 0 (omega (arith, r.firsts_room)) in
       record {
         texts = record { count = refl; end = refl; bytes = refl; lies = λ i b. absurd (omega arith); heap_room = r.heap_room; starts_room = r.starts_room; lens_room = r.lens_room };
         properties = record { rows = refl; kinds_room = r.kinds_room; names_room = r.names_room };
@@ -176,6 +177,6 @@ module _ (heap starts lens identifiers firsts : List ℕ) where
 pub holding_is : (t : DraftTables) (d : Dictionary) → Holding t d → (uses : List ℕ) → Own t.terms.count uses → draft_in (tables_in t uses) ≡ d
 unfolding draft_in
 holding_is t d h uses own =
-    let texts = texts_are t.texts.heap t.texts.starts t.texts.lens t.pages.identifiers t.pages.firsts t.texts.count t.texts.end d.texts h.texts in
-    let pages = pages_are t.texts.heap t.texts.starts t.texts.lens t.pages.identifiers t.pages.firsts t.pages.count t.terms.count d.pages h.pages uses own in
+    let texts = texts_are t.texts.heap.now t.texts.starts.now t.texts.lens.now t.pages.identifiers.now t.pages.firsts.now t.texts.count t.texts.end d.texts h.texts in
+    let pages = pages_are t.texts.heap.now t.texts.starts.now t.texts.lens.now t.pages.identifiers.now t.pages.firsts.now t.pages.count t.terms.count d.pages h.pages uses own in
     λ i. record { properties = h.properties.rows i; pages = pages i; terms = h.terms.rows i; texts = texts i }

@@ -15,6 +15,7 @@ use Rattle.values.specs.Values.{kind_code}
 use Rattle.values.proofs.EachKind.{kind_coded}
 use Rattle.values.specs.declared.Kind.{Kind}
 use Rattle.register_form.specs.Dictionary.{PropertyRow, PageRow, term_of}
+use denote.MutBor.{at_last}
 use Rattle.register_text_draft.specs.Drafting.{with_form, on_last}
 use Rattle.register_text_draft.specs.Tables.{property_in, Properties, page_in, Pages, term_in, Terms, FormsPushed}
 use Rattle.register_text_draft.specs.declared.PageTable.{PageTable}
@@ -131,16 +132,16 @@ module _ (firsts groups codes : List ℕ) (n f g c : ℕ) (i : ℕ) (ei : i ≡ 
       })
 
 -- The same of the structs.
-module _ (p : PageTable) (t : TermTable) (g c : ℕ) (i : ℕ) (ei : i ≡ t.count) (v : ℕ) (ev : v ≡ (t.count + 1) % 65536) (groups' : List ℕ) (eg : groups' ≡ set t.groups i g) (codes' : List ℕ) (ec : codes' ≡ set t.codes i c)
-    (k : ℕ) (ek : k ≡ p.count) (firsts' : List ℕ) (ef : firsts' ≡ set p.firsts k v)
+module _ (p : PageTable) (t : TermTable) (g c : ℕ) (i : ℕ) (ei : i ≡ t.count) (v : ℕ) (ev : v ≡ (t.count + 1) % 65536) (groups' : List ℕ) (eg : groups' ≡ set t.groups.now i g) (codes' : List ℕ) (ec : codes' ≡ set t.codes.now i c)
+    (k : ℕ) (ek : k ≡ p.count) (firsts' : List ℕ) (ef : firsts' ≡ set p.firsts.now k v)
   where
-    pub form_pushed : FormsPushed p t g c (record { identifiers = p.identifiers; firsts = firsts'; count = p.count }) (record { groups = groups'; codes = codes'; count = v })
+    pub form_pushed : FormsPushed p t g c (record { identifiers = p.identifiers; firsts = at_last p.firsts firsts'; count = p.count }) (record { groups = at_last t.groups groups'; codes = at_last t.codes codes'; count = v })
     form_pushed =
         record {
           pages = λ l h b few.
               let q : v ≡ t.count + 1 = ev ∙ mod-eq_of_lt (omega arith) in
-              subst (λ (n : ℕ). Pages p.identifiers firsts' p.count n (on_last t.count l)) (sym q) (on_pages p.firsts t.groups t.codes p.count t.count g c i ei groups' eg i ei codes' ec k ek v ev firsts' ef p.identifiers l h b few);
+              subst (λ (n : ℕ). Pages p.identifiers.now firsts' p.count n (on_last t.count l)) (sym q) (on_pages p.firsts.now t.groups.now t.codes.now p.count t.count g c i ei groups' eg i ei codes' ec k ek v ev firsts' ef p.identifiers.now l h b few);
           terms = λ l h few.
               let q : v ≡ t.count + 1 = ev ∙ mod-eq_of_lt (omega arith) in
-              subst (λ (n : ℕ). Terms groups' codes' n (l ++ (term_of g c ∷ []))) (sym q) (on_terms p.firsts t.groups t.codes p.count t.count g c i ei groups' eg i ei codes' ec k ek v ev firsts' ef l h few);
+              subst (λ (n : ℕ). Terms groups' codes' n (l ++ (term_of g c ∷ []))) (sym q) (on_terms p.firsts.now t.groups.now t.codes.now p.count t.count g c i ei groups' eg i ei codes' ec k ek v ev firsts' ef l h few);
         }

@@ -8,13 +8,13 @@ use Rattle.text.specs.Bytes.{Bytes, part}
 use Rattle.values.specs.declared.Kind.{Kind}
 use Rattle.values.specs.Values.{string, Value, plain, read_value}
 use Rattle.language.specs.Register.{Property}
-use Rattle.language.specs.RegisterText.{Entry, prop, page, cat, val, close}
+use Rattle.language.specs.RegisterText.{Entry, prop, page, cat, close}
 use Rattle.register_text_entries.specs.Items.{entry_in}
 use Rattle.register_text_entries.specs.declared.Tag.{Tag}
 use Rattle.register_text_entries.specs.declared.Item.{Item}
 use Rattle.register_text_draft.specs.declared.DraftTables.{DraftTables}
 use Rattle.register_text_draft.specs.Drafting.{with_value, added}
-use Rattle.register_text_draft.specs.Sizes.{Valued, Good, Spaced}
+use Rattle.register_text_draft.specs.Sizes.{Good, Spaced}
 use Rattle.register_text_draft.specs.Tables.{Extends}
 
 module _ (s : Bytes) (i : Item) (ps : List Property) (A B : DraftTables) (x : Bytes) (ex : x ≡ part s i.first.start i.first.len) where

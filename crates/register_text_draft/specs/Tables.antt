@@ -66,32 +66,32 @@ pub record Terms (groups codes : List ℕ) (n : ℕ) (l : List Bytes) : Type 0 w
 
 -- The tables hold the draft d.
 pub record Holding (t : DraftTables) (d : Dictionary) : Type 0 where
-  pub texts : Texts t.texts.heap t.texts.starts t.texts.lens t.texts.count t.texts.end d.texts
-  pub properties : Properties t.properties.kinds t.properties.names t.properties.count d.properties
-  pub pages : Pages t.pages.identifiers t.pages.firsts t.pages.count t.terms.count d.pages
-  pub terms : Terms t.terms.groups t.terms.codes t.terms.count d.terms
+  pub texts : Texts t.texts.heap.now t.texts.starts.now t.texts.lens.now t.texts.count t.texts.end d.texts
+  pub properties : Properties t.properties.kinds.now t.properties.names.now t.properties.count d.properties
+  pub pages : Pages t.pages.identifiers.now t.pages.firsts.now t.pages.count t.terms.count d.pages
+  pub terms : Terms t.terms.groups.now t.terms.codes.now t.terms.count d.terms
 
 -- The same tables as those that a draft is written from, uses being the term of each form.
 abbrev pub tables_in : DraftTables → List ℕ → Tables
 tables_in t uses =
-    tables_of t.texts.heap t.texts.starts t.texts.lens t.texts.count t.properties.kinds t.properties.names t.properties.count t.pages.identifiers t.pages.firsts t.pages.count uses t.terms.groups t.terms.codes t.terms.count
+    tables_of t.texts.heap.now t.texts.starts.now t.texts.lens.now t.texts.count t.properties.kinds.now t.properties.names.now t.properties.count t.pages.identifiers.now t.pages.firsts.now t.pages.count uses t.terms.groups.now t.terms.codes.now t.terms.count
 
 -- What ending a text answers, a and b being how long its namespace and its name are.
 pub record Ended (t : TextTable) (a b : ℕ) (u : TextTable) : Type 0 where
-  pub heap : u.heap ≡ t.heap
-  pub start : u.starts ≡ set t.starts t.count t.end
-  pub len : u.lens ≡ set t.lens t.count ((1 + a + b) % 65536)
+  pub heap : u.heap.now ≡ t.heap.now
+  pub start : u.starts.now ≡ set t.starts.now t.count t.end
+  pub len : u.lens.now ≡ set t.lens.now t.count ((1 + a + b) % 65536)
   pub texts : u.count ≡ (t.count + 1) % 65536
   pub bytes : u.end ≡ (t.end + 1 + a + b) % 65536
 
 -- What adding the texts l behind others answers, where they fit.
 pub record Pushed (t : TextTable) (l : List Bytes) (u : TextTable) : Type 0 where
-  pub texts : (k : List Bytes) → Texts t.heap t.starts t.lens t.count t.end k → length (k ++ l) ≤ 2368 → length (joined (k ++ l)) ≤ 35136 → Texts u.heap u.starts u.lens u.count u.end (k ++ l)
+  pub texts : (k : List Bytes) → Texts t.heap.now t.starts.now t.lens.now t.count t.end k → length (k ++ l) ≤ 2368 → length (joined (k ++ l)) ≤ 35136 → Texts u.heap.now u.starts.now u.lens.now u.count u.end (k ++ l)
 
 -- What adding a form answers, on the last page.
 pub record FormsPushed (g : PageTable) (v : TermTable) (group code : ℕ) (h : PageTable) (w : TermTable) : Type 0 where
-  pub pages : (l : List PageRow) → Pages g.identifiers g.firsts g.count v.count l → g.count ≤ 256 → v.count < 2048 → Pages h.identifiers h.firsts h.count w.count (on_last v.count l)
-  pub terms : (l : List Bytes) → Terms v.groups v.codes v.count l → v.count < 2048 → Terms w.groups w.codes w.count (l ++ (term_of group code ∷ []))
+  pub pages : (l : List PageRow) → Pages g.identifiers.now g.firsts.now g.count v.count l → g.count ≤ 256 → v.count < 2048 → Pages h.identifiers.now h.firsts.now h.count w.count (on_last v.count l)
+  pub terms : (l : List Bytes) → Terms v.groups.now v.codes.now v.count l → v.count < 2048 → Terms w.groups.now w.codes.now w.count (l ++ (term_of group code ∷ []))
 
 -- Each of the first n forms is a term of its own.
 abbrev pub Own : ℕ → List ℕ → Type 0
@@ -99,15 +99,15 @@ Own n uses = (f : ℕ) → f < n → get_or uses f 0 ≡ f
 
 -- Tables with room for any draft.
 pub record Roomy (t : DraftTables) : Type 0 where
-  pub heap_room : 35136 ≤ length t.texts.heap
-  pub starts_room : 2368 ≤ length t.texts.starts
-  pub lens_room : 2368 ≤ length t.texts.lens
-  pub kinds_room : 64 ≤ length t.properties.kinds
-  pub names_room : 64 ≤ length t.properties.names
-  pub identifiers_room : 256 ≤ length t.pages.identifiers
-  pub firsts_room : 257 ≤ length t.pages.firsts
-  pub groups_room : 2048 ≤ length t.terms.groups
-  pub codes_room : 2048 ≤ length t.terms.codes
+  pub heap_room : 35136 ≤ length t.texts.heap.now
+  pub starts_room : 2368 ≤ length t.texts.starts.now
+  pub lens_room : 2368 ≤ length t.texts.lens.now
+  pub kinds_room : 64 ≤ length t.properties.kinds.now
+  pub names_room : 64 ≤ length t.properties.names.now
+  pub identifiers_room : 256 ≤ length t.pages.identifiers.now
+  pub firsts_room : 257 ≤ length t.pages.firsts.now
+  pub groups_room : 2048 ≤ length t.terms.groups.now
+  pub codes_room : 2048 ≤ length t.terms.codes.now
 
 -- The tables t and props hold the n entries, over the text c, and the np properties of an accepted text s.
 pub record Accepted (s c : Bytes) (t props : List ℕ) (n np : ℕ) : Type 0 where

@@ -16,26 +16,26 @@ use tables::{next, put};
 use text::part;
 use values::Kind;
 
-impl PropertyTable {
+impl PropertyTable<'_> {
     // Adds a property.
     fn push(&mut self, kind: Kind, name: u16)
-        ensures { (l : List PropertyRow) → Properties self.old.kinds self.old.names self.old.count l → self.old.count < 64 → Properties self.new.kinds self.new.names self.new.count (l ++ (record { kind = kind; name = name } ∷ [])) }
+        ensures { (l : List PropertyRow) → Properties self.old.kinds.now self.old.names.now self.old.count l → self.old.count < 64 → Properties self.new.kinds.now self.new.names.now self.new.count (l ++ (record { kind = kind; name = name } ∷ [])) }
     {
         let n = usize::from(self.count);
-        put(&mut self.kinds, n, u8::from(kind));
-        put(&mut self.names, n, name);
+        put(self.kinds, n, u8::from(kind));
+        put(self.names, n, name);
         self.count = next(self.count);
     }
 }
 
-impl PageTable {
+impl PageTable<'_> {
     // Adds a page without forms behind pages that have f forms.
     fn push(&mut self, f: u16, identifier: u16)
-        ensures { (l : List PageRow) → Pages self.old.identifiers self.old.firsts self.old.count f l → self.old.count < 256 → Pages self.new.identifiers self.new.firsts self.new.count f (l ++ (record { identifier = identifier; forms = [] } ∷ [])) }
+        ensures { (l : List PageRow) → Pages self.old.identifiers.now self.old.firsts.now self.old.count f l → self.old.count < 256 → Pages self.new.identifiers.now self.new.firsts.now self.new.count f (l ++ (record { identifier = identifier; forms = [] } ∷ [])) }
     {
         let n = usize::from(self.count);
-        put(&mut self.identifiers, n, identifier);
-        put(&mut self.firsts, n + 1, f);
+        put(self.identifiers, n, identifier);
+        put(self.firsts, n + 1, f);
         self.count = next(self.count);
     }
 }
@@ -46,13 +46,13 @@ fn push_form(pages: &mut PageTable, terms: &mut TermTable, group: u8, code: u64)
 {
     let f = usize::from(terms.count);
     let behind = next(terms.count);
-    put(&mut terms.groups, f, group);
-    put(&mut terms.codes, f, code);
-    put(&mut pages.firsts, usize::from(pages.count), behind);
+    put(terms.groups, f, group);
+    put(terms.codes, f, code);
+    put(pages.firsts, usize::from(pages.count), behind);
     terms.count = behind;
 }
 
-impl DraftTables {
+impl DraftTables<'_> {
     // Adds a value of a kind in a group.
     pub fn draft_value(&mut self, v: &[u8], kind: Kind, group: u8)
         ensures { (w : Value) → read_value kind v.now ≡ Some w → Spaced w → Extends self.old self.new (with_value group w) }

@@ -17,86 +17,56 @@ pub mod adding; // adding.rt: what each entry adds
 pub mod lookup; // lookup.rt: a property by its name
 pub mod texts; // texts.rt: writing texts, and the codes of values
 
-use register_form::layout;
 use register_text_entries::table::item_at;
 use register_text_entries::{Item, Tag};
+use tables::put;
 use text::part;
 use values::Kind;
 
 // Texts, one behind the other: how many there are, and where the last ends.
 #[derive(Drop)]
-pub struct TextTable {
-    pub heap: [u8; layout::TEXT_BYTE_ROOM],
-    pub starts: [u32; layout::TEXT_ROOM],
-    pub lens: [u16; layout::TEXT_ROOM],
+pub struct TextTable<'a> {
+    pub heap: &'a mut [u8],
+    pub starts: &'a mut [u32],
+    pub lens: &'a mut [u16],
     pub count: u16,
     pub end: u16,
 }
 
 // Properties: the code of the kind of each, and the text that names it.
 #[derive(Drop)]
-pub struct PropertyTable {
-    pub kinds: [u8; layout::PROPERTY_ROOM],
-    pub names: [u16; layout::PROPERTY_ROOM],
+pub struct PropertyTable<'a> {
+    pub kinds: &'a mut [u8],
+    pub names: &'a mut [u16],
     pub count: u16,
 }
 
 // Pages: the text of each one's identifier, and which forms it has, from firsts[i] to firsts[i + 1].
 #[derive(Drop)]
-pub struct PageTable {
-    pub identifiers: [u16; layout::PAGE_ROOM],
-    pub firsts: [u16; layout::PAGE_START_ROOM],
+pub struct PageTable<'a> {
+    pub identifiers: &'a mut [u16],
+    pub firsts: &'a mut [u16],
     pub count: u16,
 }
 
 // Terms, one for each form: its group, and the code of its value.
 #[derive(Drop)]
-pub struct TermTable {
-    pub groups: [u8; layout::FORM_ROOM],
-    pub codes: [u64; layout::FORM_ROOM],
+pub struct TermTable<'a> {
+    pub groups: &'a mut [u8],
+    pub codes: &'a mut [u64],
     pub count: u16,
 }
 
 // The tables of a draft.
 #[derive(Drop)]
-pub struct DraftTables {
-    pub texts: TextTable,
-    pub properties: PropertyTable,
-    pub pages: PageTable,
-    pub terms: TermTable,
+pub struct DraftTables<'a> {
+    pub texts: TextTable<'a>,
+    pub properties: PropertyTable<'a>,
+    pub pages: PageTable<'a>,
+    pub terms: TermTable<'a>,
 }
 
-impl DraftTables {
-    // Tables without rows.
-    pub fn new() -> Self
-        ensures { Roomy result }
-    {
-        DraftTables {
-            texts: TextTable {
-                heap: [0; layout::TEXT_BYTE_ROOM],
-                starts: [0; layout::TEXT_ROOM],
-                lens: [0; layout::TEXT_ROOM],
-                count: 0,
-                end: 0,
-            },
-            properties: PropertyTable {
-                kinds: [0; layout::PROPERTY_ROOM],
-                names: [0; layout::PROPERTY_ROOM],
-                count: 0,
-            },
-            pages: PageTable {
-                identifiers: [0; layout::PAGE_ROOM],
-                firsts: [0; layout::PAGE_START_ROOM],
-                count: 0,
-            },
-            terms: TermTable {
-                groups: [0; layout::FORM_ROOM],
-                codes: [0; layout::FORM_ROOM],
-                count: 0,
-            },
-        }
-    }
-
+impl DraftTables<'_> {
     // Adds an entry.
     fn draft_entry(&mut self, s: &[u8], t: &[u16], props: &[u16], np: usize, item: Item)
         ensures { (ps : List Property) → Lists s.now t.now props.now np ps → Good ps (entry_in s.now item) → Extends self.old self.new (λ d. added ps d (entry_in s.now item)) }
@@ -120,7 +90,7 @@ impl DraftTables {
         self.texts.end = 0;
         self.properties.count = 0;
         self.pages.count = 0;
-        self.pages.firsts[0] = 0;
+        put(self.pages.firsts, 0, 0);
         self.terms.count = 0;
     }
 

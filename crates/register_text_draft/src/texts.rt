@@ -23,15 +23,15 @@ pub fn byte(n: usize) -> u8
     (n % 256) as u8
 }
 
-impl TextTable {
+impl TextTable<'_> {
     // Ends a text: what it has of a namespace and of a name, and its length before both.
     fn end_text(&mut self, a: usize, b: usize)
         requires { (a < 65536) × (b < 65536) }
         ensures { Ended self.old a b self.new }
     {
         let m = usize::from(self.count);
-        put(&mut self.starts, m, u32::from(self.end));
-        put(&mut self.lens, m, narrow(1 + a + b));
+        put(self.starts, m, u32::from(self.end));
+        put(self.lens, m, narrow(1 + a + b));
         self.count = next(self.count);
         self.end = narrow(usize::from(self.end) + 1 + a + b);
     }
@@ -43,9 +43,9 @@ impl TextTable {
         let first = usize::from(self.end);
         let a = usize::from(narrow(space.len()));
         let b = usize::from(narrow(name.len()));
-        put(&mut self.heap, first, byte(a));
-        put_bytes(&mut self.heap, first + 1, space);
-        put_bytes(&mut self.heap, first + 1 + a, name);
+        put(self.heap, first, byte(a));
+        put_bytes(self.heap, first + 1, space);
+        put_bytes(self.heap, first + 1 + a, name);
         self.end_text(a, b);
     }
 
@@ -54,9 +54,9 @@ impl TextTable {
         ensures { length (composed_name space.now) ≤ 64 → Pushed self.old (labelled (composed_name space.now) (composed_name name.now) ∷ []) self.new }
     {
         let first = usize::from(self.end);
-        let a = usize::from(narrow(put_composed(&mut self.heap, first + 1, space)));
-        put(&mut self.heap, first, byte(a));
-        let b = usize::from(narrow(put_composed(&mut self.heap, first + 1 + a, name)));
+        let a = usize::from(narrow(put_composed(self.heap, first + 1, space)));
+        put(self.heap, first, byte(a));
+        let b = usize::from(narrow(put_composed(self.heap, first + 1 + a, name)));
         self.end_text(a, b);
     }
 

@@ -2,4 +2,4 @@ use Rattle.register_text_draft.proofs.Rows.{property_pushed}
 use Rattle.register_text_draft.proofs.PropertyTable.push.Goals as goal
 
 pub returns : goal.returns
-returns c = property_pushed c.args.self.now.kinds c.args.self.now.names c.args.self.now.count c.args.kind c.args.name _ _ c.from-n.ensures c.from.ensures _ c.put.ensures _ c.put-2.ensures _ c.next-self.ensures
+returns c = property_pushed c.args.self.now.kinds.now c.args.self.now.names.now c.args.self.now.count c.args.kind c.args.name _ _ c.from-n.ensures c.from.ensures _ c.put.ensures _ c.put-2.ensures _ c.next-self.ensures
