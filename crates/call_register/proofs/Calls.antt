@@ -1,5 +1,5 @@
 -- The ways through the register call.
-use Rattle.std.specs.Prelude.{◌⊎◌, Result, Ok, Err}
+use Rattle.std.specs.Prelude.{Result, Ok, Err}
 use Prim.Native.Nat.{ℕ, ◌≤◌}
 use mathlib.Core.Path.{◌≡◌, refl, sym, ap, ◌∙◌, subst}
 use mathlib.Core.Bool.{Bool, true, false}
@@ -25,7 +25,7 @@ use Rattle.register_text_verdict.specs.Checks.{ReadsRows, JudgesTyped, Prepared,
 use Rattle.register_text_verdict.proofs.Judging.{rule_broken}
 use Rattle.register_text_verdict.specs.declared.Judged.{Judged}
 use Rattle.register_form.specs.Dictionary.{Dictionary}
-use Rattle.register_form.specs.Form.{register_size, form_of, stored}
+use Rattle.register_form.specs.Form.{stored}
 use Rattle.register_form.specs.Draft.{Draft, drafted, write_into}
 use Rattle.register_form.specs.Tables.{Tables, draft_in}
 use Rattle.register_text_draft.specs.declared.DraftTables.{DraftTables}
@@ -96,7 +96,31 @@ module _ (c : Bytes) (t props : List ℕ) (n np : ℕ) (b : Bytes) where
         }
 
 refusal_some : (e : Refusal) → refusal_number e ≡ 0 → ⊥
-refusal_some e h = ?
+refusal_some Refusal.TextTooLong h = absurd (omega arith)
+refusal_some Refusal.TextUnread h = absurd (omega arith)
+refusal_some Refusal.RuleBroken h = absurd (omega arith)
+refusal_some Refusal.DeclaredTwice h = absurd (omega arith)
+refusal_some Refusal.UndeclaredValue h = absurd (omega arith)
+refusal_some Refusal.UnfitValue h = absurd (omega arith)
+refusal_some Refusal.OverLimit h = absurd (omega arith)
+refusal_some Refusal.RegisterTooShort h = absurd (omega arith)
+refusal_some Refusal.NoRegister h = absurd (omega arith)
+refusal_some Refusal.QueryTooLong h = absurd (omega arith)
+refusal_some Refusal.QueryUnread h = absurd (omega arith)
+refusal_some Refusal.TooDeep h = absurd (omega arith)
+refusal_some Refusal.BadName h = absurd (omega arith)
+refusal_some Refusal.BadPiece h = absurd (omega arith)
+refusal_some Refusal.Undeclared h = absurd (omega arith)
+refusal_some Refusal.UnfitPiece h = absurd (omega arith)
+refusal_some Refusal.TooManyNodes h = absurd (omega arith)
+refusal_some Refusal.QueryTooShort h = absurd (omega arith)
+refusal_some Refusal.NoQuery h = absurd (omega arith)
+refusal_some Refusal.NoAskedRegister h = absurd (omega arith)
+refusal_some Refusal.Mismatch h = absurd (omega arith)
+refusal_some Refusal.MarksTooShort h = absurd (omega arith)
+refusal_some Refusal.KindsClash h = absurd (omega arith)
+refusal_some Refusal.TreeTooShort h = absurd (omega arith)
+refusal_some Refusal.NoTree h = absurd (omega arith)
 
 refused_is : (s b : Bytes) (e : Refusal) → refusal_number e ≡ number_of (read_register s) → Answered (register_call s b) b (refusal_number e) b
 unfolding register_call

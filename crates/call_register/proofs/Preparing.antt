@@ -100,5 +100,3 @@ module _ (s : Bytes) where
   pub ascii_all : (ok : Bool) (i : ℕ) → length s ≤ i → Testing ok i → ok ≡ is_ascii s
   unfolding all
   ascii_all ok i l h = sym (and-true ok) ∙ ap (λ (x : Bool). ok && x) (let q : true ≡ is_ascii (drop i s) = rw (drop_of_length-le s l) in q) ∙ h
-
-pub ruleset ascii = (ascii_none, ascii_more, ascii_all)
