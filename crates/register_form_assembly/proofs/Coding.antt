@@ -5,7 +5,7 @@ use mathlib.Core.List.{List, [], ◌∷◌}
 use native.Mathlib.Decide.{ℕ_discrete}
 use native.Mathlib.Omega.{arith}
 use lib.ListN.{length, get_or, set, length-set}
-use lib.Seq.{set_out, get_or-set_same, get_or-set_other}
+use lib.Seq.{get_or-set_same, get_or-set_other}
 use borrow.Author.Tests.{eq-eqb, ne_eqb}
 use Rattle.text.specs.Bytes.{Bytes}
 use Rattle.text.proofs.Tables.{length_tabulate, get_d_tabulate}
@@ -17,7 +17,7 @@ use Rattle.register_form.specs.Dictionary.{term_of}
 use Rattle.register_form.specs.Form.{joined}
 use Rattle.buffer.specs.Writing.{written}
 use Rattle.buffer.proofs.Written.{written_past, next}
-use Rattle.buffer.proofs.Looping.{Rowing, rows_none, rows_more, rows_all}
+use Rattle.buffer.proofs.Looping.{Rowing, rows_more, rows_all}
 use Rattle.register_form_assembly.specs.Terms.{code_for, code_by, term_by, terms_by, Filling}
 
 -- The new code of a form.
@@ -51,9 +51,6 @@ module _ (kinds numbers groups codes : List ℕ) (n : ℕ) (h₀ : Bytes) where
   abbrev pub Terming : Bytes → ℕ → Type 0
   Terming h i = Rowing (λ (t : Bytes). t) 9 [] h₀ 0 (terms_by kinds numbers groups codes n) h i
 
-  pub terms_none : Terming h₀ 0
-  terms_none = rows_none (λ (t : Bytes). t) 9 [] h₀ 0 (terms_by kinds numbers groups codes n)
-
   module _ (h : Bytes) (i : ℕ) (r : Terming h i) where
     pub terms_more : (k g c x : ℕ) (l : Bytes) → i < n → k ≡ i → g ≡ get_or groups k 0 → c ≡ get_or codes k 0 → x ≡ code_by kinds numbers g c → l ≡ written h (9 * k) (term_of g x) → Terming l (i + 1)
     unfolding terms_by term_by
@@ -67,14 +64,7 @@ module _ (kinds numbers groups codes : List ℕ) (n : ℕ) (h₀ : Bytes) where
     unfolding terms_by
     terms_all b = rows_all (λ (t : Bytes). t) 9 [] h₀ 0 (terms_by kinds numbers groups codes n) h i r (rw length_tabulate b)
 
--- Tables filled as far as there is room.
-pub set_past : (l : List ℕ) (i v : ℕ) → length l ≤ i → l ≡ set l i v
-set_past l i v h = sym (set_out l i v h)
-
 module _ (f : ℕ → ℕ) (l₀ : List ℕ) where
-  pub filling_none : Filling f l₀ 0 l₀
-  filling_none = record { size = refl; tabled = record { at = λ j h k. absurd (omega arith) } }
-
   pub filling_more : (i : ℕ) (l u : List ℕ) (k v : ℕ) → Filling f l₀ i l → k ≡ i → v ≡ f i → u ≡ set l k v → Filling f l₀ (i + 1) u
   filling_more i l u k v a d e g = record { size = sized ∙ a.size; tabled = record { at = λ j h b. go j (ℕ_discrete j i) h b } }
     where
@@ -88,6 +78,3 @@ module _ (f : ℕ → ℕ) (l₀ : List ℕ) where
       go j (yes p) h b =
           ap (λ (w : List ℕ). get_or w j 0) u_is ∙ ap (λ (x : ℕ). get_or (set l i v) x 0) p ∙ get_or-set_same l i v 0 (omega (arith, sized)) ∙ e ∙ ap f (sym p)
       go j (no p) h b = ap (λ (w : List ℕ). get_or w j 0) u_is ∙ get_or-set_other l i j v 0 p ∙ a.tabled.at j (omega (arith, p)) (omega (arith, sized))
-
-  pub filling_all : (i n : ℕ) (l : List ℕ) → Filling f l₀ i l → n ≤ i → Filling f l₀ n l
-  filling_all i n l a h = record { size = a.size; tabled = record { at = λ j b c. a.tabled.at j (omega arith) c } }

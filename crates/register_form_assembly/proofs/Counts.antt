@@ -3,7 +3,7 @@ use Prim.Native.Nat.{ℕ, ◌+◌, ◌-◌, ◌%◌, ◌≤◌, ◌<◌, min}
 use mathlib.Core.Path.{◌≡◌, refl, sym, ap, ◌∙◌}
 use mathlib.Core.Bool.{Bool, true, ◌&&◌}
 use mathlib.Core.List.{List, ◌∷◌}
-use Rattle.std.specs.Prelude.{Option, Some, None}
+use Rattle.std.specs.Prelude.{Option, Some}
 use native.Mathlib.Numerals.{add-one}
 use native.Mathlib.Omega.{arith}
 use lib.ListN.{length, get_or, drop, drop_of_length-le}
@@ -76,9 +76,6 @@ module _ (f : ℕ → ℕ) (table : List ℕ) (n before : ℕ) where
   pub record Adding (sum i : ℕ) : Type 0 where
     pub is : min (sum + total f (drop i (first_of table n))) 32769 ≡ min (before + total f (first_of table n)) 32769
 
-  pub adding_none : (sum : ℕ) → sum ≡ before → Adding sum 0
-  adding_none sum e = record { is = omega arith }
-
   pub adding_more : (sum i k v x r : ℕ) → Adding sum i → i < n → k ≡ i → v ≡ get_or table k 0 → min x 32769 ≡ min (f v) 32769 → min r 32769 ≡ min (sum + x) 32769 → Adding r (i + 1)
   unfolding first_of total
   adding_more sum i k v x r a b d e g q =
@@ -104,9 +101,6 @@ module _ (f : ℕ → ℕ) (table : List ℕ) (n before : ℕ) where
     pub most : sum ≤ 32769
     pub is : Adding sum i
 
-  pub summing_none : (sum : ℕ) → sum ≡ min (before + 0) 32769 → Summing sum 0
-  summing_none sum e = record { most = omega arith; is = record { is = omega arith } }
-
   pub summing_more : (sum i k v x r : ℕ) → Summing sum i → i < n → k ≡ i → v ≡ get_or table k 0 → x ≡ f v → r ≡ min (sum + x) 32769 → Summing r (i + 1)
   summing_more sum i k v x r a b d e g q =
       record { most = omega arith; is = adding_more sum i k v x r a.is b d e (rw g) (omega arith) }
@@ -114,7 +108,7 @@ module _ (f : ℕ → ℕ) (table : List ℕ) (n before : ℕ) where
   pub summing_all : (sum i : ℕ) → Summing sum i → n ≤ i → sum ≡ min (before + total f (first_of table n)) 32769
   summing_all sum i a b = adding_all sum i sum a.is b (let m = a.most in omega arith)
 
-pub ruleset summing = (summing_none, summing_more, summing_all)
+pub ruleset summing = (summing_more, summing_all)
 
 -- A size that is made, and one that is added.
 pub size_made : (f : ℕ → ℕ) (t x r : ℕ) → x ≡ f t → r ≡ min (0 + x) 32769 → r ≡ capped f t
@@ -130,9 +124,6 @@ module _ (sizes : List ℕ) (most : ℕ) (table : List ℕ) (n before : ℕ) whe
   abbrev pub Sized : Bool → ℕ → ℕ → Type 0
   Sized all sum i = all ≡ true → (f : ℕ → ℕ) → Tabled (capped f) most sizes → Adding f table n before sum i
 
-  pub sized_none : (all : Bool) (sum : ℕ) → sum ≡ before → Sized all sum 0
-  sized_none all sum e q f a = adding_none f table n before sum e
-
   pub sized_more : (all b : Bool) (sum i k v w x y : ℕ) → Sized all sum i → i < n → k ≡ i → v ≡ get_or table k 0 → b ≡ (ltb v most && ltb v (length sizes)) → w ≡ v → x ≡ get_or sizes w 0 → y ≡ x → Sized (all && b) (sum + y) (i + 1)
   sized_more all b sum i k v w x y s h d e g p q z t f a =
       let both = and_true all b t in
@@ -143,9 +134,6 @@ module _ (sizes : List ℕ) (most : ℕ) (table : List ℕ) (n before : ℕ) whe
   pub sized_all : (all : Bool) (sum i : ℕ) → Sized all sum i → n ≤ i → all ≡ true → SizesAdded sizes most table n before (Some sum)
   sized_all all sum i s h t =
       record { is = λ u e f a. let y : sum ≡ u = cc in adding_all f table n before sum i (min u 32769) (s t f a) h (omega arith) }
-
-  pub sized_none_lem : SizesAdded sizes most table n before None
-  sized_none_lem = record { is = λ u e. absurd (cc) }
 
   pub sized_is : (r : Option ℕ) (sum y : ℕ) (f : ℕ → ℕ) → SizesAdded sizes most table n before r → r ≡ Some sum → y ≡ min (0 + sum) 32769 → Tabled (capped f) most sizes → y ≡ min (before + total f (first_of table n)) 32769
   sized_is r sum y f s e g a = g ∙ (let z : min (0 + sum) 32769 ≡ min sum 32769 = omega arith in z) ∙ s.is sum e f a

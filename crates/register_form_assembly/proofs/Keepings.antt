@@ -47,12 +47,7 @@ any_snoc : (y x : ℕ) (l : List ℕ) → any (eqb y) (l ++ (x ∷ [])) ≡ (any
 unfolding any
 any_snoc y x l = any_append (eqb y) l (x ∷ []) ∙ ap (λ b. any (eqb y) l || b) (or_false (eqb y x))
 
--- Keeping one number.
 module _ (page x : ℕ) (wanted : Bool) (used table : List ℕ) (n : ℕ) where
-  pub kept_unwanted : wanted ≡ false → Kept page x wanted used table n used table n
-  kept_unwanted e =
-      record { used_size = refl; table_size = refl; good = λ before kept b k. rw e k }
-
   module _ (k v : ℕ) (w : wanted ≡ true) (d : k ≡ x) (e : v ≡ get_or used k 0) where
     there : v ≡ get_or used x 0
     there = e ∙ rw d

@@ -45,9 +45,6 @@ module _ (l : List Region) (h : Bytes) where
             record { number = rw long; bytes = rw long (f ∙ ap₂ (put_regions 0) q d ∙ dictionary_written e b h s) };
       }
 
-pub counts_sum : (a b c x y r : ℕ) → x ≡ min (0 + a) 32769 → y ≡ min (x + b) 32769 → r ≡ min (y + c) 32769 → r ≡ min (a + b + c) 32769
-counts_sum a b c x y r d e f = omega arith
-
 -- Tables of zeros are fresh.
 pub zeros_fresh : (n : ℕ) → n ≤ 256 → Fresh n (replicate 2048 0) (replicate 257 0)
 zeros_fresh n b =

@@ -166,9 +166,6 @@ module _ (t : Tables) (refs : List ℕ) (nx : ℕ) (numbers : List ℕ) (h : Byt
   many_pages p b =
       over (rw (le-leb (length (assembled (draft_in t)).properties) 64 (omega (arith, assembled_properties)), lt-leb (length (assembled (draft_in t)).pages) 256 (omega (arith, assembled_pages))))
 
-  pub numbered_written : (y : ℕ) (o : Bytes) → t.np ≤ 64 → t.ng ≤ 256 → TermsWritten t refs nx numbers h y o → NumberedWritten t refs nx numbers h y o
-  numbered_written y o p g k = record { is = λ w x. k.is w x p g }
-
 -- The register that a draft describes is the dictionary that is assembled of it, written.
 described : (t : Tables) (h : Bytes) (y : ℕ) (o : Bytes) → Draft (draft_in t) → Capacity t → (Writable t → Answered (write_dictionary (assembled (draft_in t)) h) h y o) → Answered (write_into (drafted (draft_in t)) h) h y o
 unfolding write_dictionary fitted write_into stored form_of fits_limits
