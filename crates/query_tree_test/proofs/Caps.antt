@@ -1,7 +1,8 @@
 -- Counts that stop at the first that is too large.
 use Rattle.std.specs.Prelude.{Some}
+use Rattle.std.specs.Bool.{then_some}
 use Prim.Native.Nat.{ℕ, suc, ◌+◌, ◌≤◌}
-use mathlib.Core.Path.{◌≡◌, ap}
+use mathlib.Core.Path.{◌≡◌, refl, ap}
 use mathlib.Core.Bool.{Bool, true, false, ◌&&◌}
 use native.Mathlib.Numerals.{add-one}
 use native.Mathlib.Omega.{arith}
@@ -13,6 +14,11 @@ use Rattle.language.specs.Answer.{only_if}
 use Rattle.query_tree.specs.declared.Shape.{Shape}
 use Rattle.query_tree.specs.declared.Item.{Item}
 use Rattle.query_tree.specs.Pass.{is_property, is_alternatives, bracket, up_to_bytes, up_to_levels, item_of, leaf_item, property_item, link_item}
+
+-- What is made where a test passes.
+pub told : {A : Type 0} (b : Bool) (x : A) → then_some b x ≡ only_if b (Some x)
+told true x = refl
+told false x = refl
 
 pub bracket_most : (s : Shape) → bracket s ≤ 13
 bracket_most Shape.Categories = omega arith

@@ -1,6 +1,5 @@
 // Parts made of others.
-ghost use Rattle.std.specs.Prelude.{◌≡◌, ◌&&◌, ◌-◌, eqb, Some};
-ghost use Rattle.language.specs.Answer.{only_if};
+ghost use Rattle.std.specs.Prelude.{◌≡◌, ◌&&◌, ◌-◌, eqb};
 ghost use Rattle.query_tree_spelling.specs.Spelled.{wrapped as wrapped_if, under as under_if};
 ghost use Rattle.query_tree.specs.Pass.{is_query, full_bytes, subquery_item, property_item, link_item, bar_item, or_item, and_item};
 
@@ -11,12 +10,6 @@ use crate::shapes::{
 };
 use names::is_composed_property_name;
 use query_tree::{Item, Shape};
-
-fn only_if(ok: bool, item: Item) -> Option<Item>
-    ensures { result ≡ only_if ok (Some item) }
-{
-    if ok { Some(item) } else { None }
-}
 
 // Whether a part that begins at a node and ends before another has n nodes.
 fn is_size(n: usize, at: usize, from: usize) -> bool
@@ -40,7 +33,7 @@ fn under(grouped: bool, n: u16) -> usize
     if grouped { n + 1 } else { n }
 }
 
-#[tactic(auto, unfolding(query_tree::specs::Pass::subquery_item))]
+#[tactic(auto, unfolding(query_tree::specs::Pass::subquery_item), using(crate::proofs::Caps::told))]
 pub fn subquery_item(i: Item) -> Option<Item>
     ensures { result ≡ subquery_item i }
 {
@@ -57,7 +50,7 @@ pub fn subquery_item(i: Item) -> Option<Item>
         bytes: up_to_bytes(bytes),
         depth: up_to_levels(depth),
     };
-    only_if(is_query(i.shape), item)
+    is_query(i.shape).then_some(item)
 }
 
 pub fn property_item(x: &[u8], i: Item) -> Option<Item>
@@ -76,7 +69,7 @@ pub fn property_item(x: &[u8], i: Item) -> Option<Item>
         bytes: up_to_bytes(bytes),
         depth: up_to_levels(depth),
     };
-    only_if(is_alternatives(i.shape), item)
+    is_alternatives(i.shape).then_some(item)
 }
 
 pub fn link_item(x: &[u8], i: Item) -> Option<Item>
@@ -96,11 +89,11 @@ pub fn link_item(x: &[u8], i: Item) -> Option<Item>
         bytes: up_to_bytes(bytes),
         depth: up_to_levels(depth),
     };
-    only_if(is_property(i.shape), item)
+    is_property(i.shape).then_some(item)
 }
 
 // Two with what joins them, node `at`, which tells how many nodes the second has.
-#[tactic(auto, unfolding(query_tree::specs::Pass::bar_item))]
+#[tactic(auto, unfolding(query_tree::specs::Pass::bar_item), using(crate::proofs::Caps::told))]
 pub fn bar_item(at: usize, n: usize, i: Item, j: Item) -> Option<Item>
     ensures { result ≡ bar_item at n i j }
 {
@@ -117,7 +110,7 @@ pub fn bar_item(at: usize, n: usize, i: Item, j: Item) -> Option<Item>
         bytes: up_to_bytes(bytes),
         depth: up_to_levels(depth),
     };
-    only_if(alike(i.shape, j.shape) & is_size(n, at, j.from), item)
+    (alike(i.shape, j.shape) & is_size(n, at, j.from)).then_some(item)
 }
 
 // Whether two parts are queries, the second of n nodes before node `at`.
@@ -127,7 +120,7 @@ fn are_queries(n: usize, at: usize, i: Item, j: Item) -> bool
     is_query(i.shape) & (is_query(j.shape) & is_size(n, at, j.from))
 }
 
-#[tactic(auto, unfolding(query_tree::specs::Pass::or_item))]
+#[tactic(auto, unfolding(query_tree::specs::Pass::or_item), using(crate::proofs::Caps::told))]
 pub fn or_item(at: usize, n: usize, i: Item, j: Item) -> Option<Item>
     ensures { result ≡ or_item at n i j }
 {
@@ -145,10 +138,10 @@ pub fn or_item(at: usize, n: usize, i: Item, j: Item) -> Option<Item>
         bytes: up_to_bytes(bytes),
         depth: up_to_levels(depth),
     };
-    only_if(are_queries(n, at, i, j), item)
+    are_queries(n, at, i, j).then_some(item)
 }
 
-#[tactic(auto, unfolding(query_tree::specs::Pass::and_item))]
+#[tactic(auto, unfolding(query_tree::specs::Pass::and_item), using(crate::proofs::Caps::told))]
 pub fn and_item(at: usize, n: usize, i: Item, j: Item) -> Option<Item>
     ensures { result ≡ and_item at n i j }
 {
@@ -167,5 +160,5 @@ pub fn and_item(at: usize, n: usize, i: Item, j: Item) -> Option<Item>
         bytes: up_to_bytes(bytes),
         depth: up_to_levels(depth),
     };
-    only_if(are_queries(n, at, i, j), item)
+    are_queries(n, at, i, j).then_some(item)
 }
