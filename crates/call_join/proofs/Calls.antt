@@ -3,21 +3,19 @@ use Rattle.std.specs.Prelude.{Some, None, Result, Err}
 use Prim.Native.Nat.{ℕ, ◌<◌}
 use mathlib.Core.Path.{◌≡◌, refl, sym, ap, ◌∙◌}
 use mathlib.Core.Bool.{Bool, true, false, not, cond}
-use mathlib.Core.Logic.{◌⊎◌, inl, inr}
-use mathlib.Core.List.{List, ◌++◌}
+use mathlib.Core.List.{List}
 use native.Mathlib.Omega.{arith}
-use lib.Dec.{ltb}
-use lib.ListN.{length, drop, get_or, replicate, length-replicate}
+use lib.ListN.{length, get_or, replicate, length-replicate}
 use Rattle.text.specs.Bytes.{Bytes, part}
 use Rattle.text.specs.Table.{tabulate}
-use Rattle.language.specs.Answer.{refused, accepted, number_of, Answered}
-use Rattle.language.specs.Refusals as refusals
+use Rattle.language.specs.Answer.{refused, Answered}
+use Rattle.language.specs.Refusals.{number_of}
 use Rattle.language.specs.declared.refusals.Refusal.{Refusal}
 use Rattle.language.specs.Register.{Register}
 use Rattle.language.specs.Rules.{is_within_limits}
 use Rattle.language.specs.Joining.{join, kinds_clash}
 use Rattle.dictionary.specs.Items.{text_at}
-use Rattle.register_form.specs.Form.{register_size, form_of, stored, placed, dictionary_in, register_in, is_form, held_register}
+use Rattle.register_form.specs.Form.{stored, dictionary_in, register_in, is_form, held_register}
 use Rattle.register_form.specs.Formed.{Formed}
 use Rattle.register_form.specs.Draft.{write_into}
 use Rattle.register_form.specs.Tables.{tables_of}
@@ -72,11 +70,11 @@ module _ (h g b : Bytes) where
   joined_clash e = record { number = rw e; bytes = rw e }
 
   -- The draft of the join, written.
-  pub join_written : (heap : Bytes) (starts lens items1 items2 : List ℕ) (m : ℕ) (ks ns is fs us gs cs : List ℕ) (np ng nt : ℕ) (r : Result (Unit {0}) Refusal) (after : Bytes)
+  pub join_written : (heap : Bytes) (starts lens items1 items2 : List ℕ) (m : ℕ) (ks ns is fs us gs cs : List ℕ) (np ng nt : ℕ) (after : Bytes) (r : Result (Unit {0}) Refusal)
       → JoinPut h g items1 items2 (replicate 128 0) (replicate 128 0) (replicate 512 0) (replicate 513 0) (replicate 4096 0) (replicate 4096 0) (replicate 4096 0) ks ns is fs us gs cs np ng nt
-      → OrderedWritten (tables_of heap starts lens m ks ns np is fs ng us gs cs nt) b (refusals.number_of r) after
+      → OrderedWritten (tables_of heap starts lens m ks ns np is fs ng us gs cs nt) b (number_of r) after
       → Writes h g heap starts lens m items1 items2 b r after
-  join_written heap starts lens items1 items2 m ks ns is fs us gs cs np ng nt r after put w =
+  join_written heap starts lens items1 items2 m ks ns is fs us gs cs np ng nt after r put w =
       record {
         is = λ fh fg merged clear.
             let T = tables_of heap starts lens m ks ns np is fs ng us gs cs nt in
@@ -118,7 +116,7 @@ module _ (first second b : Bytes) where
   -- h and g are the first bytes of the inputs
   pub join_both : (h g : Bytes) (n : ℕ) (r : Result (Unit {0}) Refusal) (after : Bytes) → held_register first ≡ Some (register_in h) → held_register second ≡ Some (register_in g)
       → is_form h ≡ true → is_form g ≡ true → h ≡ part first 0 n → g ≡ part second 0 n → ((i : ℕ) → get_or first i 0 < 256) → ((i : ℕ) → get_or second i 0 < 256)
-      → Joins h g b r after → Answered (join_call first second b) b (refusals.number_of r) after
+      → Joins h g b r after → Answered (join_call first second b) b (number_of r) after
   unfolding join_call
   join_both h g n r after e f ih ig eh eg s1 s2 w =
       let fh = form_formed h (λ i. rw eh (part_bytes first s1 0 n i)) ih in

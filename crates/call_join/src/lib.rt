@@ -4,6 +4,8 @@
 ghost use Rattle.std.specs.Prelude.{◌≡◌};
 ghost use Rattle.language.specs.Answer.{Answered};
 ghost use Rattle.language.specs.Refusals.{number_of};
+ghost use Rattle.register_form.specs.Tables.{tables_of};
+ghost use Rattle.register_form_assembly.specs.Drafts.{tables_in};
 ghost use Rattle.call_answers.specs.Calls.{join_call};
 ghost use Rattle.call_join.specs.Stages.{Joins, Writes};
 
@@ -17,38 +19,12 @@ use register_join_draft::{DraftTables, Side, draft_join, kinds_clash};
 use register_join_merge::{Heap, merge};
 use text::part;
 
-// Writes the join of two forms, the m texts of both being items of the heap: refusal 7 or 8.
-fn write_join(
-    first: Side,
-    second: Side,
-    heap: &Heap,
-    m: u16,
-    held: &mut [u8],
-) -> Result<(), Refusal>
-    ensures { Writes first.entry.held.now second.entry.held.now heap.now.bytes.now heap.now.starts.now heap.now.lens.now m first.entry.items.now second.entry.items.now held.old result held.new }
+// Filled tables as a draft, of which the first m texts are those of both registers.
+fn draft_of<'a>(tables: &'a DraftTables, texts: Texts<'a>, m: u16) -> Draft<'a>
+    ensures { tables_in result ≡ tables_of texts.entry.bytes.now texts.entry.starts.now texts.entry.lens.now m tables.now.kinds.now tables.now.names.now tables.now.property_count tables.now.identifiers.now tables.now.firsts.now tables.now.page_count tables.now.uses.now tables.now.groups.now tables.now.codes.now tables.now.term_count }
 {
-    let mut kinds = [0u8; layout::DRAFT_PROPERTIES];
-    let mut names = [0u16; layout::DRAFT_PROPERTIES];
-    let mut identifiers = [0u16; layout::DRAFT_PAGES];
-    let mut firsts = [0u16; layout::DRAFT_PAGE_STARTS];
-    let mut uses = [0u16; layout::DRAFT_FORMS];
-    let mut groups = [0u8; layout::DRAFT_FORMS];
-    let mut codes = [0u64; layout::DRAFT_FORMS];
-    let mut tables = DraftTables {
-        kinds: &mut kinds,
-        names: &mut names,
-        property_count: 0,
-        identifiers: &mut identifiers,
-        firsts: &mut firsts,
-        page_count: 0,
-        uses: &mut uses,
-        groups: &mut groups,
-        codes: &mut codes,
-        term_count: 0,
-    };
-    draft_join(first, second, &mut tables);
-    let draft = Draft {
-        texts: heap.texts(),
+    Draft {
+        texts,
         text_count: m,
         kinds: tables.kinds,
         names: tables.names,
@@ -60,21 +36,43 @@ fn write_join(
         groups: tables.groups,
         codes: tables.codes,
         term_count: tables.term_count,
+    }
+}
+
+// Writes the join of two forms: refusal 7 or 8.
+fn write_join(
+    first: Side,
+    second: Side,
+    texts: Texts,
+    m: u16,
+    held: &mut [u8],
+) -> Result<(), Refusal>
+    ensures { Writes first.entry.held.now second.entry.held.now texts.entry.bytes.now texts.entry.starts.now texts.entry.lens.now m first.entry.items.now second.entry.items.now held.old result held.new }
+{
+    let mut tables = DraftTables {
+        kinds: &mut [0; layout::DRAFT_PROPERTIES],
+        names: &mut [0; layout::DRAFT_PROPERTIES],
+        property_count: 0,
+        identifiers: &mut [0; layout::DRAFT_PAGES],
+        firsts: &mut [0; layout::DRAFT_PAGE_STARTS],
+        page_count: 0,
+        uses: &mut [0; layout::DRAFT_FORMS],
+        groups: &mut [0; layout::DRAFT_FORMS],
+        codes: &mut [0; layout::DRAFT_FORMS],
+        term_count: 0,
     };
-    write_ordered(&draft, held)
+    draft_join(first, second, &mut tables);
+    write_ordered(&draft_of(&tables, texts, m), held)
 }
 
 // Joins two forms, or answers the lowest refusal in order of 32, 7, 8.
 fn join_forms<'a>(h: &'a [u8], g: &'a [u8], held: &mut [u8]) -> Result<(), Refusal>
     ensures { Joins h.now g.now held.old result held.new }
 {
-    let mut bytes = [0u8; layout::DRAFT_TEXT_BYTES];
-    let mut starts = [0u32; layout::DRAFT_TEXTS];
-    let mut lens = [0u16; layout::DRAFT_TEXTS];
     let mut heap = Heap {
-        bytes: &mut bytes,
-        starts: &mut starts,
-        lens: &mut lens,
+        bytes: &mut [0; layout::DRAFT_TEXT_BYTES],
+        starts: &mut [0; layout::DRAFT_TEXTS],
+        lens: &mut [0; layout::DRAFT_TEXTS],
     };
     let mut items1 = [0u16; layout::TEXT_ROOM];
     let mut items2 = [0u16; layout::TEXT_ROOM];
@@ -90,7 +88,7 @@ fn join_forms<'a>(h: &'a [u8], g: &'a [u8], held: &mut [u8]) -> Result<(), Refus
     if kinds_clash(first, second) {
         return Err(Refusal::KindsClash);
     }
-    write_join(first, second, &heap, m, held)
+    write_join(first, second, heap.texts(), m, held)
 }
 
 // The join call: writes the join of two held registers, or answers what refuses it.
