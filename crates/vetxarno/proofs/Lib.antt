@@ -1,1 +1,1 @@
-pub mod Returned
+pub mod Numbers

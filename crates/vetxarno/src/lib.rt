@@ -2,9 +2,14 @@
 #![tactic(auto)]
 
 ghost use Rattle.std.specs.Prelude.{◌≡◌, ℕ, ◌≤◌, pos, neg_ℤ};
+ghost use Rattle.language.specs.Refusals.{refusal_number, number_of};
 ghost use Rattle.call_answers.specs.Calls.{RegisterCall, JoinCall, QueryCall, ReadCall, FitCall, AskCall};
 
-use call_ask::{Asked, ask};
+use call_ask::ask;
+use call_join::join;
+use call_query::{fit, query, read};
+use call_register::register;
+use language::Refusal;
 
 // How many pages are marked, at most 256.
 fn count_of(n: usize) -> i32
@@ -13,61 +18,64 @@ fn count_of(n: usize) -> i32
     (n % 257) as i32
 }
 
-// A number that refuses, at most 256, made negative; 0 stays.
-fn negative(n: usize) -> i32
-    ensures { n ≤ 256 → result ≡ neg_ℤ (pos n) }
+// The number of a refusal, made negative.
+fn negative(refusal: Refusal) -> i32
+    ensures { result ≡ neg_ℤ (pos (refusal_number refusal)) }
 {
-    let m = (n % 257) as i32;
-    0 - m
+    -i32::from(refusal)
+}
+
+// What a call returns: 0, or the number of its refusal made negative.
+fn returned(answer: Result<(), Refusal>) -> i32
+    ensures { result ≡ neg_ℤ (pos (number_of answer)) }
+{
+    match answer {
+        Ok(()) => 0,
+        Err(refusal) => negative(refusal),
+    }
 }
 
 // The register call.
 pub fn vetxarno_register(text: &[u8], held: &mut [u8]) -> i32
     ensures { RegisterCall text.now held.old held.new result }
 {
-    let number = call_register::register(text, held);
-    negative(number)
+    returned(register(text, held))
 }
 
 // The join call.
 pub fn vetxarno_join<'a>(first: &'a [u8], second: &'a [u8], held: &mut [u8]) -> i32
     ensures { JoinCall first.now second.now held.old held.new result }
 {
-    let refused = call_join::join(first, second, held);
-    negative(refused)
+    returned(join(first, second, held))
 }
 
 // The query call.
 pub fn vetxarno_query(register: &[u8], text: &[u8], held: &mut [u8]) -> i32
     ensures { QueryCall register.now text.now held.old held.new result }
 {
-    let refusal = call_query::query(register, text, held);
-    negative(refusal)
+    returned(query(register, text, held))
 }
 
 // The read call.
 pub fn vetxarno_read(text: &[u8], tree: &mut [u8]) -> i32
     ensures { ReadCall text.now tree.old tree.new result }
 {
-    let unread = call_query::read(text, tree);
-    negative(unread)
+    returned(read(text, tree))
 }
 
 // The fit call.
 pub fn vetxarno_fit(tree: &[u8], register: &[u8], held: &mut [u8]) -> i32
     ensures { FitCall tree.now register.now held.old held.new result }
 {
-    let unfit = call_query::fit(tree, register, held);
-    negative(unfit)
+    returned(fit(tree, register, held))
 }
 
 // The ask call.
 pub fn vetxarno_ask(query: &[u8], register: &[u8], marks: &mut [u8]) -> i32
     ensures { AskCall query.now register.now marks.old marks.new result }
 {
-    let asked = ask(query, register, marks);
-    match asked {
-        Asked::Refused(n) => negative(n),
-        Asked::Marked(n) => count_of(n),
+    match ask(query, register, marks) {
+        Ok(n) => count_of(n),
+        Err(refusal) => negative(refusal),
     }
 }

@@ -2,7 +2,7 @@ use Prim.Native.Nat.{◌%◌}
 use mathlib.Core.Path.{◌≡◌, ap, ◌∙◌}
 use native.Mathlib.Omega.{arith}
 use lib.IntN.{pos}
-use Rattle.vetxarno.proofs.Returned.{small_is}
+use Rattle.vetxarno.proofs.Numbers.{small_is}
 use Rattle.vetxarno.proofs.count_of.Goals as goal
 
 pub returns : goal.returns

@@ -1,6 +1,5 @@
-use Rattle.vetxarno.proofs.Returned.{fit_returns}
-use borrow.Author.Rules.{rules}
+use Rattle.vetxarno.proofs.Numbers.{call_returns}
 use Rattle.vetxarno.proofs.vetxarno_fit.Goals as goal
 
 pub returns : goal.returns
-returns c = search (fit_returns, rules)
+returns c = record { number = call_returns _ _ _ _ c.fit.ensures _ c.returned.ensures; buffer = c.fit.ensures.bytes }

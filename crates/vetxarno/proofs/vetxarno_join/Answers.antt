@@ -1,5 +1,5 @@
-use Rattle.vetxarno.proofs.Returned.{join_returns}
+use Rattle.vetxarno.proofs.Numbers.{call_returns}
 use Rattle.vetxarno.proofs.vetxarno_join.Goals as goal
 
 pub returns : goal.returns
-returns c = join_returns _ _ _ _ _ c.join-refused.ensures c.negative.result c.negative.ensures
+returns c = record { number = call_returns _ _ _ _ c.join.ensures _ c.returned.ensures; buffer = c.join.ensures.bytes }

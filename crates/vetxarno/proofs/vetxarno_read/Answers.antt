@@ -1,6 +1,5 @@
-use Rattle.vetxarno.proofs.Returned.{read_returns}
-use borrow.Author.Rules.{rules}
+use Rattle.vetxarno.proofs.Numbers.{call_returns}
 use Rattle.vetxarno.proofs.vetxarno_read.Goals as goal
 
 pub returns : goal.returns
-returns c = search (read_returns, rules)
+returns c = record { number = call_returns _ _ _ _ c.read.ensures _ c.returned.ensures; buffer = c.read.ensures.bytes }

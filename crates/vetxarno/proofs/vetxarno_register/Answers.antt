@@ -1,5 +1,5 @@
-use Rattle.vetxarno.proofs.Returned.{register_returns}
+use Rattle.vetxarno.proofs.Numbers.{call_returns}
 use Rattle.vetxarno.proofs.vetxarno_register.Goals as goal
 
 pub returns : goal.returns
-returns c = register_returns _ _ _ _ c.register-number.ensures c.negative.result c.negative.ensures
+returns c = record { number = call_returns _ _ _ _ c.register.ensures _ c.returned.ensures; buffer = c.register.ensures.bytes }
