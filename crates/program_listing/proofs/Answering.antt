@@ -1,5 +1,5 @@
 -- The ways through the answer.
-use Rattle.std.specs.Prelude.{Some}
+use Rattle.std.specs.Prelude.{Some, Result, Ok, Err}
 use Prim.Native.Nat.{ℕ, zero, suc, ◌≤◌, ◌<◌}
 use mathlib.Core.Path.{◌≡◌, refl, sym, ap, ◌∙◌, subst}
 use mathlib.Core.Bool.{Bool, true, false, cond}
@@ -25,11 +25,13 @@ use Rattle.register_form.proofs.Rules.{within}
 use Rattle.query_core.specs.Held.{query_size, held_query}
 use Rattle.query_core.specs.Form.{query_of}
 use Rattle.call_ask.specs.Call.{Asks}
-use Rattle.call_ask.specs.declared.Asked.{Asked}
+use Rattle.language.specs.Refusals as Refusals
+use Rattle.language.specs.Refusals.{refusal_number}
+use Rattle.language.specs.declared.refusals.Refusal.{Refusal}
 use Rattle.call_answers.specs.Calls.{register_call, written_in, query_call, ask_call, marked, marks_in, RegisterCall, QueryCall}
 use Rattle.call_answers.proofs.First.{run_is, register_stores, query_stores}
 use Rattle.call_answers.proofs.Demands.{asked_is}
-use Rattle.vetxarno.proofs.Returned.{register_few, register_call_lem, query_few, query_call_lem, refused_by, marked_by, refusal_few, marks_few}
+use Rattle.vetxarno.proofs.Numbers.{refusal_between, refusal_few, answered_number, refused_by, marked_by, marks_few}
 use Rattle.program_listing.specs.Listing.{decimal, lines_to, listing, outcome, asklist, Lists}
 use Rattle.program_listing.specs.Appends.{Appends}
 use Rattle.program_listing.specs.Answering.{of_core, of_text, is_marked, AppendsList, AppendsRefusal, AnswersCore, AnswersText}
@@ -56,7 +58,7 @@ mark_byte (false ∷ m) x zero l = refl
 mark_byte (b ∷ m) x (suc i) l = mark_byte m x i (omega (arith, l))
 
 -- answer_core
-module _ (q h b marks : Bytes) (a : Asked) (room : 256 ≤ length b) (k : Asks q h b marks a) (out after : Bytes) (r : ℕ) where
+module _ (q h b marks : Bytes) (a : Result ℕ Refusal) (room : 256 ≤ length b) (k : Asks q h b marks a) (out after : Bytes) (r : ℕ) where
   runs : (c : Core) (R : Register) → held_query q ≡ Some c → held_register h ≡ Some R → ask_call q h b ≡ run c R
   runs c R e p =
       let few = (within R (register_rules R (held_is h R p).0).limits).pages in
@@ -71,14 +73,14 @@ module _ (q h b marks : Bytes) (a : Asked) (room : 256 ≤ length b) (k : Asks q
       lines_same (length R.pages) (is_marked marks) (λ i. get_or m i false) (page_in R)
       (λ i l. ap (λ x. is_marked x i) held ∙ mark_byte m (drop (length m) b) i (omega (arith, l, long)))
 
-  pub core_refused : (n : ℕ) → a ≡ Asked.Refused n → AppendsRefusal n out after r → AnswersCore q h out after r
+  pub core_refused : (f : Refusal) → a ≡ Err f → AppendsRefusal (refusal_number f) out after r → AnswersCore q h out after r
   unfolding AnswersCore of_core AppendsRefusal
-  core_refused n g w c R e p =
-      let few = refusal_few q h b marks a k n g in
-      let is : run c R ≡ refused n = sym (runs c R e p) ∙ refused_by q h b marks a k n g in
+  core_refused f g w c R e p =
+      let few = refusal_few f in
+      let is : run c R ≡ refused (refusal_number f) = sym (runs c R e p) ∙ refused_by q h b marks a k f g in
       subst (λ x. Appends out 0 (outcome (and_then x (λ m. accepted (listing R m)))) after r) (sym is) (w (omega (arith, few)))
 
-  pub core_marked : (n : ℕ) → a ≡ Asked.Marked n → AppendsList h n marks out after r → AnswersCore q h out after r
+  pub core_marked : (n : ℕ) → a ≡ Ok n → AppendsList h n marks out after r → AnswersCore q h out after r
   unfolding AnswersCore of_core AppendsList listing
   core_marked n g w c R e p =
       let few = marks_few q h b marks a k n g in
@@ -88,15 +90,17 @@ module _ (q h b marks : Bytes) (a : Asked) (room : 256 ≤ length b) (k : Asks q
       (subst (λ l. Appends out 0 (bytes "pages " ++ decimal (marked m) ++ (10 ∷ []) ++ l) after r) (marked_lines c R m is x)
       (subst (λ j. Appends out 0 (bytes "pages " ++ decimal j ++ (10 ∷ []) ++ lines_to (length R.pages) (is_marked marks) (page_in R)) after r) count (w R p (omega (arith, few)))))
 
--- a call that refused, known by its number
-refused_first : {A : Type 0} (a : Answer A) (n : ℕ) (f : A → Answer Bytes) (out after : Bytes) (r : ℕ) → n ≡ number_of a → n ≤ 256
-    → (n ≡ 0 → ⊥) → AppendsRefusal n out after r → Appends out 0 (outcome (and_then a f)) after r
+-- a call that refused
+refused_first : {A : Type 0} (a : Answer A) (f : Refusal) (g : A → Answer Bytes) (out after : Bytes) (r : ℕ) → refusal_number f ≡ number_of a → AppendsRefusal (refusal_number f) out after r → Appends out 0 (outcome (and_then a g)) after r
 unfolding AppendsRefusal
-refused_first (refused m) n f out after r e few h w = subst (λ j. Appends out 0 (outcome (refused j)) after r) e (w (omega (arith, few)))
-refused_first (accepted x) n f out after r e few h w = absurd (h e)
+refused_first (refused m) f g out after r e w = subst (λ j. Appends out 0 (outcome (refused j)) after r) e (w (omega (arith, refusal_few f)))
+refused_first (accepted x) f g out after r e w = absurd (omega (arith, e, refusal_between f))
 
 -- answer_text
-module _ (h s b q : Bytes) (n : ℕ) (room : 29794 ≤ length b) (k : Answered (query_call h s b) b n q) (out after : Bytes) (r : ℕ) where
+module _ {A : Type 0} (h s b q : Bytes) (a : Result A Refusal) (room : 29794 ≤ length b) (k : Answered (query_call h s b) b (Refusals.number_of a) q) (out after : Bytes) (r : ℕ) where
+  abbrev n : ℕ
+  n = Refusals.number_of a
+
   text_number_lem : (R : Register) → held_register h ≡ Some R → n ≡ number_of (core_of R s)
   unfolding query_call written_in
   text_number_lem R p =
@@ -110,23 +114,25 @@ module _ (h s b q : Bytes) (n : ℕ) (room : 29794 ≤ length b) (k : Answered (
       same (refused m) = refl
       same (accepted c) = refl
 
-  pub text_refused : (n ≡ 0 → ⊥) → AppendsRefusal n out after r → AnswersText h s out after r
+  pub text_refused : (f : Refusal) → a ≡ Err f → AppendsRefusal (refusal_number f) out after r → AnswersText h s out after r
   unfolding AnswersText of_text
-  text_refused f w R p =
-      refused_first (core_of R s) n (λ c. and_then (run c R) (λ m. accepted (listing R m))) out after r (text_number_lem R p) (query_few h s b q n k) f w
+  text_refused f e w R p = refused_first (core_of R s) f (λ c. and_then (run c R) (λ m. accepted (listing R m))) out after r (sym (ap Refusals.number_of e) ∙ text_number_lem R p) w
 
-  pub text_core : n ≡ 0 → AnswersCore q h out after r → AnswersText h s out after r
+  pub text_core : (x : A) → a ≡ Ok x → AnswersCore q h out after r → AnswersText h s out after r
   unfolding AnswersText AnswersCore of_text of_core
-  text_core z w R p =
-      let call : QueryCall h s b q (pos 0) = subst (λ j. QueryCall h s b q (neg_ℤ (pos j))) z (query_call_lem h s b q n k) in
+  text_core x z w R p =
+      let call : QueryCall h s b q (pos 0) = record { number = ap (λ (a : Result A Refusal). neg_ℤ (pos (Refusals.number_of a))) (sym z) ∙ answered_number (query_call h s b) b q n k; buffer = k.bytes } in
       let c = query_stores h s b q call in
       let own : c.register ≡ R = let x = c.holds in cc in
       let e : core_of R s ≡ accepted c.core = rw (← own) c.fits in
       subst (λ a. Appends out 0 (outcome (and_then a (λ c. and_then (run c R) (λ m. accepted (listing R m))))) after r) (sym e) (w c.core R c.left.held p)
 
 -- answer
-module _ (t s h held : Bytes) (n : ℕ) (room : 63628 ≤ length h) (k : Answered (register_call t h) h n held) (out after : Bytes) (r : ℕ) where
-  register_number : n ≡ number_of (read_register t)
+module _ {A : Type 0} (t s h held : Bytes) (a : Result A Refusal) (room : 63628 ≤ length h) (k : Answered (register_call t h) h (Refusals.number_of a) held) (out after : Bytes) (r : ℕ) where
+  abbrev number : ℕ
+  number = Refusals.number_of a
+
+  register_number : number ≡ number_of (read_register t)
   unfolding register_call stored placed
   register_number =
       k.number ∙ ap number_of (roomy (length h) register_size 8 (read_register t) (λ R. form_of R ++ drop register_size h) room) ∙ same (read_register t)
@@ -135,15 +141,15 @@ module _ (t s h held : Bytes) (n : ℕ) (room : 63628 ≤ length h) (k : Answere
       same (refused m) = refl
       same (accepted R) = refl
 
-  pub answer_refused : (n ≡ 0 → ⊥) → AppendsRefusal n out after r → Lists t s out after r
+  pub answer_refused : (f : Refusal) → a ≡ Err f → AppendsRefusal (refusal_number f) out after r → Lists t s out after r
   unfolding asklist
-  answer_refused f w =
-      lists t s out after r (refused_first (read_register t) n (λ R. and_then (core_of R s) (λ c. and_then (run c R) (λ m. accepted (listing R m)))) out after r register_number (register_few t h held n k) f w)
+  answer_refused f e w =
+      lists t s out after r (refused_first (read_register t) f (λ R. and_then (core_of R s) (λ c. and_then (run c R) (λ m. accepted (listing R m)))) out after r (sym (ap Refusals.number_of e) ∙ register_number) w)
 
-  pub answer_held : n ≡ 0 → AnswersText held s out after r → Lists t s out after r
+  pub answer_held : (x : A) → a ≡ Ok x → AnswersText held s out after r → Lists t s out after r
   unfolding asklist AnswersText of_text
-  answer_held z w =
-      let call : RegisterCall t h held (pos 0) = subst (λ j. RegisterCall t h held (neg_ℤ (pos j))) z (register_call_lem t h held n k) in
+  answer_held x z w =
+      let call : RegisterCall t h held (pos 0) = record { number = ap (λ (a : Result A Refusal). neg_ℤ (pos (Refusals.number_of a))) (sym z) ∙ answered_number (register_call t h) h held number k; buffer = k.bytes } in
       let l = register_stores t h held call in
       lists t s out after r
       (subst (λ a. Appends out 0 (outcome (and_then a (λ R. and_then (core_of R s) (λ c. and_then (run c R) (λ m. accepted (listing R m)))))) after r) (sym l.reads)

@@ -2,28 +2,36 @@
 #![tactic(auto)]
 
 ghost use Rattle.std.specs.Prelude.{ℕ};
+ghost use Rattle.language.specs.Refusals.{refusal_number};
 ghost use Rattle.program_listing.specs.Listing.{Lists};
-ghost use Rattle.program_listing.specs.Answering.{AnswersCore, AnswersText};
+ghost use Rattle.program_listing.specs.Answering.{AppendsRefusal, AnswersCore, AnswersText};
 
 pub mod pagelist; // pagelist.rt: the list of the marked pages, and a refusal
 pub mod parts; // parts.rt: numbers and lines, one part after the other
 
-use call_ask::{Asked, ask};
+use call_ask::ask;
 use call_query::query;
 use call_register::register;
+use language::Refusal;
 use pagelist::{put_list, put_refusal};
 use query_core::QUERY_BYTES;
 use register_form::REGISTER_BYTES;
+
+// Writes a refusal.
+fn put_number(out: &mut [u8], refusal: Refusal) -> usize
+    ensures { AppendsRefusal (refusal_number refusal) out.old out.new result }
+{
+    put_refusal(out, usize::from(refusal.number()))
+}
 
 // Writes the answer to a held query on a held register.
 fn answer_core(core: &[u8], held: &[u8], out: &mut [u8]) -> usize
     ensures { AnswersCore core.now held.now out.old out.new result }
 {
     let mut marks = [0u8; 256];
-    let asked = ask(core, held, &mut marks);
-    match asked {
-        Asked::Refused(n) => put_refusal(out, n),
-        Asked::Marked(n) => put_list(out, held, n, &marks),
+    match ask(core, held, &mut marks) {
+        Ok(n) => put_list(out, held, n, &marks),
+        Err(refusal) => put_number(out, refusal),
     }
 }
 
@@ -32,11 +40,10 @@ fn answer_text(held: &[u8], question: &[u8], out: &mut [u8]) -> usize
     ensures { AnswersText held.now question.now out.old out.new result }
 {
     let mut core = [0u8; QUERY_BYTES];
-    let number = query(held, question, &mut core);
-    if number != 0 {
-        return put_refusal(out, number);
+    match query(held, question, &mut core) {
+        Ok(()) => answer_core(&core, held, out),
+        Err(refusal) => put_number(out, refusal),
     }
-    answer_core(&core, held, out)
 }
 
 // How many bytes are enough for any answer: 256 lines of 134 bytes behind a first one of 10.
@@ -47,9 +54,8 @@ pub fn answer(text: &[u8], question: &[u8], out: &mut [u8]) -> usize
     ensures { Lists text.now question.now out.old out.new result }
 {
     let mut held = [0u8; REGISTER_BYTES];
-    let number = register(text, &mut held);
-    if number != 0 {
-        return put_refusal(out, number);
+    match register(text, &mut held) {
+        Ok(()) => answer_text(&held, question, out),
+        Err(refusal) => put_number(out, refusal),
     }
-    answer_text(&held, question, out)
 }

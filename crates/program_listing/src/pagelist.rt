@@ -25,11 +25,9 @@ fn put_lines(out: &mut [u8], at: usize, h: &[u8], marks: &[u8], n: u16) -> usize
     ensures { AppendsLines h.now marks.now n out.old at out.new result }
 {
     let mut to = at;
-    let mut i: u16 = 0;
-    while i < n {
+    for i in 0..n {
         let mark = get_or(marks, usize::from(i), 0);
         to = put_page(out, to, h, i, mark);
-        i += 1;
     }
     to
 }
@@ -42,7 +40,7 @@ pub fn put_list(out: &mut [u8], held: &[u8], count: usize, marks: &[u8]) -> usiz
     let n = page_count(h);
     let a = put(out, 0, b"pages ");
     let b = put_decimal(out, a, count);
-    let c = put_byte(out, b, 10);
+    let c = put_byte(out, b, b'\n');
     put_lines(out, c, h, marks, n)
 }
 
@@ -52,5 +50,5 @@ pub fn put_refusal(out: &mut [u8], n: usize) -> usize
 {
     let a = put(out, 0, b"refused ");
     let b = put_decimal(out, a, n);
-    put_byte(out, b, 10)
+    put_byte(out, b, b'\n')
 }

@@ -19,10 +19,8 @@ pub fn put(out: &mut [u8], at: usize, part: &[u8]) -> usize
     ensures { Appends out.old at part.now out.new result }
 {
     let mut to = at;
-    let mut i: usize = 0;
-    while i < part.len() {
-        to = put_byte(out, to, part[i]);
-        i += 1;
+    for &b in part {
+        to = put_byte(out, to, b);
     }
     to
 }
@@ -31,7 +29,7 @@ pub fn put(out: &mut [u8], at: usize, part: &[u8]) -> usize
 fn digit(n: usize) -> u8
     ensures { n < 10 → result ≡ 48 + n }
 {
-    (48 + n % 10) as u8
+    b'0' + (n % 10) as u8
 }
 
 // Writes a number below 1,000 in decimal.
@@ -55,9 +53,9 @@ pub fn put_line(out: &mut [u8], at: usize, i: usize, namespace: &[u8], article: 
     ensures { i < 1000 → Appends out.old at (name_line i namespace.now article.now) out.new result }
 {
     let a = put_decimal(out, at, i);
-    let b = put_byte(out, a, 32);
+    let b = put_byte(out, a, b' ');
     let c = put(out, b, namespace);
-    let d = put_byte(out, c, 58);
+    let d = put_byte(out, c, b':');
     let e = put(out, d, article);
-    put_byte(out, e, 10)
+    put_byte(out, e, b'\n')
 }

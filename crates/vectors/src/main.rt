@@ -6,13 +6,12 @@
 //   H, K  every byte of the held register, or of the held query, becomes that number
 #![tactic(auto)]
 
-ghost use Rattle.std.specs.Prelude.{ℕ, ◌≤◌};
-
 mod steps; // steps.rt: the script, taken apart
 
-use call_ask::{Asked, ask};
+use call_ask::ask;
 use call_query::query;
 use call_register::register;
+use language::Refusal;
 use program_files::{fail, read_file};
 use query_core::QUERY_BYTES;
 use register_form::{REGISTER_BYTES, page_count};
@@ -26,13 +25,6 @@ fn write_line(rt: &impl Print, word: &str, n: usize) -> io::Result<()> {
     println!(rt; "{word} {n}")
 }
 
-// Makes every byte of a buffer one number.
-fn fill(held: &mut [u8], b: u8) {
-    for x in held.iter_mut() {
-        *x = b;
-    }
-}
-
 // Writes how many pages are marked, and the places of those that are.
 fn write_places(rt: &impl Print, count: usize, marks: &[u8]) -> io::Result<()> {
     print!(rt; "pages {count}")?;
@@ -44,10 +36,12 @@ fn write_places(rt: &impl Print, count: usize, marks: &[u8]) -> io::Result<()> {
     println!(rt; "")
 }
 
-fn least(a: usize, b: usize) -> usize
-    ensures { result ≤ b }
-{
-    if a < b { a } else { b }
+// The number of what a call refuses, 0 where it refuses nothing.
+fn number_of(answer: Result<(), Refusal>) -> usize {
+    match answer {
+        Ok(()) => 0,
+        Err(refusal) => usize::from(refusal.number()),
+    }
 }
 
 // The ask call, with a buffer of so many bytes.
@@ -58,33 +52,30 @@ fn ask_step(
     room: usize,
 ) -> io::Result<()> {
     let mut marks = [0u8; 256];
-    let size = least(room, 256);
-    let lent = &mut marks[..size];
-    let asked = ask(held_query, held_register, lent);
-    match asked {
-        Asked::Refused(n) => write_line(rt, "refused", n),
-        Asked::Marked(n) => write_places(rt, n, lent),
+    let lent = &mut marks[..room.min(256)];
+    match ask(held_query, held_register, lent) {
+        Ok(n) => write_places(rt, n, lent),
+        Err(refusal) => write_line(rt, "refused", usize::from(refusal.number())),
     }
 }
 
 // The register call, and the number of pages of what it accepts.
 fn register_step(rt: &impl Print, words: &[u8], held: &mut [u8]) -> io::Result<()> {
-    let number = register(words, held);
-    if number != 0 {
-        return write_line(rt, "register", number);
+    match register(words, held) {
+        Ok(()) => write_line(rt, "register 0 pages", usize::from(page_count(held))),
+        Err(refusal) => write_line(rt, "register", usize::from(refusal.number())),
     }
-    write_line(rt, "register 0 pages", usize::from(page_count(held)))
 }
 
 // The register call and the query call, with buffers one byte short.
 fn register_short(words: &[u8]) -> usize {
     let mut held = [0u8; REGISTER_BYTES - 1];
-    register(words, &mut held)
+    number_of(register(words, &mut held))
 }
 
 fn query_short(held: &[u8], words: &[u8]) -> usize {
     let mut asked = [0u8; QUERY_BYTES - 1];
-    query(held, words, &mut asked)
+    number_of(query(held, words, &mut asked))
 }
 
 // One step.
@@ -99,11 +90,11 @@ fn perform(
     match letter {
         b'R' => register_step(rt, words, held)?,
         b'r' => write_line(rt, "register", register_short(words))?,
-        b'Q' => write_line(rt, "query", query(held, words, asked))?,
+        b'Q' => write_line(rt, "query", number_of(query(held, words, asked)))?,
         b'q' => write_line(rt, "query", query_short(held, words))?,
         b'A' => ask_step(rt, asked, held, number)?,
-        b'H' => fill(held, (number % 256) as u8),
-        b'K' => fill(asked, (number % 256) as u8),
+        b'H' => held.fill((number % 256) as u8),
+        b'K' => asked.fill((number % 256) as u8),
         _ => write_line(rt, "no step", number)?,
     }
     Ok(())

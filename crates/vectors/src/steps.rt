@@ -20,43 +20,26 @@ pub struct Number {
     pub end: usize,
 }
 
-fn wide(b: u8) -> usize
-    ensures { result ≤ 255 }
-{
-    b as usize
-}
-
 pub fn number_at(s: &[u8], at: usize) -> Number
     ensures { (result.value ≤ 1000254) × (at ≤ result.end) }
 {
     let mut value: usize = 0;
-    let mut i = at;
-    while i < s.len() {
-        let b = get_or(s, i, 0);
-        if b < 48 {
+    for i in at..s.len() {
+        let b = s[i];
+        if (b < b'0') | (b'9' < b) | (99999 < value) {
             return Number { value, end: i };
         }
-        if 57 < b {
-            return Number { value, end: i };
-        }
-        if 99999 < value {
-            return Number { value, end: i };
-        }
-        value = 10 * value + wide(b - 48);
-        i += 1;
+        value = 10 * value + usize::from(b - b'0');
     }
-    Number { value, end: i }
+    Number {
+        value,
+        end: at.max(s.len()),
+    }
 }
 
 // The letters whose steps have a text.
 fn has_text(letter: u8) -> bool {
-    match letter {
-        b'R' => true,
-        b'r' => true,
-        b'Q' => true,
-        b'q' => true,
-        _ => false,
-    }
+    matches!(letter, b'R' | b'r' | b'Q' | b'q')
 }
 
 // The step at a place.

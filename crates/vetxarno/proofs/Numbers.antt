@@ -52,33 +52,36 @@ module _ (n : ℕ) (h : n ≤ 256) where
   pub count_passed : (z : ℤ) → z ≡ pos n → to_z w32 (of_z w32 z) ≡ pos n
   count_passed z e = rw e (to_z-of_z w32 (pos n) (record { sfits = let y : n < 2147483648 = omega (arith, h) in y }))
 
--- Every refusal's number is small.
+-- Every refusal's number is small, and none is 0.
+pub refusal_between : (r : Refusal) → (1 ≤ refusal_number r) × (refusal_number r ≤ 256)
+refusal_between Refusal.TextTooLong = (omega arith, omega arith)
+refusal_between Refusal.TextUnread = (omega arith, omega arith)
+refusal_between Refusal.RuleBroken = (omega arith, omega arith)
+refusal_between Refusal.DeclaredTwice = (omega arith, omega arith)
+refusal_between Refusal.UndeclaredValue = (omega arith, omega arith)
+refusal_between Refusal.UnfitValue = (omega arith, omega arith)
+refusal_between Refusal.OverLimit = (omega arith, omega arith)
+refusal_between Refusal.RegisterTooShort = (omega arith, omega arith)
+refusal_between Refusal.NoRegister = (omega arith, omega arith)
+refusal_between Refusal.QueryTooLong = (omega arith, omega arith)
+refusal_between Refusal.QueryUnread = (omega arith, omega arith)
+refusal_between Refusal.TooDeep = (omega arith, omega arith)
+refusal_between Refusal.BadName = (omega arith, omega arith)
+refusal_between Refusal.BadPiece = (omega arith, omega arith)
+refusal_between Refusal.Undeclared = (omega arith, omega arith)
+refusal_between Refusal.UnfitPiece = (omega arith, omega arith)
+refusal_between Refusal.TooManyNodes = (omega arith, omega arith)
+refusal_between Refusal.QueryTooShort = (omega arith, omega arith)
+refusal_between Refusal.NoQuery = (omega arith, omega arith)
+refusal_between Refusal.NoAskedRegister = (omega arith, omega arith)
+refusal_between Refusal.Mismatch = (omega arith, omega arith)
+refusal_between Refusal.MarksTooShort = (omega arith, omega arith)
+refusal_between Refusal.KindsClash = (omega arith, omega arith)
+refusal_between Refusal.TreeTooShort = (omega arith, omega arith)
+refusal_between Refusal.NoTree = (omega arith, omega arith)
+
 pub refusal_few : (r : Refusal) → refusal_number r ≤ 256
-refusal_few Refusal.TextTooLong = omega arith
-refusal_few Refusal.TextUnread = omega arith
-refusal_few Refusal.RuleBroken = omega arith
-refusal_few Refusal.DeclaredTwice = omega arith
-refusal_few Refusal.UndeclaredValue = omega arith
-refusal_few Refusal.UnfitValue = omega arith
-refusal_few Refusal.OverLimit = omega arith
-refusal_few Refusal.RegisterTooShort = omega arith
-refusal_few Refusal.NoRegister = omega arith
-refusal_few Refusal.QueryTooLong = omega arith
-refusal_few Refusal.QueryUnread = omega arith
-refusal_few Refusal.TooDeep = omega arith
-refusal_few Refusal.BadName = omega arith
-refusal_few Refusal.BadPiece = omega arith
-refusal_few Refusal.Undeclared = omega arith
-refusal_few Refusal.UnfitPiece = omega arith
-refusal_few Refusal.TooManyNodes = omega arith
-refusal_few Refusal.QueryTooShort = omega arith
-refusal_few Refusal.NoQuery = omega arith
-refusal_few Refusal.NoAskedRegister = omega arith
-refusal_few Refusal.Mismatch = omega arith
-refusal_few Refusal.MarksTooShort = omega arith
-refusal_few Refusal.KindsClash = omega arith
-refusal_few Refusal.TreeTooShort = omega arith
-refusal_few Refusal.NoTree = omega arith
+refusal_few r = (refusal_between r).1
 
 number_few : {A : Type 0} (a : Result A Refusal) → number_of a ≤ 256
 number_few (Ok a) = omega arith
@@ -88,9 +91,12 @@ returned_number : {A : Type 0} (a : Answer A) → neg_ℤ (pos (Answers.number_o
 returned_number (refused n) = refl
 returned_number (accepted a) = refl
 
+pub answered_number : {B : Type 0} (c : Answer B) (b after : B) (n : ℕ) → Answered c b n after → neg_ℤ (pos n) ≡ returned (λ x. 0) c
+answered_number c b after n r = ap (λ m. neg_ℤ (pos m)) r.number ∙ returned_number c
+
 -- What a call returns that answers nothing but its refusal.
 pub call_returns : {A B : Type 0} (c : Answer B) (b after : B) (a : Result A Refusal) → Answered c b (number_of a) after → (z : ℤ) → z ≡ neg_ℤ (pos (number_of a)) → to_z w32 (of_z w32 z) ≡ returned (λ x. 0) c
-call_returns c b after a r z e = negative_passed (number_of a) (number_few a) z e ∙ ap (λ m. neg_ℤ (pos m)) r.number ∙ returned_number c
+call_returns c b after a r z e = negative_passed (number_of a) (number_few a) z e ∙ answered_number c b after (number_of a) r
 
 -- no more pages are marked than there are
 marked_few : (l : List Bool) → marked l ≤ length l
@@ -114,15 +120,15 @@ number_in (refused n) = n
 number_in (accepted n) = n
 
 module _ (q h b after : Bytes) (a : Result ℕ Refusal) (r : Asks q h b after a) where
-  pub refusal_returns : (f : Refusal) → a ≡ Err f → (z : ℤ) → z ≡ neg_ℤ (pos (refusal_number f)) → AskCall q h b after (to_z w32 (of_z w32 z))
+  pub refused_by : (f : Refusal) → a ≡ Err f → ask_call q h b ≡ refused (refusal_number f)
   unfolding number_in
-  refusal_returns f e z p = record { number = negative_passed (refusal_number f) (refusal_few f) z p ∙ go (ask_call q h b) (sym (ap answer_of e) ∙ r.answer); buffer = r.buffer }
+  refused_by f e = go (ask_call q h b) refl (sym (ap answer_of e) ∙ r.answer)
     where
-      go : (x : Answer (List Bool)) → refused (refusal_number f) ≡ asked x → neg_ℤ (pos (refusal_number f)) ≡ returned marked x
-      go (refused m) k = ap (λ (y : Answer ℕ). neg_ℤ (pos (number_in y))) k
-      go (accepted l) k = cc
+      go : (x : Answer (List Bool)) → ask_call q h b ≡ x → refused (refusal_number f) ≡ asked x → ask_call q h b ≡ refused (refusal_number f)
+      go (refused m) w p = w ∙ ap refused (sym (ap number_in p))
+      go (accepted l) w p = cc
 
-  marked_by : (k : ℕ) → a ≡ Ok k → (m : List Bool) × (ask_call q h b ≡ accepted m) × (k ≡ marked m)
+  pub marked_by : (k : ℕ) → a ≡ Ok k → (m : List Bool) × (ask_call q h b ≡ accepted m) × (k ≡ marked m)
   unfolding number_in
   marked_by k e = go (ask_call q h b) refl (sym (ap answer_of e) ∙ r.answer)
     where
@@ -130,8 +136,13 @@ module _ (q h b after : Bytes) (a : Result ℕ Refusal) (r : Asks q h b after a)
       go (refused m) w p = cc
       go (accepted l) w p = (l, w, ap number_in p)
 
+  pub marks_few : (n : ℕ) → a ≡ Ok n → n ≤ 256
+  marks_few n e = let k = marked_by n e in rw k.2 (asked_few q h b k.0 k.1)
+
+  pub refusal_returns : (f : Refusal) → a ≡ Err f → (z : ℤ) → z ≡ neg_ℤ (pos (refusal_number f)) → AskCall q h b after (to_z w32 (of_z w32 z))
+  refusal_returns f e z p = record { number = negative_passed (refusal_number f) (refusal_few f) z p ∙ ap (returned marked) (sym (refused_by f e)); buffer = r.buffer }
+
   pub marks_return : (n : ℕ) → a ≡ Ok n → (z : ℤ) → (n ≤ 256 → z ≡ pos n) → AskCall q h b after (to_z w32 (of_z w32 z))
   marks_return n e z p =
       let k = marked_by n e in
-      let few : n ≤ 256 = rw k.2 (asked_few q h b k.0 k.1) in
-      record { number = count_passed n few z (p few) ∙ ap pos k.2 ∙ ap (returned marked) (sym k.1); buffer = r.buffer }
+      record { number = count_passed n (marks_few n e) z (p (marks_few n e)) ∙ ap pos k.2 ∙ ap (returned marked) (sym k.1); buffer = r.buffer }

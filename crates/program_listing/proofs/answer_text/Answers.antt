@@ -1,8 +1,8 @@
 use Rattle.program_listing.proofs.Answering.{zeros_room, text_refused, text_core}
 use Rattle.program_listing.proofs.answer_text.Goals as goal
 
-pub returns-then-number-ne0 : goal.returns-then-number-ne0
-returns-then-number-ne0 c = text_refused _ _ _ _ _ (zeros_room 29794) c.query-number.ensures _ _ _ c.if-number-ne0.true c.put_refusal.ensures
+pub returns-in-Ok : goal.returns-in-Ok
+returns-in-Ok c = text_core _ _ _ _ _ (zeros_room 29794) c.query.ensures _ _ _ _ c.in-Ok.is c.answer_core.ensures
 
-pub returns : goal.returns
-returns c = text_core _ _ _ _ _ (zeros_room 29794) c.query-number.ensures _ _ _ c.if-number-ne0.false c.answer_core.ensures
+pub returns-in-Err : goal.returns-in-Err
+returns-in-Err c = text_refused _ _ _ _ _ (zeros_room 29794) c.query.ensures _ _ _ _ c.in-Err.is c.put_number.ensures
