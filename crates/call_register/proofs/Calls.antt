@@ -50,7 +50,7 @@ unfolding draft_in
 terms_many t = length_tabulate t.nt _
 
 -- Tables of zeros have room for any draft of an accepted text, and for any text.
-zeros_many : (n : ℕ) → length (replicate {A = ℕ} n 0) ≡ n
+pub zeros_many : (n : ℕ) → length (replicate {A = ℕ} n 0) ≡ n
 zeros_many n = length-replicate n 0
 
 zeros_room : Room (replicate 5500 0) (replicate 5500 0)

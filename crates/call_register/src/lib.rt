@@ -6,6 +6,8 @@ ghost use Rattle.text.specs.Bytes.{all};
 ghost use Rattle.language.specs.Answer.{Answered};
 ghost use Rattle.language.specs.Refusals.{number_of};
 ghost use Rattle.call_answers.specs.Calls.{register_call};
+ghost use Rattle.register_form_assembly.specs.Drafts.{tables_in};
+ghost use Rattle.register_text_draft.specs.Tables.{tables_in as filled_tables};
 ghost use Rattle.call_register.specs.Writing.{Writes, Registers, RegistersTyped};
 
 use dictionary::Texts;
@@ -18,54 +20,11 @@ use register_text_draft::{DraftTables, PageTable, PropertyTable, TermTable, Text
 use register_text_entries::composing::compose;
 use register_text_verdict::{judge, judge_typed, read_rows};
 
-// Writes the register of accepted rows: refusal 8 where the buffer is too short.
-fn write_text(
-    text: &[u8],
-    t: &[u16],
-    n: usize,
-    props: &[u16],
-    np: usize,
-    held: &mut [u8],
-) -> Result<(), Refusal>
-    ensures { Writes text.now t.now props.now n np held.old result held.new }
+// Filled tables as a draft, with the term of each form.
+fn draft_of<'a>(tables: &'a DraftTables, uses: &'a [u16]) -> Draft<'a>
+    ensures { tables_in result ≡ filled_tables tables.now uses.now }
 {
-    let mut heap = [0u8; layout::TEXT_BYTE_ROOM];
-    let mut starts = [0u32; layout::TEXT_ROOM];
-    let mut lens = [0u16; layout::TEXT_ROOM];
-    let mut kinds = [0u8; layout::PROPERTY_ROOM];
-    let mut names = [0u16; layout::PROPERTY_ROOM];
-    let mut identifiers = [0u16; layout::PAGE_ROOM];
-    let mut firsts = [0u16; layout::PAGE_START_ROOM];
-    let mut groups = [0u8; layout::FORM_ROOM];
-    let mut codes = [0u64; layout::FORM_ROOM];
-    let mut tables = DraftTables {
-        texts: TextTable {
-            heap: &mut heap,
-            starts: &mut starts,
-            lens: &mut lens,
-            count: 0,
-            end: 0,
-        },
-        properties: PropertyTable {
-            kinds: &mut kinds,
-            names: &mut names,
-            count: 0,
-        },
-        pages: PageTable {
-            identifiers: &mut identifiers,
-            firsts: &mut firsts,
-            count: 0,
-        },
-        terms: TermTable {
-            groups: &mut groups,
-            codes: &mut codes,
-            count: 0,
-        },
-    };
-    tables.draft_text(text, t, n, props, np);
-    let mut uses = [0u16; layout::FORM_ROOM];
-    put_own(&mut uses, tables.terms.count); // each form is a term of its own
-    let draft = Draft {
+    Draft {
         texts: Texts {
             bytes: tables.texts.heap,
             starts: tables.texts.starts,
@@ -78,12 +37,52 @@ fn write_text(
         identifiers: tables.pages.identifiers,
         firsts: tables.pages.firsts,
         page_count: tables.pages.count,
-        uses: &uses,
+        uses,
         groups: tables.terms.groups,
         codes: tables.terms.codes,
         term_count: tables.terms.count,
+    }
+}
+
+// Writes the register of accepted rows: refusal 8 where the buffer is too short.
+fn write_text(
+    text: &[u8],
+    t: &[u16],
+    n: usize,
+    props: &[u16],
+    np: usize,
+    held: &mut [u8],
+) -> Result<(), Refusal>
+    ensures { Writes text.now t.now props.now n np held.old result held.new }
+{
+    let mut tables = DraftTables {
+        texts: TextTable {
+            heap: &mut [0; layout::TEXT_BYTE_ROOM],
+            starts: &mut [0; layout::TEXT_ROOM],
+            lens: &mut [0; layout::TEXT_ROOM],
+            count: 0,
+            end: 0,
+        },
+        properties: PropertyTable {
+            kinds: &mut [0; layout::PROPERTY_ROOM],
+            names: &mut [0; layout::PROPERTY_ROOM],
+            count: 0,
+        },
+        pages: PageTable {
+            identifiers: &mut [0; layout::PAGE_ROOM],
+            firsts: &mut [0; layout::PAGE_START_ROOM],
+            count: 0,
+        },
+        terms: TermTable {
+            groups: &mut [0; layout::FORM_ROOM],
+            codes: &mut [0; layout::FORM_ROOM],
+            count: 0,
+        },
     };
-    write_draft(&draft, held)
+    tables.draft_text(text, t, n, props, np);
+    let mut uses = [0u16; layout::FORM_ROOM];
+    put_own(&mut uses, tables.terms.count); // each form is a term of its own
+    write_draft(&draft_of(&tables, &uses), held)
 }
 
 // Judges the first n rows, over the text c, whose names are composed, and writes their register: the lowest refusal of 4 to 8.
