@@ -1,7 +1,7 @@
 // The held register: reading its rows. Every number is one of 16 bits, so that no place overflows; what lies behind the bytes is 0.
 #![tactic(auto, unfolding(crate::specs::Form::form_start, crate::specs::Form::form_at, crate::specs::Form::term_at, crate::specs::Form::text_start, crate::specs::Form::text_at, crate::specs::Form::property_at, crate::specs::Form::page_at, crate::specs::Dictionary::space_of, crate::specs::Dictionary::name_of))]
 
-ghost use Rattle.std.specs.Prelude.{◌≡◌, suc, ◌+◌, ◌*◌, ◌-◌};
+ghost use Rattle.std.specs.Prelude.{◌≡◌, suc, ◌+◌, ◌*◌};
 ghost use Rattle.buffer.specs.Numbers.{two_at};
 ghost use Rattle.values.specs.Values.{kind_from};
 ghost use Rattle.register_form.specs.Dictionary.{space_of, name_of, group_of, term_code};
@@ -129,13 +129,6 @@ pub fn text_end(h: &[u8], x: u16) -> u16
     ensures { result ≡ text_start h.now (suc x) }
 {
     number_at(h, layout::TEXT_ENDS, x)
-}
-
-// How far b lies behind a, 0 where it does not.
-pub fn minus(b: u16, a: u16) -> u16
-    ensures { result ≡ b - a }
-{
-    if a <= b { b - a } else { 0 }
 }
 
 // Text x.

@@ -5,16 +5,16 @@ use mathlib.Core.Bool.{Bool, true, false, not, ◌&&◌, ◌||◌, and-false, an
 use mathlib.Core.List.{List}
 use native.Mathlib.Omega.{arith}
 use native.Mathlib.Numerals.{add-one}
-use lib.Dec.{ltb, leb, eqb}
+use lib.Dec.{ltb, eqb}
 use lib.ListN.{length, get_or, get_or-eq_default}
 use native.Mathlib.Nat.{le_refl}
 use borrow.Author.Tests.{lt-ltb, le-ltb, eq-eqb, ne_eqb, not-true, not-false}
-use Rattle.text.specs.Bytes.{Bytes, part}
+use Rattle.text.specs.Bytes.{Bytes}
 use Rattle.buffer.specs.Numbers.{two_at}
 use Rattle.buffer.proofs.Parts.{length_part, get_d_part}
 use Rattle.buffer.proofs.Regions.{all_to_lem}
 use Rattle.register_form.specs.Dictionary.{group_of, is_category}
-use Rattle.register_form.specs.Form.{page_count, term_count, text_count, form_start, form_at, term_at}
+use Rattle.register_form.specs.Form.{page_count, term_count, form_start, form_at, term_at}
 use Rattle.register_form.specs.Tests.{is_laid}
 use Rattle.register_form.proofs.Laying.{laid_facts, rises_to}
 use Rattle.buffer.specs.Tests.{all_to}
@@ -38,10 +38,6 @@ mid_false : (a b c : Bool) → b ≡ false → (a && b && c) ≡ false
 mid_false true b c e = rw e
 mid_false false b c e = refl
 
-pub set_is : (t : List ℕ) (i w u : ℕ) → w ≡ i → u ≡ get_or t w 0 → not (eqb u 0) ≡ is_set t i
-unfolding is_set
-set_is t i w u e f = rw (f, e)
-
 pub set_here : (t : List ℕ) (i : ℕ) → not (eqb (get_or t i 0) 0) ≡ is_set t i
 unfolding is_set
 set_here t i = refl
@@ -62,10 +58,6 @@ module _ (h : Bytes) where
   pub behind_none : (i : ℕ) → false ≡ behind_at h i 0
   unfolding behind_at
   behind_none i = refl
-
-  pub forms_cut : (i a a' b c c' : ℕ) (s : Bytes) → a ≡ form_start h i → a' ≡ a → b ≡ form_start h (suc i) → c ≡ b - a → c' ≡ c → s ≡ part h (1226 + 2 * a') (2 * c') → s ≡ form_bytes h i
-  unfolding form_bytes form_count
-  forms_cut i a a' b c c' s p q r t u v = v ∙ rw (u, t, q, r, p)
 
   -- The forms of page i lie within bytes that are laid out.
   module _ (i : ℕ) (laid : is_laid h ≡ true) (room : i < page_count h) (s : Bytes) (e : s ≡ form_bytes h i) where
@@ -144,10 +136,6 @@ module _ (h : Bytes) where
           most = omega (arith, forms_few);
         }
 
-  pub page_is : (classes places : List ℕ) (x n w u w' u' : ℕ) → n ≡ text_count h → w ≡ x → u ≡ get_or classes w 0 → w' ≡ x → u' ≡ get_or places w' 0 → (ltb x n && leb 2 u && eqb u' 0) ≡ page_ok h classes places x
-  unfolding page_ok
-  page_is classes places x n w u w' u' a b c d e = rw (a, c, b, e, d)
-
   module _ (last : List ℕ) where
     pub last_none : last ≡ last_to h 0 last
     unfolding last_to
@@ -221,4 +209,4 @@ module _ (h : Bytes) where
           most = omega (arith, (laid_facts h laid).counted.pages);
         }
 
-pub ruleset pages = (set_is, used_tested, behind_none, forms_cut, page_is, last_none, last_end, last_length)
+pub ruleset pages = (used_tested, behind_none, last_none, last_end, last_length)

@@ -19,17 +19,13 @@ use Rattle.language.specs.Rules.{is_identifier}
 use Rattle.sorting.specs.Ascending.{is_less}
 use Rattle.sorting.proofs.Canonical.{less_is_lt}
 use Rattle.register_form.specs.Dictionary.{space_of, name_of, identifier_of}
-use Rattle.register_form.specs.Form.{property_count, text_count, text_start, text_at}
-use Rattle.register_form.specs.Tests.{is_labelled, is_plain}
+use Rattle.register_form.specs.Form.{property_count, text_count, text_at}
+use Rattle.register_form.specs.Tests.{is_plain}
 use Rattle.buffer.specs.Tests.{all_to}
 use Rattle.register_form_test.specs.Loops.{sum_to, climbs}
-use Rattle.register_form_test.specs.Stages.{class_of, text_test, Classed, PropertiesTested, text_length, name_number, property_ok, names_to, property_test, property_length}
+use Rattle.register_form_test.specs.Stages.{class_of, Classed, PropertiesTested, text_length, name_number, property_ok, names_to, property_test, property_length}
 use Rattle.buffer.proofs.Testing.{all_more}
 use Rattle.register_form_test.proofs.Loops.{sum_more}
-
-pub labelled_is : (t : Bytes) (a b : ℕ) → a ≡ get_or t 0 0 → b ≡ a → ltb b (length t) ≡ is_labelled t
-unfolding is_labelled
-labelled_is t a b e f = rw (f, e)
 
 module _ (f : ℕ → Bytes) where
   pub climbs_first : (i : ℕ) → i ≡ 0 → true ≡ climbs f i
@@ -63,14 +59,6 @@ module _ (t n : Bytes) (z a : ℕ) (e : n ≡ name_of t) (f : z ≡ get_or t 0 0
     class_other q = rw (← f, ne_eqb z 0 k, names_told false q)
 
 module _ (h : Bytes) (x : ℕ) where
-  pub text_tested : (t : Bytes) (a b : Bool) → t ≡ text_at h x → a ≡ is_labelled t → b ≡ climbs (text_at h) x → (a && b) ≡ text_test h x
-  unfolding text_test
-  text_tested t a b e f g = rw (f, g, e)
-
-  pub length_is : (a b r : ℕ) → a ≡ text_start h (suc x) → b ≡ text_start h x → r ≡ a - b → r ≡ text_length h x
-  unfolding text_length
-  length_is a b r e f g = g ∙ rw (e, f)
-
   -- A text of class 2 is a name without a namespace.
   class_name : eqb (class_of (text_at h x)) 2 ≡ (is_plain (text_at h x) && is_composed_name (name_of (text_at h x)))
   unfolding class_of
@@ -122,4 +110,4 @@ module _ (h : Bytes) (used u : List ℕ) (i n b : ℕ) (ok : Bool) (e : ok ≡ a
       record { ok = sym t ∙ e ∙ rw k; bytes = tt; marks = p ∙ rw k; most = tt }
 
 pub ruleset texts =
-    (labelled_is, climbs_first, climbs_on, text_tested, length_is, property_is, property_more, property_sum)
+    (climbs_first, climbs_on, property_is, property_more, property_sum)

@@ -1,5 +1,5 @@
 // Whether bytes are the form of a register: layout, texts, terms and pages, each gone over once.
-#![tactic(auto)]
+#![tactic(auto, unfolding(crate::specs::Stages::are_rows_padded, crate::specs::Stages::kind_test, crate::specs::Stages::start_at, crate::specs::Stages::rise_test, crate::specs::Stages::text_test, crate::specs::Stages::text_length, crate::specs::Stages::property_ok, crate::specs::Stages::spelled_length, crate::specs::Stages::judged_in, crate::specs::Stages::judged_text, crate::specs::Stages::judged_value, crate::specs::Stages::judged_group, crate::specs::Stages::judged_term, crate::specs::Stages::no_text, crate::specs::Stages::form_bytes, crate::specs::Stages::form_count, crate::specs::Stages::page_ok, crate::specs::Stages::used_test, register_form::specs::Tests::rises, register_form::specs::Tests::is_counted, register_form::specs::Tests::is_padded, register_form::specs::Tests::is_laid, register_form::specs::Tests::is_labelled, crate::specs::Loops::is_set, register_form::specs::Form::form_start, register_form::specs::Form::text_start))]
 
 ghost use Rattle.std.specs.Prelude.{◌≡◌};
 ghost use Rattle.register_form_test.specs.Opening.{Opens, Tries};

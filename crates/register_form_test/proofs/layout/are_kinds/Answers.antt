@@ -1,14 +1,13 @@
 use borrow.Author.Rules.{rules}
 use Rattle.buffer.proofs.Testing.{tests}
 use Rattle.register_form_test.proofs.Loops.{loops}
-use Rattle.register_form_test.proofs.Ways.{layout}
 use Rattle.register_form_test.proofs.layout.are_kinds.Goals as goal
 
 pub loop-p-preserved : goal.loop-p-preserved
-loop-p-preserved c = search (layout, loops, tests, rules)
+loop-p-preserved c = search (loops, tests, rules)
 
 pub returns : goal.returns
-returns c = search (layout, loops, tests, rules)
+returns c = search (loops, tests, rules)
 
 pub loop-p-init : goal.loop-p-init
-loop-p-init c = search (layout, loops, tests, rules)
+loop-p-init c = search (loops, tests, rules)

@@ -1,6 +1,0 @@
-use borrow.Author.Rules.{rules}
-use Rattle.register_form_test.proofs.Ways.{layout}
-use Rattle.register_form_test.proofs.layout.are_rows_padded.Goals as goal
-
-pub returns : goal.returns
-returns c = search (layout, rules)

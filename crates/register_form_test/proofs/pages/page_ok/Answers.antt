@@ -1,6 +1,0 @@
-use borrow.Author.Rules.{rules}
-use Rattle.register_form_test.proofs.PageWays.{pages}
-use Rattle.register_form_test.proofs.pages.page_ok.Goals as goal
-
-pub returns : goal.returns
-returns c = search (pages, rules)

@@ -1,6 +1,0 @@
-use borrow.Author.Rules.{rules}
-use Rattle.register_form_test.proofs.TextWays.{texts}
-use Rattle.register_form_test.proofs.texts.text_length.Goals as goal
-
-pub returns : goal.returns
-returns c = search (texts, rules)
