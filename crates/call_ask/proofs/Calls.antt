@@ -1,5 +1,6 @@
 -- The ways through the run and the ask call.
 use Rattle.std.specs.Prelude.{Option, Some, None, Result, Ok, Err}
+use Rattle.std.specs.Option.{is_some}
 use Prim.Native.Nat.{ℕ, ◌≤◌, ◌<◌}
 use mathlib.Core.Path.{◌≡◌, refl, sym, ap, ap₂, ◌∙◌}
 use mathlib.Core.Bool.{Bool, true, false, not, cond, true≢false, false≢true}
@@ -28,7 +29,7 @@ use Rattle.register_form.proofs.Rules.{within}
 use Rattle.register_form_test.specs.Opening.{Opens}
 use Rattle.register_form_test.proofs.Held.{held_none, held_some, held_form}
 use Rattle.query_core.specs.Held.{count_in, held_query}
-use Rattle.query_core.specs.Stack.{is_some, stack_at, HoldsCore}
+use Rattle.query_core.specs.Stack.{stack_at, HoldsCore}
 use Rattle.query_core.proofs.Stacks.{held_holds}
 use Rattle.ask_evaluation.specs.Meaning.{marks_of, Means, Evaluates}
 use Rattle.ask_evaluation.specs.Mixing.{Mismatches}

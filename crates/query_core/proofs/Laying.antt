@@ -2,7 +2,7 @@
 use Rattle.std.specs.Prelude.{Option, Some, None}
 use Prim.Native.Nat.{ℕ, ◌+◌, ◌-◌, ◌*◌, ◌≤◌, ◌<◌}
 use mathlib.Core.Path.{◌≡◌, refl, sym, ap, ap₂, ◌∙◌}
-use mathlib.Core.Bool.{Bool, true, false, cond, not}
+use mathlib.Core.Bool.{Bool, true, false, not}
 use mathlib.Core.List.{List, [], ◌∷◌, ◌++◌, append_assoc, append-nil}
 use native.Mathlib.Nat.{add-zero}
 use native.Mathlib.Omega.{arith}
@@ -17,7 +17,7 @@ use Rattle.buffer.specs.Writing.{written}
 use Rattle.buffer.proofs.Regions.{length_zeros, length_padded}
 use Rattle.buffer.proofs.Written.{length_written, written_none, written_here, written_skip, written_over, next}
 use Rattle.buffer.proofs.Padding.{zeros_add, padded_more}
-use Rattle.values.specs.Names.{Reference, bare, qualified}
+use Rattle.values.specs.Names.{Reference}
 use Rattle.values.specs.Answers.{reference_at, split_of}
 use Rattle.values.specs.declared.Split.{Split}
 use Rattle.language.specs.declared.SurfaceComparator.{SurfaceComparator}
@@ -32,7 +32,7 @@ use Rattle.query_core.specs.declared.Strings.{Strings}
 use Rattle.query_core.specs.declared.Place.{Place}
 use Rattle.query_core.specs.Postfix.{Node}
 use Rattle.query_core.specs.Held.{query_size}
-use Rattle.query_core.specs.Form.{namespace_string, string_of, strings, span_at, no_span, mark_of, link_slot, slot_at, slot_bytes, slots_from, query_bytes}
+use Rattle.query_core.specs.Form.{namespace_string, string_of, strings, span_at, no_span, link_slot, slot_at, slot_bytes, slots_from, query_bytes}
 use Rattle.query_core.specs.Reading.{joined_over, node_over}
 use Rattle.query_core.specs.Writing.{joined_strings, node_strings, joined_slot, slot_of, joint, written_in, mark_if, has_room, Fits, Laid, PutsNode, Puts, Finishes, count_of, end_of}
 

@@ -1,5 +1,6 @@
 -- Laws of the stack: one node more, its height, and the test for a query.
 use Rattle.std.specs.Prelude.{Option, Some, None}
+use Rattle.std.specs.Option.{is_some}
 use Prim.Native.Nat.{ℕ, zero, suc, ◌+◌, ◌-◌, ◌≤◌, ◌<◌}
 use mathlib.Core.Path.{◌≡◌, refl, sym, ◌∙◌}
 use mathlib.Core.List.{List, [], ◌∷◌, ◌++◌}
@@ -20,7 +21,7 @@ use Rattle.query_core.specs.declared.Node.{Node as DeclaredNode}
 use Rattle.query_core.specs.Postfix.{Node, post, stepped, runs, only, read_back}
 use Rattle.query_core.specs.Held.{query_size, count_in, heap_in, node_in, nodes_to, has_sizes, held_query}
 use Rattle.query_core.specs.Reading.{joined_by, node_by, ReadsNode}
-use Rattle.query_core.specs.Stack.{is_some, stack_at, height_at, HoldsCore, arity, risen, joined_arity, arity_by}
+use Rattle.query_core.specs.Stack.{stack_at, height_at, HoldsCore, arity, risen, joined_arity, arity_by}
 use Rattle.query_core.proofs.Postfix.{runs_append, runs_post}
 
 -- One node more on the stack.

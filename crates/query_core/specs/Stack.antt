@@ -1,5 +1,5 @@
 -- Working definitions: the stack after the first nodes, and its height.
-use Rattle.std.specs.Prelude.{ℕ, ◌+◌, ◌-◌, ◌≤◌, ◌≡◌, Bool, true, false, List, [], ◌∷◌, leb, length, Option, Some, None}
+use Rattle.std.specs.Prelude.{ℕ, ◌+◌, ◌-◌, ◌≤◌, ◌≡◌, List, [], ◌∷◌, leb, length, Option, Some}
 use Rattle.text.specs.Bytes.{Bytes}
 use Rattle.values.specs.Values.{map_option}
 use Rattle.language.specs.Answer.{◌>>=◌, only_if}
@@ -10,11 +10,6 @@ use Rattle.query_core.specs.declared.Node.{Node}
 use Rattle.query_core.specs.Postfix.{runs}
 use Rattle.query_core.specs.Postfix as Postfix
 use Rattle.query_core.specs.Held.{query_size, count_in, nodes_to}
-
--- Something was read.
-abbrev pub is_some : {A : Type 0} → Option A → Bool
-is_some None = false
-is_some (Some a) = true
 
 -- The queries on the stack after the first i nodes, and how many they are.
 unfoldable pub stack_at : Bytes → ℕ → Option (List Core)

@@ -1,9 +1,8 @@
 -- Working definitions: a declared node as a slot, the strings that it takes along, and a buffer that nodes are laid into.
-use Rattle.std.specs.Prelude.{Option, Some, None, ℕ, ◌+◌, ◌/◌, ◌%◌, ◌≤◌, min, ◌≡◌, Bool, true, false, cond, List, [], ◌∷◌, ◌++◌, leb, length}
+use Rattle.std.specs.Prelude.{Option, Some, None, ℕ, ◌+◌, ◌/◌, ◌%◌, ◌≤◌, min, ◌≡◌, Bool, true, false, List, [], ◌∷◌, ◌++◌, leb, length}
 use Rattle.text.specs.Bytes.{Bytes}
 use Rattle.text.specs.declared.Span.{Span}
 use Rattle.buffer.specs.Numbers.{zeros, padded}
-use Rattle.values.specs.declared.Split.{Split}
 use Rattle.language.specs.Comparators.{comparator_code as surface_code}
 use Rattle.query_core.specs.declared.Constant.{Constant}
 use Rattle.query_core.specs.declared.Selector.{Selector}

@@ -19,6 +19,7 @@ pub fn selected_if(fit: bool, selector: Selector) -> Option<Node>
 }
 
 // The places of the two strings in a node's bytes.
+#[tactic(auto, unfolding(crate::specs::Held::slot_from))]
 pub fn first_of(b: &[u8]) -> Span
     ensures { result ≡ (slot_from b.now).first }
 {
@@ -28,6 +29,7 @@ pub fn first_of(b: &[u8]) -> Span
     }
 }
 
+#[tactic(auto, unfolding(crate::specs::Held::slot_from))]
 pub fn second_of(b: &[u8]) -> Span
     ensures { result ≡ (slot_from b.now).second }
 {
@@ -38,6 +40,7 @@ pub fn second_of(b: &[u8]) -> Span
 }
 
 // The numbers in a node's bytes.
+#[tactic(auto, unfolding(crate::specs::Held::slot_from))]
 pub fn slot_from(b: &[u8]) -> Slot
     ensures { result ≡ slot_from b.now }
 {

@@ -11,7 +11,8 @@ pub const HEAP_BYTES: usize = 96 * MOST_NODES + 96;
 
 pub const QUERY_BYTES: usize = HEAP + HEAP_BYTES;
 
-// The tags of nodes.
+// The tags of nodes. Bytes, since a held form is compared byte by byte: an enum of tags would be turned into them and back, and no
+// reader of it would be shorter.
 pub const AND: u8 = 0;
 
 pub const OR: u8 = 1;

@@ -22,6 +22,7 @@ fn before_last(n: u16, k: u16) -> usize
 }
 
 // Where the property's name of a link lies, and its reference, by the bytes of a slot: with a namespace of n bytes behind the name.
+#[tactic(auto, unfolding(crate::specs::Held::slot_from))]
 fn link_name(b: &[u8], n: u16) -> Span
     ensures { result ≡ before n (slot_from b.now).first }
 {
@@ -31,6 +32,7 @@ fn link_name(b: &[u8], n: u16) -> Span
     }
 }
 
+#[tactic(auto, unfolding(crate::specs::Held::slot_from))]
 fn link_namespace(b: &[u8], n: u16) -> Span
     ensures { result ≡ behind n (slot_from b.now).first }
 {

@@ -67,22 +67,10 @@ fn selector_strings(s: Selector) -> Strings
 {
     let none = Span { start: 0, len: 0 };
     match s {
-        Selector::Category(p) => Strings {
-            first: p,
-            second: none,
-            third: none,
-        },
-        Selector::Namespace(p) => Strings {
-            first: p,
-            second: none,
-            third: none,
-        },
-        Selector::Existence(p) => Strings {
-            first: p,
-            second: none,
-            third: none,
-        },
-        Selector::Subquery(p) => Strings {
+        Selector::Category(p)
+        | Selector::Namespace(p)
+        | Selector::Existence(p)
+        | Selector::Subquery(p) => Strings {
             first: p,
             second: none,
             third: none,
@@ -109,21 +97,14 @@ fn selector_strings(s: Selector) -> Strings
 pub fn strings_of(node: Node) -> Strings
     ensures { result ≡ node_strings node }
 {
-    let connective = node.connective;
-    let selector = node.selector;
     let none = Span { start: 0, len: 0 };
-    match connective {
-        Connective::And => Strings {
+    match node.connective {
+        Connective::And | Connective::Or => Strings {
             first: none,
             second: none,
             third: none,
         },
-        Connective::Or => Strings {
-            first: none,
-            second: none,
-            third: none,
-        },
-        Connective::Select => selector_strings(selector),
+        Connective::Select => selector_strings(node.selector),
     }
 }
 

@@ -1,7 +1,8 @@
 // Whether bytes are the form of a query: number 21's test.
 ghost use Rattle.std.specs.Prelude.{◌≡◌};
 ghost use Rattle.query_core.specs.Held.{held_query};
-ghost use Rattle.query_core.specs.Stack.{arity_by, is_some};
+ghost use Rattle.std.specs.Option.{is_some};
+ghost use Rattle.query_core.specs.Stack.{arity_by};
 
 use crate::reading::node_at;
 use crate::{Connective, Node, QUERY_BYTES, Selector, layout};
@@ -11,19 +12,16 @@ use buffer::two_at;
 fn arity(node: Node) -> usize
     ensures { result ≡ arity_by node }
 {
-    let connective = node.connective;
-    let selector = node.selector;
-    match connective {
-        Connective::And => 2,
-        Connective::Or => 2,
-        Connective::Select => match selector {
-            Selector::Category(_) => 0,
-            Selector::Namespace(_) => 0,
-            Selector::Existence(_) => 0,
+    match node.connective {
+        Connective::And | Connective::Or => 2,
+        Connective::Select => match node.selector {
             Selector::Subquery(_) => 1,
-            Selector::Article(_, _) => 0,
-            Selector::Value(_, _, _) => 0,
-            Selector::Link(_, _, _) => 0,
+            Selector::Category(_)
+            | Selector::Namespace(_)
+            | Selector::Existence(_)
+            | Selector::Article(_, _)
+            | Selector::Value(_, _, _)
+            | Selector::Link(_, _, _) => 0,
         },
     }
 }

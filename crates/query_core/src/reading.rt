@@ -14,6 +14,7 @@ use text::{Span, part};
 use values::{KIND_COUNT, Kind, in_range, is_value, kind_from};
 
 // The comparator of a code.
+#[tactic(auto, unfolding(crate::specs::Held::comparator_from))]
 fn comparator_from(code: u8) -> Option<Comparator>
     ensures { result ≡ comparator_from code }
 {
@@ -138,6 +139,7 @@ fn slot_bytes(h: &[u8], i: usize) -> &[u8]
 }
 
 // The tag of the node in a place.
+#[tactic(auto, unfolding(crate::specs::Held::slot_from))]
 fn tag_at(h: &[u8], i: usize) -> u8
     ensures { result ≡ (slot_in h.now i).tag }
 {

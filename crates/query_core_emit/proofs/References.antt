@@ -26,21 +26,10 @@ use Rattle.query_core.specs.declared.Place.{Place}
 use Rattle.query_core.specs.Postfix.{Node, post}
 use Rattle.query_core.specs.Form.{no_span}
 use Rattle.query_core.specs.Reading.{selector_by}
-use Rattle.query_core_emit.specs.Emission.{Adds, Emits, connective_node, selector_of, comparing, scope_in, scope_of, constant_in}
+use Rattle.query_core_emit.specs.Emission.{Adds, Emits, connective_node, comparing, scope_in, scope_of, constant_in}
 use Rattle.query_core_emit.specs.declared.Comparison.{Comparison}
-use Rattle.query_core_emit.specs.declared.Scope.{Scope}
 use Rattle.query_core_emit.proofs.Adding.{conjunction_adds, one_adds, either_adds}
 use Rattle.query_core_emit.proofs.Constants.{constant_is}
-
--- Selectors.
-module _ (w : Comparison) (c : Comparator) where
-  pub article_selector : (p : Span) → w ≡ Comparison.Article p → Selector.Article c p ≡ selector_of w c
-  article_selector p e = rw e
-
-  pub value_selector : (p : Span) (k : Constant) → w ≡ Comparison.Value p k → Selector.Value p c k ≡ selector_of w c
-  value_selector p k e = rw e
-
-pub ruleset selectors = (article_selector, value_selector)
 
 -- A comparison as written, by its comparator.
 module _ (s : Bytes) (w : Comparison) (c : SurfaceComparator) (h h' : Bytes) (p p' : Place) where
@@ -73,31 +62,31 @@ module _ (s : Bytes) (a : Span) (c : SurfaceComparator) (t : Bool) (d : Comparat
 
 -- Definition 5.3.1, by the scope of a reference.
 module _ (s : Bytes) where
-  abbrev scoped : Scope → Core → Core
-  scoped Scope.Any q = q
-  scoped (Scope.Within n) q = Core.conjunction (Core.select (Core.namespace (part_of s n))) q
+  abbrev scoped : Option Span → Core → Core
+  scoped None q = q
+  scoped (Some n) q = Core.conjunction (Core.select (Core.namespace (part_of s n))) q
 
   reference_says : (c : SurfaceComparator) (o : Option Span) (a : Span) → elaborate_reference c (reference_at s o a) ≡ scoped (scope_in c o) (compared (comparing s (Comparison.Article a)) c)
   unfolding elaborate_reference
   reference_says c (Some n) a = go (in_any_namespace c)
     where
-      go : (t : Bool) → cond t (article_stands (part_of s a) c) (within (part_of s n) (article_stands (part_of s a) c)) ≡ scoped (cond t Scope.Any (Scope.Within n)) (compared (comparing s (Comparison.Article a)) c)
+      go : (t : Bool) → cond t (article_stands (part_of s a) c) (within (part_of s n) (article_stands (part_of s a) c)) ≡ scoped (cond t None (Some n)) (compared (comparing s (Comparison.Article a)) c)
       go true = refl
       go false = refl
   reference_says c None a = go (is_equal c)
     where
-      go : (t : Bool) → cond t (within [] (article_stands (part_of s a) c)) (article_stands (part_of s a) c) ≡ scoped (cond t (Scope.Within no_span) Scope.Any) (compared (comparing s (Comparison.Article a)) c)
+      go : (t : Bool) → cond t (within [] (article_stands (part_of s a) c)) (article_stands (part_of s a) c) ≡ scoped (cond t (Some no_span) None) (compared (comparing s (Comparison.Article a)) c)
       go true = refl
       go false = refl
 
-  module _ (c : SurfaceComparator) (r : Split) (k : Scope) (is : k ≡ scope_of c r) (h : Bytes) (p : Place) where
+  module _ (c : SurfaceComparator) (r : Split) (k : Option Span) (is : k ≡ scope_of c r) (h : Bytes) (p : Place) where
     reference_is : elaborate_reference c (split_of s r) ≡ scoped k (compared (comparing s (Comparison.Article r.article)) c)
-    reference_is = reference_says c r.namespace r.article ∙ ap (λ (x : Scope). scoped x (compared (comparing s (Comparison.Article r.article)) c)) (sym is)
+    reference_is = reference_says c r.namespace r.article ∙ ap (λ (x : Option Span). scoped x (compared (comparing s (Comparison.Article r.article)) c)) (sym is)
 
-    pub any_adds : (h' : Bytes) (p' : Place) → k ≡ Scope.Any → Adds (post (compared (comparing s (Comparison.Article r.article)) c)) h p h' p' → Adds (post (elaborate_reference c (split_of s r))) h p h' p'
+    pub any_adds : (h' : Bytes) (p' : Place) → k ≡ None → Adds (post (compared (comparing s (Comparison.Article r.article)) c)) h p h' p' → Adds (post (elaborate_reference c (split_of s r))) h p h' p'
     any_adds h' p' e d = rw (reference_is, e) d
 
-    pub within_adds : (n : Span) (h₁ h₂ h₃ : Bytes) (p₁ p₂ p₃ : Place) → k ≡ Scope.Within n → Adds (selector_by s (Selector.Namespace n) ∷ []) h p h₁ p₁ → Adds (post (compared (comparing s (Comparison.Article r.article)) c)) h₁ p₁ h₂ p₂ → Adds (connective_node false ∷ []) h₂ p₂ h₃ p₃ → Adds (post (elaborate_reference c (split_of s r))) h p h₃ p₃
+    pub within_adds : (n : Span) (h₁ h₂ h₃ : Bytes) (p₁ p₂ p₃ : Place) → k ≡ Some n → Adds (selector_by s (Selector.Namespace n) ∷ []) h p h₁ p₁ → Adds (post (compared (comparing s (Comparison.Article r.article)) c)) h₁ p₁ h₂ p₂ → Adds (connective_node false ∷ []) h₂ p₂ h₃ p₃ → Adds (post (elaborate_reference c (split_of s r))) h p h₃ p₃
     unfolding post
     within_adds n h₁ h₂ h₃ p₁ p₂ p₃ e f g d = rw (reference_is, e) (conjunction_adds (Core.select (Core.namespace (part_of s n))) (compared (comparing s (Comparison.Article r.article)) c) f g d)
 

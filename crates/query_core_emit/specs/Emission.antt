@@ -20,7 +20,6 @@ use Rattle.query_core.specs.Form.{no_span}
 use Rattle.query_core.specs.Reading.{constant_by}
 use Rattle.query_core.specs.Writing.{Laid}
 use Rattle.query_core_emit.specs.declared.Comparison.{Comparison}
-use Rattle.query_core_emit.specs.declared.Scope.{Scope}
 
 -- A held query's buffer and the place behind its nodes, the same after nodes were put.
 pub record Adds (k : List Node) (h : Bytes) (p : Place) (h' : Bytes) (p' : Place) : Type 0 where
@@ -45,12 +44,12 @@ abbrev pub comparing : Bytes → Comparison → Comparator → Core
 comparing s (Comparison.Article p) c = Core.select (Core.article c (part_of s p))
 comparing s (Comparison.Value p k) c = Core.select (Core.value (part_of s p) c (constant_by s k))
 
--- Where a reference is looked for: definition 5.3.1.
-abbrev pub scope_in : SurfaceComparator → Option Span → Scope
-scope_in c None = cond (is_equal c) (Scope.Within no_span) Scope.Any
-scope_in c (Some n) = cond (in_any_namespace c) Scope.Any (Scope.Within n)
+-- The namespace that a reference is looked for in, if not in any: definition 5.3.1.
+abbrev pub scope_in : SurfaceComparator → Option Span → Option Span
+scope_in c None = cond (is_equal c) (Some no_span) None
+scope_in c (Some n) = cond (in_any_namespace c) None (Some n)
 
-abbrev pub scope_of : SurfaceComparator → Split → Scope
+abbrev pub scope_of : SurfaceComparator → Split → Option Span
 scope_of c r = scope_in c r.namespace
 
 -- The constant that the piece at p writes in a kind.

@@ -16,13 +16,6 @@ pub enum Comparison {
     Value(Span, Constant),
 }
 
-// The namespaces that a reference is looked for in.
-#[derive(Clone, Copy)]
-pub enum Scope {
-    Any,
-    Within(Span),
-}
-
 // The same answer, its parts read one by one: right behind the call that answers, its bytes are not copied as fast.
 pub fn again(emitted: Option<Place>) -> Option<Place>
     ensures { result ≡ emitted }

@@ -11,8 +11,8 @@ ghost use Rattle.query_core.specs.Reading.{selector_over};
 ghost use Rattle.query_core_emit.specs.declared.Comparison.TheVariants.{Article};
 ghost use Rattle.query_core_emit.specs.Emission.{comparing, selector_of, scope_of, Adds, Emits, connective_node};
 
+use crate::Comparison;
 use crate::terms::constant_of;
-use crate::{Comparison, Scope};
 use language::{Comparator, SurfaceComparator, in_any_namespace, is_equal, or_equal, strict};
 use names::put_composed;
 use query_core::{Connective, Node, Place, Selector, put_connective, put_node};
@@ -96,15 +96,15 @@ fn put_article(s: &[u8], held: &mut [u8], at: Place, p: Span, c: SurfaceComparat
     one
 }
 
-// Where a reference is looked for: definition 5.3.1.
-fn scope_of(c: SurfaceComparator, split: Split) -> Scope
+// The namespace that a reference is looked for in, if not in any: definition 5.3.1.
+fn scope_of(c: SurfaceComparator, split: Split) -> Option<Span>
     ensures { result ≡ scope_of c split }
 {
     match split.namespace {
-        Some(_) if in_any_namespace(c) => Scope::Any,
-        Some(n) => Scope::Within(n),
-        None if is_equal(c) => Scope::Within(Span { start: 0, len: 0 }),
-        None => Scope::Any,
+        Some(_) if in_any_namespace(c) => None,
+        Some(n) => Some(n),
+        None if is_equal(c) => Some(Span { start: 0, len: 0 }),
+        None => None,
     }
 }
 
@@ -120,8 +120,8 @@ pub fn put_reference(
 {
     let article = split.article;
     match scope_of(c, split) {
-        Scope::Any => put_article(s, held, at, article, c),
-        Scope::Within(namespace) => {
+        None => put_article(s, held, at, article, c),
+        Some(namespace) => {
             let one = put_select(s, s, held, at, Selector::Namespace(namespace));
             let two = put_article(s, held, one, article, c);
             put_join(held, two, false)
