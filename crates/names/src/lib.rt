@@ -148,7 +148,7 @@ fn compose_from(table: &Table, h: &mut [u8], at: usize, s: &[u8], front: usize) 
 {
     put_bytes(h, at, part(s, 0, front));
     let mut n = front;
-    let mut i = front;
+    let mut i = front; // a letter has up to three bytes, so that no range of places serves
     while i < s.len() {
         let x = table.letter_at(s, i);
         let w = x.width;

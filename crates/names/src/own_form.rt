@@ -23,7 +23,7 @@ fn front_from(s: &[u8], from: usize) -> usize
     requires { Front s.now from }
     ensures { OwnFront s.now result }
 {
-    let mut i = from;
+    let mut i = from; // a letter has one byte or two, so that no range of places serves
     while i < s.len() {
         let a = s[i];
         let b = get_or(s, i + 1, 0);
@@ -47,10 +47,8 @@ fn is_plain_block(s: &[u8], at: usize) -> bool
     ensures { result ≡ all is_plain (part s.now at 16) }
 {
     let mut plain = true;
-    let mut i: usize = 0;
-    while i < 16 {
+    for i in 0..16 {
         plain = plain & is_plain(s[at + i]);
-        i += 1;
     }
     plain
 }
@@ -59,7 +57,7 @@ fn is_plain_block(s: &[u8], at: usize) -> bool
 fn plain_blocks(s: &[u8]) -> usize
     ensures { PlainTo s.now result }
 {
-    let mut i: usize = 0;
+    let mut i: usize = 0; // how far the whole blocks reach is not known before
     while 16 <= s.len() - i {
         let plain = is_plain_block(s, i);
         if !plain {
@@ -75,18 +73,12 @@ fn plain_blocks(s: &[u8]) -> usize
 pub fn own_front(s: &[u8]) -> usize
     ensures { OwnFront s.now result }
 {
-    let mut i = plain_blocks(s);
-    while i < s.len() {
-        let plain = is_plain(s[i]);
-        if !plain {
-            if i == 0 {
-                return front_from(s, 0);
-            }
-            return front_from(s, i - 1);
+    for i in plain_blocks(s)..s.len() {
+        if !is_plain(s[i]) {
+            return front_from(s, i.saturating_sub(1));
         }
-        i += 1;
     }
-    i
+    s.len()
 }
 
 // Whether a text is its own composed form.
@@ -127,10 +119,8 @@ pub fn all_paired(s: &[u8]) -> bool
         return true;
     }
     let mut fits = does_follow(0, s[0]);
-    let mut i: usize = 1;
-    while i < s.len() {
+    for i in 1..s.len() {
         fits = fits & does_follow(s[i - 1], s[i]);
-        i += 1;
     }
     fits & !is_lead(s[s.len() - 1])
 }

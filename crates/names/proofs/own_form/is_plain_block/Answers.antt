@@ -14,14 +14,6 @@ overflow_add-at c = omega (arith, c.loop-i-test.true, c.requires, c.well_formed)
 pub bounds-s-at : goal.bounds-s-at
 bounds-s-at c = omega (arith, c.loop-i-test.true, c.requires)
 
--- src/own_form.rt:54:9
-pub overflow_add-i : goal.overflow_add-i
-overflow_add-i c = omega (arith, c.loop-i-test.true)
-
--- src/own_form.rt:52:5
-pub loop-i-smaller : goal.loop-i-smaller
-loop-i-smaller c = omega (arith, c.loop-i-test.true)
-
 -- src/own_form.rt:52:5
 pub loop-i-preserved : goal.loop-i-preserved
 loop-i-preserved c = block_more c.args.s.now c.args.at c.loop-i.plain _ _ c.loop-i.invariant c.loop-i-test.true c.requires c.is_plain-plain.ensures
