@@ -11,6 +11,7 @@ use tables::get_or;
 use text::Span;
 
 // The node of a row.
+#[tactic(auto, unfolding(crate::specs::Form::node_from))]
 fn node_from(row: Row) -> TreeNode
     ensures { (s : Bytes) → node_by s result ≡ node_from s row }
 {
@@ -40,6 +41,7 @@ fn node_from(row: Row) -> TreeNode
 }
 
 // The row of node i.
+#[tactic(auto, unfolding(crate::specs::Form::row_in))]
 pub fn row_at(h: &[u8], i: usize) -> Row
     ensures { result ≡ row_in h.now i }
 {
@@ -63,6 +65,7 @@ pub fn row_at(h: &[u8], i: usize) -> Row
 }
 
 // Node i.
+#[tactic(auto, unfolding(crate::specs::Form::node_in))]
 pub fn node_at(h: &[u8], i: usize) -> TreeNode
     ensures { node_by (strings_in h.now) result ≡ node_in h.now i }
 {

@@ -24,13 +24,6 @@ use Rattle.query_tree.specs.Reading.{node_by}
 use Rattle.query_tree.specs.Pass.{is_query, is_good, full_bytes, on_one, on_two, item_step, within, item_run, is_whole, is_tree}
 use Rattle.query_tree_test.specs.Stack.{arity, made_of, blank, stack_of, run_to}
 
--- What a node takes and makes, by the node that was read.
-pub by_arity : (node m : TreeNode) → node ≡ m → (s : Bytes) → arity (node_by s m) ≡ arity (node_by s node)
-by_arity node m e s = sym (ap (λ (n : TreeNode). arity (node_by s n)) e)
-
-pub by_node : (s : Bytes) (at : ℕ) (i j : Item) (node m : TreeNode) → node ≡ m → (o : Option Item) → o ≡ made_of at (node_by s m) i j → o ≡ made_of at (node_by s node) i j
-by_node s at i j node m e o f = f ∙ sym (ap (λ (n : TreeNode). made_of at (node_by s n) i j) e)
-
 -- The stack keeps what lies below a place that is written.
 below_set : (t : List Item) (m : ℕ) (v : Item) (n : ℕ) → suc n < m → stack_of (set t m v) n ≡ stack_of t n
 unfolding stack_of
