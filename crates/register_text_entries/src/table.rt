@@ -36,15 +36,11 @@ pub fn put_item(t: &mut [u16], n: usize, item: Item)
 {
     if n <= t.len() / 5 {
         let at = 5 * n;
-        let tag = item.tag;
-        let kind = item.kind;
-        let first = item.first;
-        let second = item.second;
-        put(t, at, code_of(tag, kind));
-        put(t, at + 1, first.start);
-        put(t, at + 2, first.len);
-        put(t, at + 3, second.start);
-        put(t, at + 4, second.len);
+        put(t, at, code_of(item.tag, item.kind));
+        put(t, at + 1, item.first.start);
+        put(t, at + 2, item.first.len);
+        put(t, at + 3, item.second.start);
+        put(t, at + 4, item.second.len);
     }
 }
 
@@ -52,16 +48,13 @@ pub fn put_item(t: &mut [u16], n: usize, item: Item)
 pub fn tag_of(code: usize) -> Tag
     ensures { result ≡ tag_from code }
 {
-    if code == 0 {
-        return Tag::Page;
+    match code {
+        0 => Tag::Page,
+        1 => Tag::Cat,
+        2 => Tag::Val,
+        3 => Tag::Close,
+        _ => Tag::Prop,
     }
-    if code == 1 {
-        return Tag::Cat;
-    }
-    if code == 2 {
-        return Tag::Val;
-    }
-    if code == 3 { Tag::Close } else { Tag::Prop }
 }
 
 // The kind of a property's code.

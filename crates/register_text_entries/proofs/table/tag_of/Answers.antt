@@ -1,17 +1,17 @@
 use Rattle.register_text_entries.proofs.Cells.{codes}
 use Rattle.register_text_entries.proofs.table.tag_of.Goals as goal
 
-pub returns-then-code-eq0 : goal.returns-then-code-eq0
-returns-then-code-eq0 c = search codes
+pub returns-in-0 : goal.returns-in-0
+returns-in-0 c = search codes
 
-pub returns-then-code-eq1 : goal.returns-then-code-eq1
-returns-then-code-eq1 c = search codes
+pub returns-in-1 : goal.returns-in-1
+returns-in-1 c = search codes
 
-pub returns-then-code-eq2 : goal.returns-then-code-eq2
-returns-then-code-eq2 c = search codes
+pub returns-in-2 : goal.returns-in-2
+returns-in-2 c = search codes
 
-pub returns-then-code-eq3 : goal.returns-then-code-eq3
-returns-then-code-eq3 c = search codes
+pub returns-in-3 : goal.returns-in-3
+returns-in-3 c = search codes
 
-pub returns-else-code-eq3 : goal.returns-else-code-eq3
-returns-else-code-eq3 c = search codes
+pub returns-in_default : goal.returns-in_default
+returns-in_default c = search codes
