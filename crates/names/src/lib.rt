@@ -20,7 +20,8 @@ use table::Table;
 use tables::get_or;
 use text::{Class, all_in, in_class, one_of, part};
 
-// A composed letter of a name, and how many of the bytes that were typed it has; 0 where they begin with none.
+// A composed letter of a name, and how many of the bytes that were typed it has; 0 where they begin with none. No Option: the
+// definitions tell it so, and the tables give the code 0 for none already.
 #[derive(Clone, Copy)]
 pub struct Letter {
     pub code: u16,

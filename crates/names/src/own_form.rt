@@ -88,7 +88,7 @@ pub fn is_own_form(s: &[u8]) -> bool
     own_front(s) == s.len()
 }
 
-// Whether a byte is the first, or the second, of the two of a letter.
+// Whether a byte is the first, or the second, of the two of a letter: two words of the definitions, of a line each.
 fn is_lead(b: u8) -> bool
     ensures { result ≡ is_lead b }
 {

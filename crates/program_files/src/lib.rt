@@ -32,7 +32,7 @@ pub fn read_file<R: Files>(rt: &R, path: &[u8], buf: &mut [u8]) -> io::Result<us
     ensures { Within 0 (length buf.old) result }
 {
     let mut file = file_named(rt, path)?;
-    let mut done: usize = 0;
+    let mut done: usize = 0; // each read tells how far it came, so that no range serves
     while done < buf.len() {
         let n = read_behind(&mut file, buf, done)?;
         if n == 0 {

@@ -1,5 +1,6 @@
 // The readers of a query, a conjunction, a term, a bracket and its alternatives, which call each other. Each call has less text
-// left, or stands lower in the grammar.
+// left, or stands lower in the grammar. What is lent to each is no struct: a struct would hold the tree that is written, and each reader
+// would have to say that it is still the same.
 ghost use Rattle.language.specs.RawQuery.{read_query, read_or, read_conjunction, read_and, read_term, read_body, read_alternatives, read_more, read_alternative};
 ghost use Rattle.query_text_pieces.specs.Places.{from};
 ghost use Rattle.query_text_heads.specs.Effects.{ReadsPart, ReadsOn};

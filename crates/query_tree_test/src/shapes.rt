@@ -70,7 +70,7 @@ pub fn is_good(i: Item) -> bool
     i.kept & !i.leads
 }
 
-// A count of bytes up to the first that is too large; of levels or names.
+// A count of bytes up to the first that is too large; of levels or names. Each is one line by the library's min.
 pub fn up_to_bytes(n: usize) -> u16
     ensures { result ≡ up_to_bytes n }
 {

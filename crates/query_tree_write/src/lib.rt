@@ -23,7 +23,7 @@ pub struct Place {
     pub end: usize,
 }
 
-// What is put of a node: its tag, comparator and number, and its two strings as places in a text.
+// What is put of a node: its tag, comparator and number, and its two strings as places in a text. The tag is the byte that is written.
 #[derive(Clone, Copy)]
 pub struct Entry {
     pub tag: u8,

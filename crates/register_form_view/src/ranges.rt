@@ -51,7 +51,8 @@ pub fn entry_count(h: &[u8], index: Index) -> u16
     }
 }
 
-// How many entries of a list, which ascend, are less than a key: halving.
+// How many entries of a list, which ascend, are less than a key: halving. There is no slice to search: the entries are
+// read out of the form.
 pub fn find(h: &[u8], index: Index, key: &[u8]) -> u16
     ensures { Ranked h.now index key.now result }
 {

@@ -20,6 +20,7 @@ fn property_of(g: u8) -> u16
     u16::from(g.saturating_sub(1))
 }
 
+// The lowest 8 bits.
 fn low_byte(x: u16) -> u8
     ensures { result ≡ x % 256 }
 {

@@ -122,6 +122,7 @@ pub fn kinds_clash(first: Side, second: Side) -> bool
 }
 
 // Puts the pages: each with its forms in the first register and those of the like page of the second, whose terms stand behind so many.
+// The tables come one by one, since identifiers are read while firsts and uses are written.
 fn put_pages(
     h: &[u8],
     g: &[u8],

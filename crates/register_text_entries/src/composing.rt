@@ -13,7 +13,7 @@ use tables::narrow;
 use text::{Class, Span, all_in, part};
 use values::is_value;
 
-// An entry that was copied, and whether it breaks a rule.
+// An entry that was copied, and whether it breaks a rule. No Option: those behind a broken one are copied too, as is said of every row.
 #[derive(Clone, Copy)]
 pub struct Copied {
     pub item: Item,

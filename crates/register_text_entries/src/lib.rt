@@ -37,7 +37,7 @@ pub struct Item {
 pub fn read_all(s: &[u8], t: &mut [u16]) -> Option<usize>
     ensures { Filled s.now t.old t.new result }
 {
-    let mut at: usize = 0;
+    let mut at: usize = 0; // an entry tells where the next begins, so that no range serves
     let mut n: usize = 0;
     let mut inner = false;
     while inner | (at < s.len()) {

@@ -56,6 +56,7 @@ fn piece_of(s: &[u8], item: Item) -> Option<Span>
 }
 
 // Lists the parts that say what the first m of a list of rows declare. False where there is no room or one of them is not in one part.
+// The tables come one by one: a struct of both would be made for this call alone.
 pub fn list_names(
     s: &[u8],
     t: &[u16],

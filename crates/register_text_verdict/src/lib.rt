@@ -32,7 +32,8 @@ pub enum Check {
     Unfit,
 }
 
-// How many properties and pages rows declare.
+// How many properties and pages rows declare. The lists of rows stand in tables with more room, whose counts go with them: a slice cut to
+// each would move what is behind it out of the clauses, which speak of whole tables.
 #[derive(Clone, Copy)]
 pub struct Judged {
     pub props: usize,

@@ -3,7 +3,8 @@
 
 ghost use Rattle.std.specs.Prelude.{◌≡◌, ◌+◌, ◌%◌, get_or, set};
 
-// The lowest 16 and 32 bits of a number, and one more in 16.
+// The lowest 16 and 32 bits of a number, and one more in 16. A TryFrom would refuse what is larger. They are two, since one over both
+// types would be told each type's modulus.
 pub fn narrow(n: usize) -> u16
     ensures { result ≡ n % 65536 }
 {

@@ -76,7 +76,7 @@ pub fn read_scalar(k: Scalar, s: &[u8]) -> Option<u64>
     }
 }
 
-// The lowest code of a scalar kind, and the one above all.
+// The lowest code of a scalar kind, and the one above all: two tables of the definitions.
 fn lowest_code(k: Scalar) -> u64
     ensures { result ≡ lowest k }
 {

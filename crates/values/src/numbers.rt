@@ -92,7 +92,7 @@ fn few_digits(n: u64) -> usize
     }
 }
 
-// How many decimal digits a number has. Four are taken off at a time.
+// How many decimal digits a number has. Four are taken off at a time, for as long as there are so many: how often is what is asked.
 fn digit_count(n: u64) -> usize
     ensures { result ≡ length (digits n) }
 {

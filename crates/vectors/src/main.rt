@@ -107,7 +107,7 @@ fn perform_all(
     held: &mut [u8],
     asked: &mut [u8],
 ) -> io::Result<()> {
-    let mut at: usize = 0;
+    let mut at: usize = 0; // a step tells where the next begins, so that no range serves
     while at < script.len() {
         let step = step_at(script, at);
         let words = part(script, step.start, step.len);
