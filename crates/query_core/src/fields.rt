@@ -18,7 +18,7 @@ pub fn selected_if(fit: bool, selector: Selector) -> Option<Node>
     })
 }
 
-// The places of the two strings in a node's bytes. They are two, since a proof of one place for both would be longer than each.
+// The places of the two strings in a node's bytes: one function by a number of the string would be no shorter.
 #[tactic(auto, unfolding(crate::specs::Held::slot_from))]
 pub fn first_of(b: &[u8]) -> Span
     ensures { result ≡ (slot_from b.now).first }
