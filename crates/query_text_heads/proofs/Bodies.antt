@@ -1,9 +1,8 @@
 -- Laws of heads, pieces and brackets without `::`, and the ways through their functions.
 use Rattle.std.specs.Prelude.{Option, Some, None}
-use Rattle.std.specs.Option.{is_some}
 use Prim.Native.Nat.{ℕ, ◌+◌, ◌-◌, ◌≤◌, ◌<◌, max}
 use mathlib.Core.Path.{◌≡◌, refl, sym, ap, ◌∙◌}
-use mathlib.Core.Bool.{Bool, true, false, cond, not, ◌&&◌, ◌||◌, or-false, false≢true}
+use mathlib.Core.Bool.{Bool, true, false, cond, not, ◌&&◌, ◌||◌, or-false}
 use mathlib.Core.List.{List, [], ◌∷◌, ◌++◌, append_assoc, append-nil}
 use native.Mathlib.Omega.{arith}
 use lib.Dec.{ltb, leb}
@@ -34,7 +33,8 @@ use Rattle.query_tree.specs.Nodes.{Node, tree, tree_in, tree_categories, tree_id
 use Rattle.query_tree.specs.Reading.{node_by}
 use Rattle.query_tree.specs.declared.TreeNode.{TreeNode}
 use Rattle.query_text_heads.specs.Effects.{Effect, noded, one, met, ◌then◌, flagged, After, ReadsPart}
-use Rattle.query_text_heads.specs.Trees.{deeper, effect, effect_in, chain_nodes, chain_effect, value_node, node_of_piece, piece_effect, rest_effect, tail_pieces}
+use Rattle.std.specs.Result.{is_err}
+use Rattle.query_text_heads.specs.Trees.{read_refusal, deeper, effect, effect_in, chain_nodes, chain_effect, value_node, node_of_piece, piece_effect, rest_effect, tail_pieces}
 use Rattle.query_text_heads.specs.declared.Seen.{Seen}
 use Rattle.query_text_heads.proofs.Following.{after_then, after_met, nothing_met, after_noded}
 use Rattle.query_text_heads.proofs.Readings.{same_effect, or_comm, same_test, one_deeper, reads_map}
@@ -105,16 +105,15 @@ module _ (s : Bytes) (p : Placed) (r : Split) (e : split_of s r ≡ reference (p
     unfolding node_of_piece
     node_qualified h = rw (split_as (Some n) q, ← f, ← k, ← g, h) refl
 
--- Whether it breaks a rule: it reads as neither.
-pub broken_is : (s : Bytes) (i : Identifiers) (b r : Bool) (p : Option Read) → read_told s p ≡ only_if (not b) (Some i) → is_some p ≡ not r → r ≡ b
+-- Whether it breaks a rule: it reads as neither, and is refused.
+pub broken_is : (s : Bytes) (i : Identifiers) (b r : Bool) (p : Option Read) → read_told s p ≡ only_if (not b) (Some i) → r ≡ is_err (read_refusal p) → r ≡ b
 unfolding read_told
-broken_is s i true true p h e = refl
-broken_is s i false false p h e = refl
-broken_is s i true false None h e = absurd (false≢true e)
-broken_is s i true false (Some (Read.Namespace x)) h e = cc
-broken_is s i true false (Some (Read.Reference c x)) h e = cc
-broken_is s i false true None h e = cc
-broken_is s i false true (Some x) h e = absurd (false≢true (sym e))
+broken_is s i true r None h e = e
+broken_is s i false r None h e = cc
+broken_is s i true r (Some (Read.Namespace x)) h e = cc
+broken_is s i true r (Some (Read.Reference c x)) h e = cc
+broken_is s i false r (Some (Read.Namespace x)) h e = e
+broken_is s i false r (Some (Read.Reference c x)) h e = e
 
 -- A piece outside property bodies has one node.
 one_node : (p : Piece) → tree_identifiers (identifier_of p) ≡ node_of_piece p ∷ []

@@ -1,13 +1,16 @@
 -- Working definitions: the effects of what is read, by the published definitions.
-use Rattle.std.specs.Prelude.{ℕ, ◌+◌, max, Bool, true, false, cond, List, [], ◌∷◌, ◌++◌, ltb, take, drop, Option, Some}
+use Rattle.std.specs.Prelude.{ℕ, ◌+◌, max, Bool, true, false, cond, List, [], ◌∷◌, ◌++◌, ltb, take, drop, Option, Some, None, Result, Ok, Err}
 use Rattle.text.specs.Bytes.{Bytes, bytes, all, after}
 use Rattle.text.specs.Class.{is_free}
 use Rattle.values.specs.Names.{reference}
 use Rattle.language.specs.Answer.{◌>>=◌, found, only_if}
+use Rattle.language.specs.Refusals.{number_of}
+use Rattle.language.specs.declared.refusals.Refusal.{Refusal}
 use Rattle.language.specs.Surface.{Chain, single, chain}
 use Rattle.language.specs.RawQuery.{Piece, RawQuery, RawAlternatives, read_pieces, split_dots, trim_names, read_alternatives, closed_body}
 use Rattle.language.specs.QueryText.{names_in, depth, depth_in, longest, longest_in, breaks, breaks_in, breaks_value, breaks_value_in, breaks_names, breaks_category, breaks_reference, is_namespace_piece, namespace_of, surface, surface_in}
 use Rattle.query_text_pieces.specs.declared.Placed.{Placed}
+use Rattle.query_text_pieces.specs.declared.Read.{Read}
 use Rattle.query_tree.specs.Nodes.{Node, tree, tree_in}
 use Rattle.query_tree.specs.declared.TreeNode.{TreeNode}
 use Rattle.query_text_heads.specs.Effects.{Effect, noded, one, met, ◌then◌}
@@ -55,3 +58,12 @@ tail_pieces s = found (after (bytes "||") s) read_pieces (after (bytes "]]") s >
 -- A property body whose head has k bytes, and its `]]`.
 unfoldable pub property_body : Bytes → ℕ → Option (RawQuery × Bytes)
 property_body s k = only_if (all is_free (take k s)) (read_alternatives (drop (2 + k) s) >>= λ a. closed_body (trim_names (split_dots (take k s))) a.0 a.1)
+
+-- What a piece outside property bodies is refused by: the name that is neither `namespace:+` nor a reference; and its number, 15.
+abbrev pub read_refusal : Option Read → Result Unit Refusal
+read_refusal (Some (Read.Namespace p)) = Ok tt
+read_refusal (Some (Read.Reference c p)) = Ok tt
+read_refusal None = Err Refusal.BadName
+
+abbrev pub number_of_read : Option Read → ℕ
+number_of_read p = number_of (read_refusal p)

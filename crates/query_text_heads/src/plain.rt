@@ -8,13 +8,15 @@ ghost use Rattle.query_text_pieces.specs.Places.{from, piece_of, head_of, Splits
 ghost use Rattle.query_tree.specs.Nodes.{Node};
 ghost use Rattle.query_tree.specs.Reading.{node_by};
 ghost use Rattle.query_text_heads.specs.Effects.{After, noded, ReadsPart};
-ghost use Rattle.query_text_heads.specs.Trees.{deeper, value_node, node_of_piece, piece_effect, effect_in, chain_effect, rest_effect, tail_pieces, effect};
+ghost use Rattle.query_text_heads.specs.Trees.{deeper, value_node, node_of_piece, piece_effect, effect_in, chain_effect, rest_effect, tail_pieces, effect, read_refusal};
 
 use crate::adding::{add, flag};
 use crate::{Seen, again};
-use language::is_equal;
+use language::{Refusal, is_equal};
 use names::{is_name, is_property_name};
-use query_text_pieces::{Placed, after, category_of, is_existence, piece_at, read_piece, split_at};
+use query_text_pieces::{
+    Placed, Read, after, category_of, is_existence, piece_at, read_piece, split_at,
+};
 use query_tree::TreeNode;
 use text::{Class, Span, part, same_bytes, scan, trimmed};
 use values::{Split, is_value};
@@ -97,12 +99,25 @@ fn identifier_node(s: &[u8], p: Placed, split: Split) -> TreeNode
     }
 }
 
+// Refuses a piece that is neither `namespace:+` nor a reference.
+fn refuse_piece(piece: Option<Read>) -> Result<(), Refusal>
+    ensures { result ≡ read_refusal piece }
+{
+    if let Some(Read::Namespace(_)) = piece {
+        return Ok(());
+    }
+    let Some(Read::Reference(_, _)) = piece else {
+        return Err(Refusal::BadName);
+    };
+    Ok(())
+}
+
 // Whether such a piece breaks a rule.
 fn is_broken(s: &[u8], p: Placed, split: Split) -> bool
     requires { SplitsAt s.now p.text split }
     ensures { result ≡ breaks_reference (piece_of s.now p) }
 {
-    read_piece(s, p, split).is_none()
+    refuse_piece(read_piece(s, p, split)).is_err()
 }
 
 // A piece that is `namespace:+` or a reference.
