@@ -84,7 +84,7 @@ pub fn put_term_starts(t: &mut [u32], n: u16)
     }
 }
 
-// Writes of each of the first n places that it has its own number.
+// Writes of each of the first n places that it has its own number. Two loops of a line, over tables of two types.
 pub fn put_own(t: &mut [u16], n: u16)
     ensures { Filling (λ i. i) t.old n t.new }
 {

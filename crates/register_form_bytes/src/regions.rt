@@ -60,7 +60,8 @@ pub fn put_numbers(h: &mut [u8], at: u16, table: &[u16], n: u16)
     }
 }
 
-// The numbers of a table that the first n of picks name.
+// The numbers of a table that the first n of picks name. It differs from `put_each` in the number that is read: a closure for that would
+// stand in both clauses.
 pub fn put_picked(h: &mut [u8], at: u16, table: &[u16], picks: &[u16], n: u16)
     ensures { h.new ≡ written h.old at (number_bytes (picked table.now picks.now n)) }
 {

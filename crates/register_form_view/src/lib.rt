@@ -30,6 +30,7 @@ use text::{part, same_bytes};
 use values::{Kind, Split};
 
 // The two lists of a dictionary that are in ascending order; texts by a name with no namespace, or by a text.
+// An enum and no closure, as the two tests below: the definitions match on it, so that a clause is one equation.
 #[derive(Clone, Copy)]
 pub enum Index {
     Names,

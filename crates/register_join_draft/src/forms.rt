@@ -20,7 +20,7 @@ fn property_of(g: u8) -> u16
     u16::from(g.saturating_sub(1))
 }
 
-// The lowest 8 bits.
+// The lowest 8 bits: a line for the type that is wanted here, as `narrow` of `tables` is for its own.
 fn low_byte(x: u16) -> u8
     ensures { result ≡ x % 256 }
 {

@@ -25,7 +25,8 @@ pub fn is_declared(what: Declared, tag: Tag) -> bool
     }
 }
 
-// The kind that the first m of a list of rows declare x with.
+// The kind that the first m of a list of rows declare x with. The draft of a text asks for the place too, in a crate above this one, by
+// a definition of its own.
 pub fn property_kind(s: &[u8], t: &[u16], rows: &[u16], m: usize, x: &[u8]) -> Option<Kind>
     ensures { result ≡ kinds_in s.now t.now rows.now m x.now }
 {

@@ -17,14 +17,14 @@ use register_text_entries::read_all;
 use register_text_entries::table::{item_at, put};
 use tests::{count_inner, some_row, twice};
 
-// What a row declares.
+// What a row declares, and what it is tested for. Enums and no closures: the definitions match on them, so that a clause is one equation.
 #[derive(Clone, Copy, Debug, PartialEq, Eq)]
 pub enum Declared {
     Property,
     Page,
 }
 
-// What a row is tested for: refusal 3, 5 or 6.
+// The tests of refusals 3, 5 and 6.
 #[derive(Clone, Copy, Debug, PartialEq, Eq)]
 pub enum Check {
     Rule,

@@ -10,7 +10,7 @@ ghost use Rattle.text.specs.Parts.{Trimmed};
 use std::cmp::Ordering;
 use tables::get_or;
 
-// The byte classes that a scan goes by.
+// The byte classes that a scan goes by. An enum and no closure: the definitions name a class too, so that a clause is one equation.
 #[derive(Clone, Copy)]
 pub enum Class {
     Blank,
