@@ -131,10 +131,31 @@ order_eq (x ∷ s) (y ∷ t) h = go (ltb x y) (ltb y x) refl refl (order_eq s t)
 
 -- The order at a place of both strings.
 module _ (a b : Bytes) (i : ℕ) where
+  pub both_end : length a ≤ i → length b ≤ i → order_of (drop i a) (drop i b) ≡ Equal
+  unfolding order_of
+  both_end p q = rw (drop_of_length-le a p, drop_of_length-le b q)
+
+  pub left_ends : length a ≤ i → i < length b → order_of (drop i a) (drop i b) ≡ Less
+  unfolding order_of
+  left_ends p q = rw (drop_of_length-le a p, drop-cons b i 0 q)
+
+  pub right_ends : i < length a → length b ≤ i → order_of (drop i a) (drop i b) ≡ Greater
+  unfolding order_of
+  right_ends p q = rw (drop-cons a i 0 p, drop_of_length-le b q)
+
   module _ (p : i < length a) (q : i < length b) where
     at_place : order_of (drop i a) (drop i b) ≡ cond (ltb (get_or a i 0) (get_or b i 0)) Less (cond (ltb (get_or b i 0) (get_or a i 0)) Greater (order_of (drop (i + 1) a) (drop (i + 1) b)))
     unfolding order_of
     at_place = rw (drop-cons a i 0 p, drop-cons b i 0 q, add-one)
+
+    pub less_here : get_or a i 0 < get_or b i 0 → order_of (drop i a) (drop i b) ≡ Less
+    less_here h = at_place ∙ rw (lt-ltb _ _ h)
+
+    pub greater_here : get_or b i 0 < get_or a i 0 → order_of (drop i a) (drop i b) ≡ Greater
+    greater_here h = at_place ∙ rw (le-ltb (get_or a i 0) (get_or b i 0) (omega arith), lt-ltb _ _ h)
+
+    pub same_here : get_or b i 0 ≤ get_or a i 0 → get_or a i 0 ≤ get_or b i 0 → order_of (drop i a) (drop i b) ≡ order_of (drop (i + 1) a) (drop (i + 1) b)
+    same_here h k = at_place ∙ rw (le-ltb (get_or a i 0) (get_or b i 0) h, le-ltb (get_or b i 0) (get_or a i 0) k)
 
 -- A word that stands at the front is the text's front.
 pub starts_is : (w s : Bytes) → starts w s ≡ true → take (length w) s ≡ w

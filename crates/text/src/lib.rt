@@ -1,7 +1,7 @@
 // Byte strings: parts of them, their order, the byte classes of the language, words and trimming.
 #![tactic(auto)]
 
-ghost use Rattle.std.specs.Prelude.{◌≡◌, ◌+◌, ◌<◌, eqb, length, get_or, drop};
+ghost use Rattle.std.specs.Prelude.{◌≡◌, ◌+◌, ◌<◌, ◌≤◌, eqb, length, get_or, drop};
 ghost use Rattle.text.specs.Bytes.{any, all, same, order_of, span, starts, trim_end, part as part_from};
 ghost use Rattle.text.specs.Class.{one_of, in_class};
 ghost use Rattle.text.specs.Keys.{key_to};
@@ -83,22 +83,46 @@ pub fn key_at(s: &[u8], at: usize) -> u64
     key_of_eight(part(s, at, 8))
 }
 
-// How two byte strings stand to one another from a place on.
+// How two byte strings stand to one another from a place on, which both have or end at. The strings are mostly short, or differ soon: a
+// loop that is compiled into its callers is faster than the library's `cmp`, which prepares for long ones.
 fn compare_from(a: &[u8], b: &[u8], from: usize) -> Ordering
+    requires { (from ≤ length a.now) × (from ≤ length b.now) }
     ensures { result ≡ order_of (drop from a.now) (drop from b.now) }
 {
-    part(a, from, a.len()).cmp(part(b, from, b.len()))
+    for i in from..a.len() {
+        if b.len() <= i {
+            return Ordering::Greater;
+        }
+        if a[i] < b[i] {
+            return Ordering::Less;
+        }
+        if b[i] < a[i] {
+            return Ordering::Greater;
+        }
+    }
+    if a.len() < b.len() {
+        Ordering::Less
+    } else {
+        Ordering::Equal
+    }
 }
 
-// How two byte strings stand to one another. Eight bytes of each are one number while both have so many: the test of both lengths
-// lets the compiler load them at once.
+// The key of the eight bytes from a place on: one load, since that they are there is asked of the caller and not tested.
+fn key_in(s: &[u8], at: usize) -> u64
+    requires { at + 8 ≤ length s.now }
+    ensures { result ≡ key_to 8 (drop at s.now) }
+{
+    key_of_eight(&s[at..at + 8])
+}
+
+// How two byte strings stand to one another. Eight bytes of each are one number while both have so many.
 pub fn compare_long(a: &[u8], b: &[u8]) -> Ordering
     ensures { result ≡ order_of a.now b.now }
 {
     let blocks = a.len().min(b.len()) / 8;
     for k in 0..blocks {
-        let x = key_at(a, 8 * k);
-        let y = key_at(b, 8 * k);
+        let x = key_in(a, 8 * k);
+        let y = key_in(b, 8 * k);
         if x != y {
             return x.cmp(&y);
         }

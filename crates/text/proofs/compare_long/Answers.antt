@@ -14,7 +14,7 @@ returns-then-x-y c =
     let b : List ℕ = c.args.b.now in
     let s : Small a = λ j. omega (arith, c.type_inv.a j) in
     let t : Small b = λ j. omega (arith, c.type_inv.b j) in
-    (c.cmp.ensures ∙ numbers_cmp _ _) ∙ sym (c.loop-k.invariant ∙ keys_differ a b s t (8 * c.loop-k.k) _ _ c.key_at-x.ensures c.key_at-y.ensures c.if-x-y.true)
+    (c.cmp.ensures ∙ numbers_cmp _ _) ∙ sym (c.loop-k.invariant ∙ keys_differ a b s t (8 * c.loop-k.k) _ _ c.key_in-x.ensures c.key_in-y.ensures c.if-x-y.true)
 
 pub loop-k-preserved : goal.loop-k-preserved
 loop-k-preserved c =
@@ -23,5 +23,5 @@ loop-k-preserved c =
     let s : Small a = λ j. omega (arith, c.type_inv.a j) in
     let t : Small b = λ j. omega (arith, c.type_inv.b j) in
     let e : 8 * c.loop-k.k + 8 ≡ 8 * (c.loop-k.k + 1) = omega arith in
-    let h = c.loop-k.invariant ∙ keys_same a b s t (8 * c.loop-k.k) _ _ c.key_at-x.ensures c.key_at-y.ensures c.if-x-y.false (omega (arith, c.min-blocks.ensures, min-le_left (length a) (length b))) (omega (arith, c.min-blocks.ensures, min-le_right (length a) (length b))) in
+    let h = c.loop-k.invariant ∙ keys_same a b s t (8 * c.loop-k.k) _ _ c.key_in-x.ensures c.key_in-y.ensures c.if-x-y.false (omega (arith, c.min-blocks.ensures, min-le_left (length a) (length b))) (omega (arith, c.min-blocks.ensures, min-le_right (length a) (length b))) in
     rw e at h
