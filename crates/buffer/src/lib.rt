@@ -5,6 +5,7 @@ ghost use Rattle.std.specs.Prelude.{◌≡◌, [], ◌∷◌, ◌⊎◌, ◌+◌
 ghost use Rattle.buffer.specs.Numbers.{two_bytes, eight_bytes, two_at, eight_at, zeros as zeros_of};
 ghost use Rattle.buffer.specs.Tests.{zeros_at, zeros_to};
 ghost use Rattle.buffer.specs.Writing.{written};
+ghost use Rattle.text.specs.Bytes.{part as part_from};
 
 use tables::get_or;
 use text::part;
@@ -47,6 +48,14 @@ fn are_zeros(s: &[u8]) -> bool
     bits == 0
 }
 
+// The 256 bytes from a place on. That they are there is asked and not tested, so that the compiler knows the size.
+fn block(s: &[u8], at: usize) -> &[u8]
+    requires { at + 256 ≤ length s.now }
+    ensures { result.now ≡ part_from s.now at 256 }
+{
+    &s[at..at + 256]
+}
+
 // Whether the n bytes from a place on are 0. In blocks of a size that the compiler knows, which it goes through without a loop.
 pub fn zeros(h: &[u8], from: usize, n: usize) -> bool
     ensures { result ≡ zeros_at h.now from n }
@@ -54,7 +63,7 @@ pub fn zeros(h: &[u8], from: usize, n: usize) -> bool
     let s = part(h, from, n);
     let blocks = s.len() / 256;
     for k in 0..blocks {
-        if !are_zeros(part(s, 256 * k, 256)) {
+        if !are_zeros(block(s, 256 * k)) {
             return false;
         }
     }
@@ -97,6 +106,17 @@ pub fn put_eight(h: &mut [u8], at: usize, n: u64)
     put_two(h, at + 6, d);
 }
 
+// Writes bytes that there is room for. No test stands in the loop, so that a compiler takes many bytes at a time; the library's
+// `copy_from_slice` calls memmove here, for strings of a few bytes.
+fn put_all(h: &mut [u8], at: usize, v: &[u8])
+    requires { at + length v.now ≤ length h.old }
+    ensures { h.new ≡ written h.old at v.now }
+{
+    for i in 0..v.len() {
+        h[at + i] = v[i];
+    }
+}
+
 // Writes a string's bytes, as far as there is room.
 pub fn put_bytes(h: &mut [u8], at: usize, v: &[u8])
     ensures { h.new ≡ written h.old at v.now }
@@ -105,8 +125,7 @@ pub fn put_bytes(h: &mut [u8], at: usize, v: &[u8])
         return;
     }
     let n = v.len().min(h.len() - at);
-    let end = at + n;
-    h[at..end].copy_from_slice(&v[..n]);
+    put_all(h, at, &v[..n]);
 }
 
 // Writes n zeros at the front.
