@@ -4,9 +4,10 @@ use mathlib.Core.Path.{◌≡◌, refl}
 use mathlib.Core.List.{List, [], ◌∷◌}
 use native.Mathlib.Omega.{arith}
 use borrow.Author.Tests.{ne_eqb}
-use lib.ListN.{length, get_or}
+use lib.ListN.{length, get_or, drop, length-take}
 use Rattle.text.specs.Bytes.{Bytes}
 use Rattle.values.specs.Values.{kind_code, kind_from}
+use Rattle.dictionary.specs.Items.{text_at}
 use Rattle.buffer.specs.Numbers.{two_bytes}
 use Rattle.buffer.specs.Writing.{written}
 use Rattle.buffer.proofs.Written.{next, written_past}
@@ -43,3 +44,8 @@ unfolding kind_from
 kind_high b l = rw (ne_eqb b 0 (λ e. omega arith), ne_eqb b 1 (λ e. omega arith), ne_eqb b 2 (λ e. omega arith))
 
 pub ruleset puts = (written_past, property_is, counts_are, kind_low, kind_high)
+
+-- How long a text is.
+pub text_short : (s : Bytes) (starts lens : List ℕ) (i : ℕ) → length (text_at s starts lens i) ≤ get_or lens i 0
+unfolding text_at
+text_short s starts lens i = omega (arith, length-take (get_or lens i 0) (drop (get_or starts i 0) s))

@@ -50,6 +50,11 @@ module _ {A : Type 0} where
   unfolding Filled tabulate
   filled_none n f l e = (e, refl)
 
+  pub filled_more : (n : ℕ) (f : ℕ → A) (l : List A) (i : ℕ) (a : A) → i < n → a ≡ f i → Filled n f l i → Filled n f (set l i a) (i + 1)
+  unfolding Filled tabulate
+  filled_more n f l i a lt e h =
+      (length-set l i a ∙ h.0, rw add-one (take-suc-set l i a (rw h.0 lt) ∙ rw (h.1, e)))
+
 -- counts
 
 pub count_none : (f : ℕ → Bool) → count_to 0 f ≡ 0
