@@ -98,7 +98,7 @@ module _ (s : Bytes) (i : ℕ) (r : Front s i) where
   front_ends l b d n x e z =
       let f : get_or (drop i s) 0 0 ≡ get_or s i 0 = get_or-drop i s 0 0 ∙ rw (add-zero i) in
       let g : get_or (drop i s) 1 0 ≡ b = get_or-drop i s 1 0 ∙ sym d in
-      let k : x ≡ letter_at (drop i s) = rw (f, g) (told_alone (get_or s i 0) b (get_or (drop i s) 2 0) x e n) in
+      let k : x ≡ letter_at (drop i s) = rw (f, g) ((told_alone (get_or s i 0) b (get_or (drop i s) 2 0) (◌≡◌ {A = ℕ} 0 0) x e n).is refl) in
       short_of l (λ h. none_some (take i s) s (sym (ap (prepend (take i s)) (composed_none (drop i s) (omega (arith, length-drop i s)) (rw k at z))) ∙ sym r.is ∙ h))
 
 -- A run of bytes that are code points by themselves.

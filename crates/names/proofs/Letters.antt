@@ -13,7 +13,7 @@ use Rattle.text.specs.Class.{is_name_byte}
 use Rattle.names.specs.Table.{Entry, table, composition}
 use Rattle.names.specs.Codes.{within, is_mark, is_plain, is_wide, is_pair, pair_code, before, read, encode, write}
 use Rattle.names.specs.Names.{compose, is_markless, composed, composed_codes}
-use Rattle.names.specs.Steps.{letter_or0, composed_letter, pair_of, letter_pair, letter, plain_letter, wide_letter, lone_letter, letter_of, letter_at, prepend}
+use Rattle.names.specs.Steps.{letter_or0, composed_letter, pair_of, letter_pair, letter, plain_letter, wide_letter, lone_letter, letter_of, letter_at, prepend, LetterTold}
 use Rattle.names.proofs.Entries.{all_at, composition_is, ranges}
 use Rattle.names.proofs.Reading.{within_true, true_within, paired, plain_range, wide_range, wide_letter_lem, letter_range, mark_range, encode_plain, read_plain, read_pair, read_none, reading, mark_first}
 use Rattle.names.proofs.Composing.{no_composition, no_mark_lem, compose_on, compose_marked}
@@ -279,9 +279,9 @@ encode_size c = go (ltb c 128)
     go true = (omega arith, omega arith)
     go false = (omega arith, omega arith)
 
-pub record Sizes (x : Letter) : Type 0 where
-  pub most : x.width ≤ 3
-  pub shorter : (x.width ≡ 0 → ⊥) → length (encode x.code) ≤ x.width
+record Sizes (x : Letter) : Type 0 where
+  most : x.width ≤ 3
+  shorter : (x.width ≡ 0 → ⊥) → length (encode x.code) ≤ x.width
 
 lone_sizes : (a b : ℕ) → Sizes (lone_letter a b)
 unfolding lone_letter
@@ -292,35 +292,26 @@ lone_sizes a b = go (is_plain a) (eqb (pair_of a b) 0 || is_mark (pair_of a b)) 
     go false true h = record { most = omega arith; shorter = λ k. absurd (k refl) }
     go false false h = record { most = omega arith; shorter = λ k. (encode_size (pair_of a b)).1 }
 
-pub of_sizes : (a b c : ℕ) → Sizes (letter_of a b c)
-unfolding letter_of lone_letter
-of_sizes a b c = go (composed_letter a (pair_of b c)) (eqb (composed_letter a (pair_of b c)) 0) (is_plain a) refl
-  where
-    lone : Sizes (lone_letter a b)
-    lone = lone_sizes a b
-
-    go : (x : ℕ) (z p : Bool) → is_plain a ≡ p → Sizes (cond p (cond z (letter a 1) (letter x 3)) (wide_letter (pair_of a b)))
-    go x z false h = rw h at lone
-    go x true true h = rw h at lone
-    go x false true h = record { most = omega arith; shorter = λ k. omega (arith, (encode_size x).1) }
-
--- The ways to a letter.
-module _ (a b c : ℕ) where
-  told_lone : (x : Letter) → x ≡ lone_letter a b → composed_letter a (pair_of b c) ≡ 0 → x ≡ letter_of a b c
+-- The ways to a letter, by the table T.
+module _ (a b c : ℕ) (T : Type 0) where
+  told_lone : (x : Letter) → x ≡ lone_letter a b → (T → composed_letter a (pair_of b c) ≡ 0) → LetterTold T x (letter_of a b c)
   unfolding letter_of lone_letter
-  told_lone x e h = e ∙ rw h
+  told_lone x e h = record { most = rw e (lone_sizes a b).most; shorter = rw e (lone_sizes a b).shorter; is = λ t. e ∙ rw (h t) }
 
-  pub told_alone : (x : Letter) → x ≡ lone_letter a b → (b ≡ 204 → ⊥) → x ≡ letter_of a b c
-  told_alone x e h = told_lone x e (mark_lead a b c h)
+  pub told_alone : (x : Letter) → x ≡ lone_letter a b → (b ≡ 204 → ⊥) → LetterTold T x (letter_of a b c)
+  told_alone x e h = told_lone x e (λ t. mark_lead a b c h)
 
-  module _ (y m z : ℕ) (g : y ≡ a) (h : m ≡ c) (t : b ≡ 204) (k : z ≡ composed_letter y (640 + m)) where
-    pub told_unmarked : (x : Letter) → x ≡ lone_letter a b → z ≡ 0 → x ≡ letter_of a b c
-    told_unmarked x e q = told_lone x e (rw t (no_marked a c (rw (g, h) at (sym k ∙ q))))
+  module _ (y m z : ℕ) (g : y ≡ a) (h : m ≡ c) (t : b ≡ 204) (k : T → z ≡ composed_letter y (640 + m)) where
+    pub told_unmarked : (x : Letter) → x ≡ lone_letter a b → z ≡ 0 → LetterTold T x (letter_of a b c)
+    told_unmarked x e q = told_lone x e (λ s. rw t (no_marked a c (rw (g, h) at (sym (k s) ∙ q))))
 
-    pub told_marked : (z ≡ 0 → ⊥) → letter z 3 ≡ letter_of a b c
+    pub told_marked : (z ≡ 0 → ⊥) → LetterTold T (letter z 3) (letter_of a b c)
     unfolding letter_of
-    told_marked q =
-        let e : z ≡ composed_letter a (640 + c) = rw (← g, ← h) k in
-        let r = parts_are a (640 + c) (λ n. q (e ∙ n)) in
-        let o : composed_letter a (pair_of 204 c) ≡ z = rw (mark_code c r.1) (sym e) in
-        rw (t, r.0, o, ne_eqb z 0 q)
+    told_marked q = record { most = omega arith; shorter = λ w. omega (arith, (encode_size z).1); is = there }
+      where
+        there : T → letter z 3 ≡ letter_of a b c
+        there s =
+            let e : z ≡ composed_letter a (640 + c) = rw (← g, ← h) (k s) in
+            let r = parts_are a (640 + c) (λ n. q (e ∙ n)) in
+            let o : composed_letter a (pair_of 204 c) ≡ z = rw (mark_code c r.1) (sym e) in
+            rw (t, r.0, o, ne_eqb z 0 q)

@@ -8,7 +8,7 @@ use mathlib.Core.Logic.{◌⊎◌, inl, inr}
 use native.Mathlib.Nat.{add-zero, zero-add}
 use native.Mathlib.Omega.{arith}
 use lib.Dec.{ltb}
-use lib.ListN.{length, get_or, take, drop, length-append, length-drop, drop_of_length-le}
+use lib.ListN.{length, take, drop, length-append, length-drop, drop_of_length-le}
 use lib.Seq.{drop-drop, length-take-le}
 use borrow.Author.Tests.{lt-ltb, eq-eqb, ne_eqb, not-false}
 use Rattle.text.specs.Bytes.{Bytes}
@@ -16,9 +16,8 @@ use Rattle.buffer.specs.Writing.{written}
 use Rattle.buffer.proofs.Written.{length_written, written_none, written_past, written_then, written_longer, next}
 use Rattle.names.specs.Codes.{encode}
 use Rattle.names.specs.Names.{composed, composed_name, is_form, has_name_shape, is_name, is_namespace}
-use Rattle.names.specs.Steps.{letter_at, length_after, name_length, prepend, Front, OwnFront, FormPut, NamePut}
+use Rattle.names.specs.Steps.{letter_at, length_after, name_length, prepend, LetterTold, Front, OwnFront, FormPut, NamePut}
 use Rattle.names.specs.declared.Letter.{Letter}
-use Rattle.names.proofs.Letters.{Sizes, of_sizes}
 use Rattle.names.proofs.Walking.{composed_nothing, composed_none, composed_more}
 use Rattle.names.proofs.Fronts.{prepend_then}
 use Rattle.names.proofs.Naming.{shaped, composed_long, name_none, name_long, own_has, walked_has, shaped_name}
@@ -60,46 +59,44 @@ module _ (s : Bytes) (i : ℕ) (r : OwnFront s i) where
   pub not_all : (i ≡ length s → ⊥) → false ≡ is_form s (composed s)
   not_all n = sym (ne_eqb i (length s) n) ∙ r.whole
 
--- Letters behind the front, up to a place: k is what was there behind the front was written.
-pub record Putting (s k : Bytes) (at front : ℕ) (h : Bytes) (n i : ℕ) : Type 0 where
+-- Letters behind the front, up to a place, by the table T: k is what was there behind the front was written.
+pub record Putting (T : Type 0) (s k : Bytes) (at front : ℕ) (h : Bytes) (n i : ℕ) : Type 0 where
   pub rest : Bytes
   pub long : front + length rest ≡ n
   pub shorter : n ≤ i
   pub put : h ≡ written k (at + front) rest
-  pub is : composed s ≡ prepend (take front s ++ rest) (composed (drop i s))
+  pub is : T → composed s ≡ prepend (take front s ++ rest) (composed (drop i s))
 
-pub letter_sizes : (s : Bytes) (x : Letter) → x ≡ letter_at s → Sizes x
-letter_sizes s x f = rw f (of_sizes (get_or s 0 0) (get_or s 1 0) (get_or s 2 0))
-
-module _ (s k : Bytes) (at front : ℕ) where
-  pub put_front : Front s front → Putting s k at front k front front
+module _ (T : Type 0) (s k : Bytes) (at front : ℕ) where
+  pub put_front : Front s front → Putting T s k at front k front front
   put_front r =
       record {
         rest = [];
         long = add-zero front;
         shorter = omega arith;
         put = sym (written_none k (at + front));
-        is = rw (append-nil (take front s)) r.is;
+        is = λ t. rw (append-nil (take front s)) r.is;
       }
 
-  pub put_next : (h : Bytes) (n i : ℕ) → Putting s k at front h n i → (x : Letter) → x ≡ letter_at (drop i s) → (x.width ≡ 0 → ⊥) → (g : Bytes) (z : ℕ) → g ≡ written h (at + n) (encode x.code) → z ≡ length (encode x.code)
-      → Putting s k at front g (n + z) (i + x.width)
+  pub put_next : (h : Bytes) (n i : ℕ) → Putting T s k at front h n i → (x : Letter) → LetterTold T x (letter_at (drop i s)) → (x.width ≡ 0 → ⊥) → (g : Bytes) (z : ℕ) → g ≡ written h (at + n) (encode x.code) → z ≡ length (encode x.code)
+      → Putting T s k at front g (n + z) (i + x.width)
   put_next h n i r x f w g z e q =
       let v = encode x.code in
       let u : at + n ≡ at + front + length r.rest = omega (arith, r.long) in
       record {
         rest = r.rest ++ v;
         long = omega (arith, length-append r.rest v, r.long, q);
-        shorter = omega (arith, r.shorter, q, (letter_sizes (drop i s) x f).shorter w);
+        shorter = omega (arith, r.shorter, q, f.shorter w);
         put = e ∙ rw (u, r.put) (written_then r.rest v k (at + front));
-        is =
-            let m : composed (drop i s) ≡ prepend v (composed (drop (i + x.width) s)) = rw (composed_more (drop i s) (rw f at w), ← f, drop-drop x.width i s) in
-            r.is ∙ ap (prepend (take front s ++ r.rest)) m ∙ prepend_then (take front s ++ r.rest) v (composed (drop (i + x.width) s)) ∙ rw (append_assoc (take front s) r.rest v);
+        is = λ t.
+            let y = f.is t in
+            let m : composed (drop i s) ≡ prepend v (composed (drop (i + x.width) s)) = rw (composed_more (drop i s) (rw y at w), ← y, drop-drop x.width i s) in
+            r.is t ∙ ap (prepend (take front s ++ r.rest)) m ∙ prepend_then (take front s ++ r.rest) v (composed (drop (i + x.width) s)) ∙ rw (append_assoc (take front s) r.rest v);
       }
 
 -- What was there before.
-module _ (s b : Bytes) (at front : ℕ) (o : Front s front) (v k : Bytes) (d : v ≡ take front s) (c : k ≡ written b at v) where
-  module _ (h : Bytes) (n i : ℕ) (r : Putting s k at front h n i) where
+module _ (T : Type 0) (s b : Bytes) (at front : ℕ) (o : Front s front) (v k : Bytes) (d : v ≡ take front s) (c : k ≡ written b at v) where
+  module _ (h : Bytes) (n i : ℕ) (r : Putting T s k at front h n i) where
     abbrev text : Bytes
     text = take front s ++ r.rest
 
@@ -118,8 +115,8 @@ module _ (s b : Bytes) (at front : ℕ) (o : Front s front) (v k : Bytes) (d : v
     over : length text ≤ length s → written h at s ≡ written b at s
     over l = rw put (written_longer text s b at l)
 
-    pub put_stopped : (x : Letter) → x ≡ letter_at (drop i s) → i < length s → x.width ≡ 0 → FormPut s b at h 0
-    put_stopped x f l w =
+    pub put_stopped : (x : Letter) → LetterTold T x (letter_at (drop i s)) → i < length s → x.width ≡ 0 → T → FormPut s b at h 0
+    put_stopped x f l w t =
         record {
           size = put_size;
           count = rw nothing;
@@ -128,10 +125,10 @@ module _ (s b : Bytes) (at front : ℕ) (o : Front s front) (v k : Bytes) (d : v
         }
       where
         nothing : composed s ≡ None
-        nothing = r.is ∙ ap (prepend text) (composed_none (drop i s) (omega (arith, length-drop i s)) (rw f at w))
+        nothing = r.is t ∙ ap (prepend text) (composed_none (drop i s) (omega (arith, length-drop i s)) (rw (f.is t) at w))
 
-    pub put_done : length s ≤ i → FormPut s b at h n
-    put_done l =
+    pub put_done : length s ≤ i → T → FormPut s b at h n
+    put_done l t =
         record {
           size = put_size;
           count = rw form (omega (arith, long));
@@ -140,7 +137,7 @@ module _ (s b : Bytes) (at front : ℕ) (o : Front s front) (v k : Bytes) (d : v
         }
       where
         form : composed s ≡ Some text
-        form = let m : composed (drop i s) ≡ Some [] = rw (drop_of_length-le s l) composed_nothing in r.is ∙ ap (prepend text) m ∙ ap Some (append-nil text)
+        form = let m : composed (drop i s) ≡ Some [] = rw (drop_of_length-le s l) composed_nothing in r.is t ∙ ap (prepend text) m ∙ ap Some (append-nil text)
 
 -- A name judged and composed.
 module _ (s b : Bytes) (at : ℕ) (p : Bool) (f : p ≡ has_name_shape s) where

@@ -13,7 +13,7 @@ use Rattle.buffer.specs.Writing.{written}
 use Rattle.buffer.proofs.Written.{next}
 use Rattle.names.specs.Codes.{is_plain, is_pair, read, encode, write}
 use Rattle.names.specs.Names.{compose, composed}
-use Rattle.names.specs.Steps.{pair_of, letter, letter_of, letter_at, prepend}
+use Rattle.names.specs.Steps.{pair_of, letter, letter_of, letter_at, prepend, LetterTold}
 use Rattle.names.specs.declared.Letter.{Letter}
 use Rattle.names.proofs.Letters.{composed_step}
 
@@ -66,11 +66,17 @@ composed_split a s t h P f = go (letter_at (a ∷ s)).width refl
         rest w e (composed (drop w s)) refl (rw e at (sym (composed_more (a ∷ s) (λ k. let z : suc w ≡ 0 = sym e ∙ k in omega arith)) ∙ h))
 
 -- The letter at a place.
-pub letter_past : (s : Bytes) (i : ℕ) → length s ≤ i → letter 0 0 ≡ letter_at (drop i s)
+letter_past : (s : Bytes) (i : ℕ) → length s ≤ i → letter 0 0 ≡ letter_at (drop i s)
 letter_past s i l = rw (drop_of_length-le s l) (sym letter_empty)
 
-pub letter_here : (s : Bytes) (i a b c : ℕ) (x : Letter) → a ≡ get_or s i 0 → b ≡ get_or s (i + 1) 0 → c ≡ get_or s (i + 2) 0 → x ≡ letter_of a b c → x ≡ letter_at (drop i s)
+letter_here : (s : Bytes) (i a b c : ℕ) (x : Letter) → a ≡ get_or s i 0 → b ≡ get_or s (i + 1) 0 → c ≡ get_or s (i + 2) 0 → x ≡ letter_of a b c → x ≡ letter_at (drop i s)
 letter_here s i a b c x e f g h = h ∙ rw (e, f, g, get_or-drop i s 0 0, get_or-drop i s 1 0, get_or-drop i s 2 0, add-zero i)
+
+pub told_past : (T : Type 0) (s : Bytes) (i : ℕ) → length s ≤ i → LetterTold T (letter 0 0) (letter_at (drop i s))
+told_past T s i l = record { most = omega arith; shorter = λ w. absurd (w refl); is = λ t. letter_past s i l }
+
+pub told_here : (T : Type 0) (s : Bytes) (i a b c : ℕ) (x : Letter) → a ≡ get_or s i 0 → b ≡ get_or s (i + 1) 0 → c ≡ get_or s (i + 2) 0 → LetterTold T x (letter_of a b c) → LetterTold T x (letter_at (drop i s))
+told_here T s i a b c x e f g h = record { most = h.most; shorter = h.shorter; is = λ t. letter_here s i a b c x e f g (h.is t) }
 
 -- A code point below 2,048 in one byte and in two.
 module _ (h : Bytes) (at c : ℕ) where

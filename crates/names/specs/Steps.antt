@@ -4,9 +4,10 @@ use Rattle.text.specs.Bytes.{Bytes}
 use Rattle.text.specs.Table.{tabulate}
 use Rattle.names.specs.Table.{Entry, table, composition}
 use Rattle.buffer.specs.Writing.{written}
-use Rattle.names.specs.Codes.{within, is_mark, is_plain, is_pair, pair_code}
+use Rattle.names.specs.Codes.{within, is_mark, is_plain, is_pair, pair_code, encode}
 use Rattle.names.specs.Names.{composed, composed_name, is_form, is_name, is_namespace}
 use Rattle.names.specs.declared.Letter.{Letter}
+use Rattle.names.specs.declared.Lent.{Lent}
 
 unfoldable pub letters : List ℕ
 letters = map (λ e. e.letter) table
@@ -32,6 +33,10 @@ places = tabulate 644 (λ k. place k table)
 -- The table as it is lent.
 abbrev pub IsTable : List ℕ → List ℕ → List ℕ → List ℕ → Type 0
 IsTable p l m c = (p ≡ places) × (l ≡ letters) × (m ≡ marks) × (c ≡ composed_letters)
+
+-- The four arrays that are lent are those of the table.
+abbrev pub IsLent : Lent → Type 0
+IsLent t = IsTable t.places.now t.letters.now t.marks.now t.codes.now
 
 -- 0 for none.
 abbrev pub letter_or0 : Option Entry → ℕ
@@ -98,6 +103,13 @@ length_after n (Some t) = n + length t
 -- How long the composed form of a name is; 0 for what is none.
 unfoldable pub name_length : Bytes → ℕ
 name_length s = cond (is_name s) (length_after 0 (composed s)) 0
+
+-- A letter x that a function answers, where T says that it was lent the table: it is y. Its width, and that it has no more bytes when
+-- it is composed, hold without that.
+pub record LetterTold (T : Type 0) (x y : Letter) : Type 0 where
+  pub most : x.width ≤ 3
+  pub shorter : (x.width ≡ 0 → ⊥) → length (encode x.code) ≤ x.width
+  pub is : T → x ≡ y
 
 -- What writing the composed form of s over b answers: how long it is, 0 for none. The text itself may then be written in its place.
 pub record FormPut (s b : Bytes) (at : ℕ) (c : Bytes) (r : ℕ) : Type 0 where

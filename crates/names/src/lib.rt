@@ -5,7 +5,7 @@ ghost use Rattle.std.specs.Prelude.{◌≡◌, ◌+◌, ◌<◌, ◌^◌, length
 ghost use Rattle.buffer.specs.Writing.{written};
 ghost use Rattle.names.specs.Codes.{encode};
 ghost use Rattle.names.specs.Names.{composed_name, has_name_shape, is_name, is_property_name, is_namespace, is_composed_name, is_composed_property_name, is_composed_namespace};
-ghost use Rattle.names.specs.Steps.{letter_pair, lone_letter, letter_of, letter_at, Front, FormPut};
+ghost use Rattle.names.specs.Steps.{IsLent, letter_pair, lone_letter, letter_of, letter_at, LetterTold, Front, FormPut};
 
 pub mod composed_codes; // composed_codes.rt: the composed letters of the table
 pub mod letter_codes; // letter_codes.rt: its letters
@@ -16,7 +16,7 @@ pub mod table; // table.rt: a letter and a mark looked up in it
 
 use buffer::{put_byte, put_bytes};
 use own_form::{is_own_form, is_plain, own_front};
-use table::Table;
+use table::{Table, composed_letter};
 use tables::get_or;
 use text::{Class, all_in, in_class, one_of, part};
 
@@ -57,16 +57,32 @@ fn lone_letter(a: u8, b: u8) -> Letter
     Letter { code, width: 2 }
 }
 
-impl Table {
+// Four arrays that are lent: those of the table, or others, whose letters nothing is told of.
+#[derive(Clone, Copy)]
+struct Lent<'a> {
+    places: &'a [u8],
+    letters: &'a [u16],
+    marks: &'a [u16],
+    codes: &'a [u16],
+}
+
+impl Lent<'_> {
     // The composed letter that three bytes begin with. The table is asked only where the second is 204, as of every mark; the third
     // then tells the mark.
-    fn letter_of(&self, a: u8, b: u8, c: u8) -> Letter
-        ensures { result ≡ letter_of a b c }
+    fn letter_of(self, a: u8, b: u8, c: u8) -> Letter
+        ensures { LetterTold (IsLent self.entry) result (letter_of a b c) }
     {
         if b != 204 {
             return lone_letter(a, b);
         }
-        let code = self.composed_letter(u16::from(a), 640 + u16::from(c));
+        let code = composed_letter(
+            self.places,
+            self.letters,
+            self.marks,
+            self.codes,
+            u16::from(a),
+            640 + u16::from(c),
+        );
         if code == 0 {
             return lone_letter(a, b);
         }
@@ -74,8 +90,8 @@ impl Table {
     }
 
     // The composed letter at a place.
-    fn letter_at(&self, s: &[u8], i: usize) -> Letter
-        ensures { result ≡ letter_at (drop i s.now) }
+    fn letter_at(self, s: &[u8], i: usize) -> Letter
+        ensures { LetterTold (IsLent self.entry) result (letter_at (drop i s.now)) }
     {
         if s.len() <= i {
             return Letter { code: 0, width: 0 };
@@ -143,15 +159,15 @@ fn put_code(h: &mut [u8], at: usize, code: u16)
 
 // Goes over a text once, from a place up to which it is its own composed form: writes that form, letter by letter, and tells how long
 // it is, 0 where there is none.
-fn compose_from(table: &Table, h: &mut [u8], at: usize, s: &[u8], front: usize) -> usize
+fn compose_from(lent: Lent, h: &mut [u8], at: usize, s: &[u8], front: usize) -> usize
     requires { Front s.now front × (at + length s.now < 2 ^ 64) }
-    ensures { FormPut s.now h.old at h.new result }
+    ensures { IsLent lent.entry → FormPut s.now h.old at h.new result }
 {
     put_bytes(h, at, part(s, 0, front));
     let mut n = front;
     let mut i = front; // a letter has up to three bytes, so that no range of places serves
     while i < s.len() {
-        let x = table.letter_at(s, i);
+        let x = lent.letter_at(s, i);
         let w = x.width;
         if w == 0 {
             return 0;
@@ -169,7 +185,7 @@ fn compose_rest(h: &mut [u8], at: usize, s: &[u8], front: usize) -> usize
     ensures { FormPut s.now h.old at h.new result }
 {
     let table = Table::new();
-    compose_from(&table, h, at, s, front)
+    compose_from(table.lent(), h, at, s, front)
 }
 
 // Whether the bytes are a name.

@@ -4,29 +4,11 @@ ghost use Rattle.names.specs.Steps.{IsTable, NamePut};
 
 use super::own_form::own_front;
 use super::table::Table;
-use super::{compose_from, has_name_shape};
+use super::{Lent, compose_from, has_name_shape};
 use buffer::put_bytes;
 
-impl Table {
-    // Judges a name and writes its composed form: how long that is, 0 where the bytes are no name. The table is lent, so that it is not
-    // made anew for each name.
-    pub fn put_name(&self, h: &mut [u8], at: u16, s: &[u8]) -> usize
-        ensures { NamePut s.now h.old at h.new result }
-    {
-        if !has_name_shape(s) {
-            return 0;
-        }
-        let start = usize::from(at);
-        let front = own_front(s);
-        if front == s.len() {
-            put_bytes(h, start, s);
-            return front;
-        }
-        compose_from(self, h, start, s, front)
-    }
-}
-
-// The same by four tables lent one by one. It takes what it took before there was a `Table`, since docs/CLAIMS.md names it.
+// Judges a name and writes its composed form: how long that is, 0 where the bytes are no name. The tables are lent, so that they are not
+// made anew for each name.
 pub fn put_name(
     places: &[u8],
     letters: &[u16],
@@ -38,5 +20,30 @@ pub fn put_name(
 ) -> usize
     ensures { IsTable places.now letters.now marks.now codes.now → NamePut s.now h.old at h.new result }
 {
-    Table::new().put_name(h, at, s)
+    if !has_name_shape(s) {
+        return 0;
+    }
+    let start = usize::from(at);
+    let front = own_front(s);
+    if front == s.len() {
+        put_bytes(h, start, s);
+        return front;
+    }
+    let lent = Lent {
+        places,
+        letters,
+        marks,
+        codes,
+    };
+    compose_from(lent, h, start, s, front)
+}
+
+impl Table {
+    // The same by the table.
+    pub fn put_name(&self, h: &mut [u8], at: u16, s: &[u8]) -> usize
+        ensures { NamePut s.now h.old at h.new result }
+    {
+        let lent = self.lent();
+        put_name(lent.places, lent.letters, lent.marks, lent.codes, h, at, s)
+    }
 }
