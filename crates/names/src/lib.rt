@@ -57,7 +57,8 @@ fn lone_letter(a: u8, b: u8) -> Letter
     Letter { code, width: 2 }
 }
 
-// Four arrays that are lent: those of the table, or others, whose letters nothing is told of.
+// Four arrays that are lent: those of the table, or others, whose letters nothing is told of. What goes by them is compiled into its
+// callers, so that their lengths are known where a Table lends them.
 #[derive(Clone, Copy)]
 struct Lent<'a> {
     places: &'a [u8],
@@ -69,8 +70,9 @@ struct Lent<'a> {
 impl Lent<'_> {
     // The composed letter that three bytes begin with. The table is asked only where the second is 204, as of every mark; the third
     // then tells the mark.
-    fn letter_of(self, a: u8, b: u8, c: u8) -> Letter
-        ensures { LetterTold (IsLent self.entry) result (letter_of a b c) }
+    #[inline(always)]
+    fn letter_of(&self, a: u8, b: u8, c: u8) -> Letter
+        ensures { LetterTold (IsLent self.now) result (letter_of a b c) }
     {
         if b != 204 {
             return lone_letter(a, b);
@@ -90,8 +92,9 @@ impl Lent<'_> {
     }
 
     // The composed letter at a place.
-    fn letter_at(self, s: &[u8], i: usize) -> Letter
-        ensures { LetterTold (IsLent self.entry) result (letter_at (drop i s.now)) }
+    #[inline(always)]
+    fn letter_at(&self, s: &[u8], i: usize) -> Letter
+        ensures { LetterTold (IsLent self.now) result (letter_at (drop i s.now)) }
     {
         if s.len() <= i {
             return Letter { code: 0, width: 0 };
@@ -159,9 +162,10 @@ fn put_code(h: &mut [u8], at: usize, code: u16)
 
 // Goes over a text once, from a place up to which it is its own composed form: writes that form, letter by letter, and tells how long
 // it is, 0 where there is none.
-fn compose_from(lent: Lent, h: &mut [u8], at: usize, s: &[u8], front: usize) -> usize
+#[inline(always)]
+fn compose_from(lent: &Lent, h: &mut [u8], at: usize, s: &[u8], front: usize) -> usize
     requires { Front s.now front × (at + length s.now < 2 ^ 64) }
-    ensures { IsLent lent.entry → FormPut s.now h.old at h.new result }
+    ensures { IsLent lent.now → FormPut s.now h.old at h.new result }
 {
     put_bytes(h, at, part(s, 0, front));
     let mut n = front;
@@ -185,7 +189,7 @@ fn compose_rest(h: &mut [u8], at: usize, s: &[u8], front: usize) -> usize
     ensures { FormPut s.now h.old at h.new result }
 {
     let table = Table::new();
-    compose_from(table.lent(), h, at, s, front)
+    compose_from(&table.lent(), h, at, s, front)
 }
 
 // Whether the bytes are a name.

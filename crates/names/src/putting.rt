@@ -8,7 +8,8 @@ use super::{Lent, compose_from, has_name_shape};
 use buffer::put_bytes;
 
 // Judges a name and writes its composed form: how long that is, 0 where the bytes are no name. The tables are lent, so that they are not
-// made anew for each name.
+// made anew for each name. It is compiled into its callers, as compose_from is.
+#[inline(always)]
 pub fn put_name(
     places: &[u8],
     letters: &[u16],
@@ -35,7 +36,7 @@ pub fn put_name(
         marks,
         codes,
     };
-    compose_from(lent, h, start, s, front)
+    compose_from(&lent, h, start, s, front)
 }
 
 impl Table {
