@@ -1,5 +1,5 @@
 // What is asked of a term, and of the terms of a page.
-ghost use Rattle.std.specs.Prelude.{ℕ, ◌≡◌, Bool, ◌&&◌};
+ghost use Rattle.std.specs.Prelude.{ℕ, ◌≡◌, Bool, false, ◌&&◌, get_or};
 ghost use Rattle.text.specs.Bytes.{any};
 ghost use Rattle.text.specs.Table.{tabulate};
 ghost use Rattle.pageset.specs.Marks.{marks_from};
@@ -102,7 +102,7 @@ fn link_meant(
 }
 
 // Whether the value of term f, of a kind, passes a test, which has a rank.
-pub fn value_passes(h: &[u8], f: u16, k: Kind, test: ValueTest, q: &[u8], rank: Rank) -> bool
+fn value_passes(h: &[u8], f: u16, k: Kind, test: ValueTest, q: &[u8], rank: Rank) -> bool
     ensures { result ≡ passes_at h.now q.now rank test k f }
 {
     match test {
@@ -122,7 +122,7 @@ fn marked_at(words: &[u64], place: usize) -> bool
 }
 
 // Whether the value of term f, of a kind, leads to a page of a set.
-pub fn leads_into(h: &[u8], places: &[u16], f: u16, k: Kind, words: &[u64]) -> bool
+fn leads_into(h: &[u8], places: &[u16], f: u16, k: Kind, words: &[u64]) -> bool
     ensures { result ≡ leads_into h.now places.now (marks_from words.now) k f }
 {
     match k {
@@ -147,14 +147,14 @@ pub fn forms_between(h: &[u8], start: u16, end: u16) -> &[u8]
 }
 
 // Whether term f is of a range.
-pub fn is_within(range: TermRange, f: u16) -> bool
+fn is_within(range: TermRange, f: u16) -> bool
     ensures { result ≡ within range f }
 {
     (range.low <= f) & (f < range.high)
 }
 
 // Which terms are of a range and pass a test: each is tested once.
-pub fn terms_where<F: Fn(u16) -> bool>(range: TermRange, test: F) -> TermSet
+fn terms_where<F: Fn(u16) -> bool>(range: TermRange, test: F) -> TermSet
     requires { F.IsAlwaysCallable test }
     ensures { (p : ℕ → Bool) → Tells (F.post test) p → result.marks ≡ tabulate 2048 (λ f. within range f && p f) }
 {
@@ -165,8 +165,22 @@ pub fn terms_where<F: Fn(u16) -> bool>(range: TermRange, test: F) -> TermSet
     TermSet { marks }
 }
 
+// Which terms are of a range and pass a test of their values.
+pub fn terms_passing(h: &[u8], range: TermRange, test: ValueTest, q: &[u8], rank: Rank) -> TermSet
+    ensures { result.marks ≡ tabulate 2048 (λ f. within range f && passes_at h.now q.now rank test range.kind f) }
+{
+    terms_where(range, |f| value_passes(h, f, range.kind, test, q, rank))
+}
+
+// Which terms are of a range and lead to a page of a set.
+pub fn terms_leading(h: &[u8], places: &[u16], range: TermRange, words: &[u64]) -> TermSet
+    ensures { result.marks ≡ tabulate 2048 (λ f. within range f && leads_into h.now places.now (marks_from words.now) range.kind f) }
+{
+    terms_where(range, |f| leads_into(h, places, f, range.kind, words))
+}
+
 // Whether one of the terms whose numbers stand in the bytes passes a test. All are looked at: leaving at the first gains nothing.
-pub fn some_form<F: Fn(u16) -> bool>(forms: &[u8], test: &F) -> bool
+fn some_form<F: Fn(u16) -> bool>(forms: &[u8], test: &F) -> bool
     requires { F.IsAlwaysCallable test.now }
     ensures { (p : ℕ → Bool) → Tells (F.post test.now) p → result ≡ any p (numbers_in forms.now) }
 {
@@ -175,4 +189,18 @@ pub fn some_form<F: Fn(u16) -> bool>(forms: &[u8], test: &F) -> bool
         some = some | test(two_at(forms, 2 * k));
     }
     some
+}
+
+// Whether one of them is of a range.
+pub fn some_within(forms: &[u8], range: TermRange) -> bool
+    ensures { result ≡ any (within range) (numbers_in forms.now) }
+{
+    some_form(forms, &|f| is_within(range, f))
+}
+
+// Whether one of them is marked.
+pub fn some_marked(forms: &[u8], wanted: &[bool]) -> bool
+    ensures { result ≡ any (λ f. get_or wanted.now f false) (numbers_in forms.now) }
+{
+    some_form(forms, &|f| get_or(wanted, usize::from(f), false))
 }

@@ -1,9 +1,6 @@
 use mathlib.Core.Path.{◌∙◌}
-use Rattle.std.proofs.Common.{rules}
-use Rattle.register_form_view.specs.View.{Tells}
 use Rattle.register_form_view.proofs.Holding.{property_pages}
 use Rattle.register_form_view.proofs.pages.pages_with_property.Goals as goal
 
 pub returns : goal.returns
-unfolding Tells
-returns c = λ places R o. c.pages_with.ensures _ (λ f r b e. search rules) ∙ property_pages o _ _ (c.property_range-range.ensures places R o)
+returns c = λ places R o. c.pages_within.ensures ∙ property_pages o _ _ (c.property_range.ensures places R o)

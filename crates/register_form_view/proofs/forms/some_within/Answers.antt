@@ -1,0 +1,7 @@
+use Rattle.std.proofs.Common.{rules}
+use Rattle.register_form_view.specs.View.{Tells}
+use Rattle.register_form_view.proofs.forms.some_within.Goals as goal
+
+pub returns : goal.returns
+unfolding Tells
+returns c = c.some_form.ensures _ (λ f r b e. search rules)
