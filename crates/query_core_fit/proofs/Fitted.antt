@@ -1,7 +1,7 @@
 -- What fitting a tree answers, by what was called.
 use Rattle.std.specs.Prelude.{Option, Some, None, Ok, Err}
 use Prim.Native.Nat.{ℕ, ◌+◌, ◌≤◌, ◌<◌, min}
-use mathlib.Core.Path.{◌≡◌, sym, ap, subst, ◌∙◌}
+use mathlib.Core.Path.{◌≡◌, refl, sym, ap, subst, ◌∙◌}
 use mathlib.Core.Bool.{Bool, true, false, cond}
 use mathlib.Core.List.{[], append-nil}
 use native.Mathlib.Omega.{arith}
@@ -60,6 +60,7 @@ module _ (t g : Bytes) (n w : ℕ) (u : Bool) (there : w ≡ two_at t 0) (wide :
       record {
         number = λ q e s z. rw (sym (named q e) ∙ f);
         bytes = λ q c e s z a. absurd (let y : refused 17 ≡ accepted c = sym (let b : fit Γ q ≡ refused 17 = rw (sym (named q e) ∙ f) in b) ∙ a in let x : ◌≡◌ {A = ℕ} 0 1 = cc in omega arith);
+        among = refl;
       }
 
   module _ (no : u ≡ false) (h h₁ : Bytes) (v : Option Place) (put : Fits tree (core_of_query (kinds_of (register_in g))) (nodes_in t) n h start v h₁) where
@@ -78,6 +79,7 @@ module _ (t g : Bytes) (n w : ℕ) (u : Bool) (there : w ≡ two_at t 0) (wide :
         record {
           number = λ q e s z. rw (declared_is q e, none_there q e);
           bytes = λ q c e s z a. absurd (let y : refused 18 ≡ accepted c = sym (let b : fit Γ q ≡ refused 18 = rw (declared_is q e, none_there q e) in b) ∙ a in let x : ◌≡◌ {A = ℕ} 0 1 = cc in omega arith);
+          among = refl;
         }
       where
         none_there : (q : Query) → nodes_in t ≡ tree q → elaborate q Γ ≡ None
@@ -103,6 +105,7 @@ module _ (t g : Bytes) (n w : ℕ) (u : Bool) (there : w ≡ two_at t 0) (wide :
           record {
             number = λ q e s z. rw (many q e z);
             bytes = λ q c e s z a. absurd (let y : refused 19 ≡ accepted c = sym (many q e z) ∙ a in let x : ◌≡◌ {A = ℕ} 0 1 = cc in omega arith);
+            among = refl;
           }
         where
           many : (q : Query) → nodes_in t ≡ tree q → h ≡ zeros query_size → fit Γ q ≡ refused 19
@@ -118,6 +121,7 @@ module _ (t g : Bytes) (n w : ℕ) (u : Bool) (there : w ≡ two_at t 0) (wide :
                 let d = laid_core q e z in
                 let same : d.core ≡ c = (let y : accepted d.core ≡ accepted c = sym (accepts q e z) ∙ a in cc) in
                 written q s d ∙ ap query_of same;
+            among = refl;
           }
         where
           accepts : (q : Query) (e : nodes_in t ≡ tree q) (z : h ≡ zeros query_size) → fit Γ q ≡ accepted (laid_core q e z).core
