@@ -4,7 +4,6 @@ use Rattle.text.specs.Bytes.{Bytes, bytes, all, after}
 use Rattle.text.specs.Class.{is_free}
 use Rattle.values.specs.Names.{reference}
 use Rattle.language.specs.Answer.{◌>>=◌, found, only_if}
-use Rattle.language.specs.Refusals.{number_of}
 use Rattle.language.specs.declared.refusals.Refusal.{Refusal}
 use Rattle.language.specs.Surface.{Chain, single, chain}
 use Rattle.language.specs.RawQuery.{Piece, RawQuery, RawAlternatives, read_pieces, split_dots, trim_names, read_alternatives, closed_body}
@@ -59,11 +58,14 @@ tail_pieces s = found (after (bytes "||") s) read_pieces (after (bytes "]]") s >
 unfoldable pub property_body : Bytes → ℕ → Option (RawQuery × Bytes)
 property_body s k = only_if (all is_free (take k s)) (read_alternatives (drop (2 + k) s) >>= λ a. closed_body (trim_names (split_dots (take k s))) a.0 a.1)
 
--- What a piece outside property bodies is refused by: the name that is neither `namespace:+` nor a reference; and its number, 15.
+-- What a piece outside property bodies is refused by: the name that is neither `namespace:+` nor a reference.
 abbrev pub read_refusal : Option Read → Result Unit Refusal
 read_refusal (Some (Read.Namespace p)) = Ok tt
 read_refusal (Some (Read.Reference c p)) = Ok tt
 read_refusal None = Err Refusal.BadName
 
+-- The number of what is refused, 15, or 0.
 abbrev pub number_of_read : Option Read → ℕ
-number_of_read p = number_of (read_refusal p)
+number_of_read (Some (Read.Namespace p)) = 0
+number_of_read (Some (Read.Reference c p)) = 0
+number_of_read None = 15

@@ -4,11 +4,12 @@ ghost use Rattle.text.specs.Parts.{part_of};
 ghost use Rattle.names.specs.Names.{is_name};
 ghost use Rattle.language.specs.RawQuery.{RawAlternatives, plain_body};
 ghost use Rattle.language.specs.QueryText.{breaks_reference};
+ghost use Rattle.language.specs.Refusals.{number_of};
 ghost use Rattle.query_text_pieces.specs.Places.{from, piece_of, head_of, SplitsAt};
 ghost use Rattle.query_tree.specs.Nodes.{Node};
 ghost use Rattle.query_tree.specs.Reading.{node_by};
 ghost use Rattle.query_text_heads.specs.Effects.{After, noded, ReadsPart};
-ghost use Rattle.query_text_heads.specs.Trees.{deeper, value_node, node_of_piece, piece_effect, effect_in, chain_effect, rest_effect, tail_pieces, effect, read_refusal};
+ghost use Rattle.query_text_heads.specs.Trees.{deeper, value_node, node_of_piece, piece_effect, effect_in, chain_effect, rest_effect, tail_pieces, effect, read_refusal, number_of_read};
 
 use crate::adding::{add, flag};
 use crate::{Seen, again};
@@ -101,7 +102,8 @@ fn identifier_node(s: &[u8], p: Placed, split: Split) -> TreeNode
 
 // Refuses a piece that is neither `namespace:+` nor a reference.
 fn refuse_piece(piece: Option<Read>) -> Result<(), Refusal>
-    ensures { result ≡ read_refusal piece }
+    ensures refusal { result ≡ read_refusal piece }
+    ensures number { number_of result ≡ number_of_read piece }
 {
     if let Some(Read::Namespace(_)) = piece {
         return Ok(());
