@@ -18,7 +18,8 @@ use Rattle.text.specs.Bytes.{Bytes, order_of}
 use Rattle.std.specs.declared.cmp.Ordering.{Ordering}
 use Rattle.std.specs.declared.cmp.Ordering.TheVariants.{Less, Equal, Greater}
 use Rattle.register_form.specs.Form.{text_count, text_at}
-use Rattle.register_join_merge.specs.Merging.{next_order, next_text, Pasted, Added, Noted}
+use Rattle.register_join_merge.specs.declared.Heap.{Heap}
+use Rattle.register_join_merge.specs.Merging.{next_order, next_text, Pasted, Added, Noted, SameSlices}
 
 module _ (h g : Bytes) (i j : ℕ) where
   pub order_first : (m : ℕ) → m ≡ text_count g → m ≤ j → Less ≡ next_order h g i j
@@ -69,5 +70,12 @@ note_taken l u i k w r taken t e f g = rw t (record { is = f ∙ ap (λ (x : ℕ
 
 pub note_left : (l : List ℕ) (i k : ℕ) (taken : Bool) → taken ≡ false → Noted l i k taken l i
 note_left l i k taken t = rw t (record { is = refl; next = λ b. omega arith })
+
+-- The slices that are lent stay the same from step to step.
+pub same_start : (a : Heap) → SameSlices a a
+same_start a = record { bytes = refl; starts = refl; lens = refl }
+
+pub same_more : (a b c : Heap) → SameSlices a b → SameSlices b c → SameSlices a c
+same_more a b c s t = record { bytes = t.bytes ∙ s.bytes; starts = t.starts ∙ s.starts; lens = t.lens ∙ s.lens }
 
 pub ruleset merging = (order_first, order_second, order_both, text_less, text_equal, text_greater, added_is, note_taken, note_left)

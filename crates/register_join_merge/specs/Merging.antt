@@ -9,6 +9,7 @@ use Rattle.dictionary.specs.Items.{text_at as item_at}
 use Rattle.register_form.specs.Form.{text_count, text_at, dictionary_in}
 use Rattle.register_form.specs.Formed.{Formed}
 use Rattle.register_join_merge.specs.Merged.{Merged}
+use Rattle.register_join_merge.specs.declared.Heap.{Heap}
 
 -- How the next texts stand to one another; a register with no text left stands behind.
 unfoldable pub next_order : Bytes → Bytes → ℕ → ℕ → Ordering
@@ -41,6 +42,12 @@ pub record Added (heap : Bytes) (starts lens : List ℕ) (k end : ℕ) (t u : By
   pub pasted : Pasted heap end t u r
   pub starts_are : ss ≡ set starts k (end % 4294967296)
   pub lens_are : ls ≡ set lens k (length t % 65536)
+
+-- The same slices are lent: whoever lent them knows what they hold by what the heap shows.
+pub record SameSlices (a b : Heap) : Type 0 where
+  pub bytes : b.bytes.ghost_name ≡ a.bytes.ghost_name
+  pub starts : b.starts.ghost_name ≡ a.starts.ghost_name
+  pub lens : b.lens.ghost_name ≡ a.lens.ghost_name
 
 -- The number i, and one more where it is taken, which is noted as item k.
 pub record Noted (l : List ℕ) (i k : ℕ) (taken : Bool) (u : List ℕ) (r : ℕ) : Type 0 where

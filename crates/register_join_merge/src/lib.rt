@@ -3,7 +3,7 @@
 
 ghost use Rattle.std.specs.Prelude.{◌≡◌};
 ghost use Rattle.register_form.specs.Form.{text_at};
-ghost use Rattle.register_join_merge.specs.Merging.{next_order, takes_first, takes_second, next_text, Pasted, Added, Noted, Merger};
+ghost use Rattle.register_join_merge.specs.Merging.{next_order, takes_first, takes_second, next_text, Pasted, Added, Noted, SameSlices, Merger};
 
 use dictionary::Texts;
 use register_form::{text_at, text_count};
@@ -73,7 +73,8 @@ pub struct Heap<'a> {
 impl<'a> Heap<'a> {
     // Puts text t behind those before it, as item k; answers where it ends.
     fn add(&mut self, k: u16, end: usize, t: &[u8]) -> usize
-        ensures { Added self.old.bytes.now self.old.starts.now self.old.lens.now k end t.now self.new.bytes.now self.new.starts.now self.new.lens.now result }
+        ensures added { Added self.old.bytes.now self.old.starts.now self.old.lens.now k end t.now self.new.bytes.now self.new.starts.now self.new.lens.now result }
+        ensures same_slices { SameSlices self.old self.new }
     {
         put(self.starts, usize::from(k), narrow_start(end));
         put(self.lens, usize::from(k), narrow(t.len()));
@@ -113,7 +114,8 @@ pub fn merge<'a>(
     items1: &mut [u16],
     items2: &mut [u16],
 ) -> u16
-    ensures { Merger h.now g.now heap.old.bytes.now heap.old.starts.now heap.old.lens.now items1.old items2.old heap.new.bytes.now heap.new.starts.now heap.new.lens.now items1.new items2.new result }
+    ensures merged { Merger h.now g.now heap.old.bytes.now heap.old.starts.now heap.old.lens.now items1.old items2.old heap.new.bytes.now heap.new.starts.now heap.new.lens.now items1.new items2.new result }
+    ensures same_slices { SameSlices heap.old heap.new }
 {
     let n = text_count(h);
     let m = text_count(g);
