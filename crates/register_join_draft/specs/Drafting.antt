@@ -13,6 +13,7 @@ use Rattle.register_form.specs.Draft.{once_behind}
 use Rattle.register_form.specs.Tables.{tables_of, draft_in}
 use Rattle.register_form.specs.Formed.{Formed}
 use Rattle.register_join_merge.specs.Merged.{Merged}
+use Rattle.register_join_draft.specs.declared.DraftTables.{DraftTables}
 use Rattle.register_join_draft.specs.Joined.{same_row, name_in, place_in, forms_in, code_by, join_draft}
 
 -- The items of numbers, by a table.
@@ -134,6 +135,16 @@ pub record JoinPut (h g : Bytes) (items1 items2 kinds names identifiers firsts u
   pub draft : Formed h → Formed g → (texts : List Bytes) → Merged (dictionary_in h) (dictionary_in g) texts (items_in items1) (items_in items2) → TableRoom kinds names identifiers firsts uses groups codes
       → (s : Bytes) (starts lens : List ℕ) (m : ℕ)
       → draft_in (tables_of s starts lens m ks ns np is fs ng us gs cs nt) ≡ join_draft (dictionary_in h) (dictionary_in g) (items_in items1) (items_in items2) (tabulate m (item_at s starts lens))
+
+-- The same slices are lent: whoever lent them knows what they hold by what the tables show.
+pub record SameSlices (a b : DraftTables) : Type 0 where
+  pub kinds : b.kinds.ghost_name ≡ a.kinds.ghost_name
+  pub names : b.names.ghost_name ≡ a.names.ghost_name
+  pub identifiers : b.identifiers.ghost_name ≡ a.identifiers.ghost_name
+  pub firsts : b.firsts.ghost_name ≡ a.firsts.ghost_name
+  pub uses : b.uses.ghost_name ≡ a.uses.ghost_name
+  pub groups : b.groups.ghost_name ≡ a.groups.ghost_name
+  pub codes : b.codes.ghost_name ≡ a.codes.ghost_name
 
 -- Whether property p of the first register and the like one of the second, if there is one, have different kinds; a table has the places
 -- of the second's names.

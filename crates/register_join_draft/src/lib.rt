@@ -3,7 +3,7 @@
 
 ghost use Rattle.std.specs.Prelude.{◌≡◌};
 ghost use Rattle.register_form.specs.Form.{page_count, property_count};
-ghost use Rattle.register_join_draft.specs.Drafting.{items_in, Entering, PropertiesPut, IdentifiersPut, new_row, PagesPut, JoinPut, clashes_at, some_clash, Clashed};
+ghost use Rattle.register_join_draft.specs.Drafting.{items_in, Entering, PropertiesPut, IdentifiersPut, new_row, PagesPut, JoinPut, clashes_at, some_clash, Clashed, SameSlices};
 
 use forms::put_page;
 use register_form::{
@@ -149,7 +149,8 @@ fn put_pages(
 // Makes the draft of the join in tables: the properties and pages of the first register and then those of the second that are not
 // there, and the terms of the first and then of the second.
 pub fn draft_join(first: Side, second: Side, draft: &mut DraftTables)
-    ensures { JoinPut first.entry.held.now second.entry.held.now first.entry.items.now second.entry.items.now draft.old.kinds.now draft.old.names.now draft.old.identifiers.now draft.old.firsts.now draft.old.uses.now draft.old.groups.now draft.old.codes.now draft.new.kinds.now draft.new.names.now draft.new.identifiers.now draft.new.firsts.now draft.new.uses.now draft.new.groups.now draft.new.codes.now draft.new.property_count draft.new.page_count draft.new.term_count }
+    ensures joined { JoinPut first.entry.held.now second.entry.held.now first.entry.items.now second.entry.items.now draft.old.kinds.now draft.old.names.now draft.old.identifiers.now draft.old.firsts.now draft.old.uses.now draft.old.groups.now draft.old.codes.now draft.new.kinds.now draft.new.names.now draft.new.identifiers.now draft.new.firsts.now draft.new.uses.now draft.new.groups.now draft.new.codes.now draft.new.property_count draft.new.page_count draft.new.term_count }
+    ensures same_slices { SameSlices draft.old draft.new }
 {
     let mut places = [0u16; layout::DRAFT_TEXTS];
     let mut both = [0u16; layout::DRAFT_TEXTS];
