@@ -11,3 +11,4 @@ pub mod Held
 pub mod Looking
 pub mod Steps
 pub mod Loop
+pub mod Lent

@@ -8,13 +8,13 @@ use Rattle.text.specs.Bytes.{Bytes, part}
 use Rattle.values.specs.declared.Kind.{Kind}
 use Rattle.values.specs.Values.{string, Value, plain, read_value}
 use Rattle.language.specs.Register.{Property}
-use Rattle.language.specs.RegisterText.{Entry, prop, page, cat, close}
+use Rattle.language.specs.RegisterText.{Entry, prop, page, cat, val, close}
 use Rattle.register_text_entries.specs.Items.{entry_in}
 use Rattle.register_text_entries.specs.declared.Tag.{Tag}
 use Rattle.register_text_entries.specs.declared.Item.{Item}
 use Rattle.register_text_draft.specs.declared.DraftTables.{DraftTables}
 use Rattle.register_text_draft.specs.Drafting.{with_value, added}
-use Rattle.register_text_draft.specs.Sizes.{Good, Spaced}
+use Rattle.register_text_draft.specs.Sizes.{Good, Valued, Spaced}
 use Rattle.register_text_draft.specs.Tables.{Extends}
 
 module _ (s : Bytes) (i : Item) (ps : List Property) (A B : DraftTables) (x : Bytes) (ex : x ≡ part s i.first.start i.first.len) where
@@ -35,6 +35,9 @@ module _ (s : Bytes) (i : Item) (ps : List Property) (A B : DraftTables) (x : By
   module _ (y : Bytes) (ey : y ≡ part s i.second.start i.second.len) where
     pub entry_page : i.tag ≡ Tag.Page → (length x ≤ 64 → Does (page x y)) → Good ps (entry_in s i) → Does (entry_in s i)
     entry_page h f = by_entry (page x y) (rw (h, ex, ey)) f
+
+    pub entry_val : i.tag ≡ Tag.Val → (Valued ps x y → Does (val x y)) → Good ps (entry_in s i) → Does (entry_in s i)
+    entry_val h f = by_entry (val x y) (rw (h, ex, ey)) f
 
 module _ (s : Bytes) (i : Item) (ps : List Property) (A : DraftTables) where
   no_entry : entry_in s i ≡ close → Extends A A (λ d. added ps d (entry_in s i))

@@ -8,6 +8,7 @@ ghost use Rattle.register_form.specs.Encoding.{identifier_text, value_texts};
 ghost use Rattle.register_text_draft.specs.Drafting.{code_in};
 ghost use Rattle.register_text_draft.specs.Sizes.{Spaced};
 ghost use Rattle.register_text_draft.specs.Tables.{Ended, Pushed};
+ghost use Rattle.register_text_draft.specs.Lent.{SameTexts};
 
 use super::TextTable;
 use buffer::put_bytes;
@@ -27,7 +28,8 @@ impl TextTable<'_> {
     // Ends a text: what it has of a namespace and of a name, and its length before both.
     fn end_text(&mut self, a: usize, b: usize)
         requires { (a < 65536) × (b < 65536) }
-        ensures { Ended self.old a b self.new }
+        ensures ended { Ended self.old a b self.new }
+        ensures same_slices { SameTexts self.old self.new }
     {
         let m = usize::from(self.count);
         put(self.starts, m, u32::from(self.end));
@@ -38,7 +40,8 @@ impl TextTable<'_> {
 
     // Adds a text, of a namespace and a name.
     pub fn push_text(&mut self, space: &[u8], name: &[u8])
-        ensures { length space.now ≤ 64 → Pushed self.old (labelled space.now name.now ∷ []) self.new }
+        ensures pushed { length space.now ≤ 64 → Pushed self.old (labelled space.now name.now ∷ []) self.new }
+        ensures same_slices { SameTexts self.old self.new }
     {
         let first = usize::from(self.end);
         let a = usize::from(narrow(space.len()));
@@ -51,7 +54,8 @@ impl TextTable<'_> {
 
     // Adds the text of a namespace and a name, both composed where they then lie.
     fn push_names(&mut self, space: &[u8], name: &[u8])
-        ensures { length (composed_name space.now) ≤ 64 → Pushed self.old (labelled (composed_name space.now) (composed_name name.now) ∷ []) self.new }
+        ensures pushed { length (composed_name space.now) ≤ 64 → Pushed self.old (labelled (composed_name space.now) (composed_name name.now) ∷ []) self.new }
+        ensures same_slices { SameTexts self.old self.new }
     {
         let first = usize::from(self.end);
         let a = usize::from(narrow(put_composed(self.heap, first + 1, space)));
@@ -62,7 +66,8 @@ impl TextTable<'_> {
 
     // Adds the text of the link that v writes, its names composed.
     fn push_link(&mut self, v: &[u8])
-        ensures { Spaced (link (identifier (composed_reference (reference v.now)))) → Pushed self.old (identifier_text (identifier (composed_reference (reference v.now))) ∷ []) self.new }
+        ensures pushed { Spaced (link (identifier (composed_reference (reference v.now)))) → Pushed self.old (identifier_text (identifier (composed_reference (reference v.now))) ∷ []) self.new }
+        ensures same_slices { SameTexts self.old self.new }
     {
         let split = split_reference(v);
         let name = part(v, split.article.start, split.article.len);
@@ -74,7 +79,8 @@ impl TextTable<'_> {
 
     // Adds the text of the value of a kind that v writes, if it has one.
     pub fn push_value(&mut self, kind: Kind, v: &[u8])
-        ensures { (w : Value) → read_value kind v.now ≡ Some w → Spaced w → Pushed self.old (value_texts w) self.new }
+        ensures pushed { (w : Value) → read_value kind v.now ≡ Some w → Spaced w → Pushed self.old (value_texts w) self.new }
+        ensures same_slices { SameTexts self.old self.new }
     {
         match kind {
             Kind::Page => self.push_link(v),

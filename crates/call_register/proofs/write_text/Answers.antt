@@ -5,7 +5,7 @@ use Rattle.call_register.proofs.write_text.Goals as goal
 pub returns : goal.returns
 returns c =
     let w = rw c.draft_of.ensures at c.write_draft.ensures in
-    text_written _ _ _ _ _ _ c.draft_text.new.self (λ s a. c.draft_text.ensures s a (record {
+    text_written _ _ _ _ _ _ c.draft_text.new.self (λ s a. c.draft_text.ensures.drafted s a (record {
       heap_room = omega (arith, zeros_many 35136);
       starts_room = omega (arith, zeros_many 2368);
       lens_room = omega (arith, zeros_many 2368);

@@ -1,6 +1,9 @@
 use mathlib.Core.Path.{refl}
-use Rattle.register_text_draft.proofs.Held.{page_added}
+use Rattle.register_text_draft.proofs.Lent.{same_properties, same_terms}
 use Rattle.register_text_draft.proofs.DraftTables.draft_page.Goals as goal
 
-pub returns : goal.returns
-returns c = λ ps short. page_added c.args.self.now.texts _ _ (c.push_text.ensures short) c.args.self.now.properties c.args.self.now.pages c.args.self.now.terms c.args.space.now c.args.name.now refl _ c.push.ensures ps
+pub returns-clause-added : goal.returns-clause-added
+returns-clause-added c = λ ps short. c.draft_page.ensures.added ps _ _ refl short
+
+pub returns-clause-same_slices : goal.returns-clause-same_slices
+returns-clause-same_slices c = record { texts = c.draft_page.ensures.same_texts; properties = same_properties _; pages = c.draft_page.ensures.same_pages; terms = same_terms _ }

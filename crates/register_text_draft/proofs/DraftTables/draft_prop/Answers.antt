@@ -1,11 +1,8 @@
-use mathlib.Core.Path.{ap}
-use mathlib.Core.List.{[], ◌∷◌}
-use native.Mathlib.Omega.{arith}
-use lib.ListN.{length}
-use Rattle.text.specs.Bytes.{Bytes}
-use Rattle.register_form.specs.Dictionary.{labelled}
-use Rattle.register_text_draft.proofs.Held.{property_added}
+use Rattle.register_text_draft.proofs.Lent.{same_pages, same_terms}
 use Rattle.register_text_draft.proofs.DraftTables.draft_prop.Goals as goal
 
-pub returns : goal.returns
-returns c = λ ps. property_added c.args.self.now.texts _ _ (c.push_text.ensures (omega (arith, ap length c.part.ensures))) c.args.self.now.properties c.args.self.now.pages c.args.self.now.terms c.args.kind c.args.name.now (ap (λ (z : Bytes). labelled z c.args.name.now ∷ []) c.part.ensures) _ c.push.ensures ps
+pub returns-clause-added : goal.returns-clause-added
+returns-clause-added c = λ ps. c.draft_prop.ensures.added ps _ _
+
+pub returns-clause-same_slices : goal.returns-clause-same_slices
+returns-clause-same_slices c = record { texts = c.draft_prop.ensures.same_texts; properties = c.draft_prop.ensures.same_properties; pages = same_pages _; terms = same_terms _ }

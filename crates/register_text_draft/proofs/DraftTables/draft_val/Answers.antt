@@ -1,5 +1,8 @@
-use Rattle.register_text_draft.proofs.Held.{val_added}
+use Rattle.register_text_draft.proofs.Lent.{own_identifiers, same_properties}
 use Rattle.register_text_draft.proofs.DraftTables.draft_val.Goals as goal
 
-pub returns : goal.returns
-returns c = λ ps i q. val_added c.args.s.now c.args.t.now c.args.props.now c.args.np c.args.x.now c.args.v.now ps i q _ c.property_place.ensures _ _ c.in-Some.is _ _ c.from.ensures c.byte.ensures _ _ c.draft_value.ensures
+pub returns-clause-added : goal.returns-clause-added
+returns-clause-added c = λ ps l q. own_identifiers _ _ c.draft_val.ensures.kept.0 _ _ c.args.self.now.properties _ _ _ (λ i. c.draft_val.ensures.added ps c.args.self.now.properties i l q)
+
+pub returns-clause-same_slices : goal.returns-clause-same_slices
+returns-clause-same_slices c = record { texts = c.draft_val.ensures.same_texts; properties = same_properties _; pages = c.draft_val.ensures.same_pages; terms = c.draft_val.ensures.same_terms }

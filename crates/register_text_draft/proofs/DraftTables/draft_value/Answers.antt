@@ -1,6 +1,8 @@
-use mathlib.Core.Path.{refl}
-use Rattle.register_text_draft.proofs.Held.{value_added}
+use Rattle.register_text_draft.proofs.Lent.{own_identifiers, same_properties}
 use Rattle.register_text_draft.proofs.DraftTables.draft_value.Goals as goal
 
-pub returns : goal.returns
-returns c = λ w e short. value_added c.args.self.now.texts _ _ (c.push_value.ensures w e short) c.args.self.now.properties c.args.self.now.pages c.args.self.now.terms _ _ c.args.group _ c.push_form.ensures w refl (c.value_code-code.ensures w e)
+pub returns-clause-added : goal.returns-clause-added
+returns-clause-added c = λ w e short. own_identifiers _ _ c.draft_value.ensures.kept.0 _ _ c.args.self.now.properties _ _ _ (λ i. c.draft_value.ensures.added w c.args.self.now.properties i e short)
+
+pub returns-clause-same_slices : goal.returns-clause-same_slices
+returns-clause-same_slices c = record { texts = c.draft_value.ensures.same_texts; properties = same_properties _; pages = c.draft_value.ensures.same_pages; terms = c.draft_value.ensures.same_terms }
