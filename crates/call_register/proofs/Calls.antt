@@ -131,14 +131,14 @@ refused_is s b r e = go (read_register s) e
     go (accepted R) e = absurd (refusal_some r e)
 
 -- Prepared rows are judged, and refused or written.
-module _ (c : Bytes) (t : List ℕ) (n : ℕ) (props pages : List ℕ) (j : Result Judged Refusal)
-    (judges : Room (replicate 5500 0) (replicate 5500 0) → (s : Bytes) → Prepared s c t n → Judges s t n props pages j) (b : Bytes)
+module _ (c : Bytes) (t : List ℕ) (n : ℕ) (props pages : List ℕ) (q : Judged) (j : Result (Unit {0}) Refusal)
+    (judges : Room (replicate 5500 0) (replicate 5500 0) → (s : Bytes) → Prepared s c t n → Judges s t n props pages q j) (b : Bytes)
   where
     pub rows_refused : (e : Refusal) → j ≡ Err e → Registers c t n b (Err e) b
     rows_refused e h = record { is = λ s p. refused_is s b e (rw h at (judges zeros_room s p).number) }
 
-    pub rows_written : (q : Judged) (r : Result (Unit {0}) Refusal) (after : Bytes) → j ≡ Ok q → Writes c t props n q.props b r after → Registers c t n b r after
-    rows_written q r after e w = record { is = λ s p. w.is s (judged_accepted s c t n props pages j q p (judges zeros_room s p) e) }
+    pub rows_written : (r : Result (Unit {0}) Refusal) (after : Bytes) (u : Unit {0}) → j ≡ Ok u → Writes c t props n q.props b r after → Registers c t n b r after
+    rows_written r after u e w = record { is = λ s p. w.is s (judged_accepted s c t n props pages q j p (judges zeros_room s p) (ap refusals.number_of e)) }
 
 -- A text of ASCII: 1 to 3, or its names are composed as they are.
 module _ (s : Bytes) (t : List ℕ) (r : Result ℕ Refusal) (judges : 27500 ≤ length (replicate {A = ℕ} 27500 0) → JudgesTyped s t r) (b : Bytes) where

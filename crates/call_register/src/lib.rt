@@ -91,7 +91,8 @@ fn register_rows(c: &[u8], t: &[u16], n: usize, held: &mut [u8]) -> Result<(), R
 {
     let mut props = [0u16; 5500];
     let mut pages = [0u16; 5500];
-    let judged = judge(c, t, n, &mut props, &mut pages)?;
+    let (judged, verdict) = judge(c, t, n, &mut props, &mut pages);
+    verdict?;
     write_text(c, t, n, &props, judged.props, held)
 }
 

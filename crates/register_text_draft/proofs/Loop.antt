@@ -1,5 +1,5 @@
 -- The loop over the rows of an accepted text.
-use Rattle.std.specs.Prelude.{Result, Ok}
+use Rattle.std.specs.Prelude.{Result}
 use Prim.Native.Nat.{ℕ, suc, ◌+◌, ◌-◌, ◌<◌}
 use mathlib.Core.Path.{◌≡◌, refl, sym, ap, ◌∙◌, subst}
 use mathlib.Core.Bool.{Bool, true, false}
@@ -13,7 +13,8 @@ use borrow.Author.Tests.{le-ltb}
 use Rattle.text.specs.Bytes.{Bytes, part, any}
 use Rattle.text.specs.Table.{tabulate}
 use Rattle.text.proofs.Tables.{length_tabulate, get_d_tabulate, tabulate_ext, is_tabulate}
-use Rattle.language.specs.Answer.{accepted, judge, number_of}
+use Rattle.language.specs.Answer.{accepted, judge}
+use Rattle.language.specs.Refusals.{number_of as number_of_result}
 use Rattle.language.specs.declared.refusals.Refusal.{Refusal}
 use Rattle.language.specs.Register.{Property}
 use Rattle.language.specs.RegisterText.{Entry, close, some_twice, properties, is_undeclared, is_unfit, over_limits, register_of, read_register}
@@ -23,7 +24,7 @@ use Rattle.register_text_entries.specs.Items.{entry_in}
 use Rattle.register_text_entries.specs.Table.{entry_at, entries_in}
 use Rattle.register_text_entries.specs.declared.Item.{Item}
 use Rattle.register_text_entries.proofs.Cells.{rows_length, rows_at, rows_last}
-use Rattle.register_text_verdict.specs.Checks.{lowest, Prepared, counts_of, Judges}
+use Rattle.register_text_verdict.specs.Checks.{lowest, Prepared, Judges}
 use Rattle.register_text_verdict.specs.declared.Judged.{Judged}
 use Rattle.register_text_verdict.proofs.Verdict.{verdict}
 use Rattle.register_form.specs.Dictionary.{PageRow, Dictionary}
@@ -114,11 +115,8 @@ module _ (s c : Bytes) (t props : List ℕ) (n np : ℕ) (a : Accepted s c t pro
         subst (Holding B) (sym same) ((f (properties L) accepted_lists good).held (draft_of (properties L) (entries_in c t i)) (subst Fits same next_fits) h)
 
 -- From what judging rows answers.
-pub judged_accepted : (s c : Bytes) (t : List ℕ) (n : ℕ) (props pages : List ℕ) (r : Result Judged Refusal) (q : Judged) → Prepared s c t n → Judges s t n props pages r → r ≡ Ok q → Accepted s c t props n q.props
-judged_accepted s c t n props pages r q p j e =
-    let z : 0 ≡ number_of (read_register s) = rw e at j.number in
-    let k : q ≡ counts_of t n = rw e at j.counts in
-    record { answer = sym z; rows = p; properties = rw k j.index.properties }
+pub judged_accepted : (s c : Bytes) (t : List ℕ) (n : ℕ) (props pages : List ℕ) (q : Judged) (r : Result (Unit {0}) Refusal) → Prepared s c t n → Judges s t n props pages q r → number_of_result r ≡ 0 → Accepted s c t props n q.props
+judged_accepted s c t n props pages q r p j e = record { answer = sym j.number ∙ e; rows = p; properties = j.index.properties }
 
 -- The tables at the start and at the end.
 module _ (t : DraftTables) (r : Roomy t) (v : List ℕ) (e : v ≡ set t.pages.firsts.now 0 0) where

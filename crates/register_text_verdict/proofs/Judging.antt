@@ -13,6 +13,7 @@ use Rattle.text.proofs.Tables.{count_most}
 use Rattle.values.specs.declared.Kind.{Kind}
 use Rattle.values.specs.Values.{read_value}
 use Rattle.language.specs.Answer.{number_of, found, ◌>>=◌}
+use Rattle.language.specs.Refusals as refusals
 use Rattle.language.specs.Refusals.{refusal_number}
 use Rattle.language.specs.declared.refusals.Refusal.{Refusal}
 use Rattle.language.specs.Register.{Typing}
@@ -20,7 +21,7 @@ use Rattle.language.specs.RegisterText.{Entry, prop, page, cat, val, close, brea
 use Rattle.register_text_entries.specs.Table.{entry_at, entries_in, Filled}
 use Rattle.register_text_entries.proofs.Reading.{filled_none, filled_few, filled_some}
 use Rattle.register_text_verdict.specs.Rows.{any_to}
-use Rattle.register_text_verdict.specs.Checks.{declares, rows_that, Collected, kinds_in, fails, some_fails, twice_in, inner_in, lowest, verdict_of, RowsRead, ReadsRows, Typed, Prepared, Room, Indexed, counts_of, Judges}
+use Rattle.register_text_verdict.specs.Checks.{declares, rows_that, Collected, kinds_in, fails, some_fails, twice_in, inner_in, lowest, verdict_of, RowsRead, ReadsRows, Typed, Prepared, Room, Indexed, Judges}
 use Rattle.register_text_verdict.specs.declared.Declared.{Declared}
 use Rattle.register_text_verdict.specs.declared.Check.{Check}
 use Rattle.register_text_verdict.proofs.Rows.{places_count}
@@ -111,8 +112,8 @@ module _ (s : Bytes) (t : List ℕ) (n : ℕ) (props₀ props pages₀ pages : L
   places_listed : take ng pages ≡ rows_that Declared.Page t n
   places_listed = G.rows (omega (arith, p.few)) (omega (arith, p.few, room.places))
 
-  index : Indexed t n props pages (counts_of t n)
-  index = record { properties = rw (← P.count) rows_listed; places = rw (← G.count) places_listed; property_count = refl; page_count = refl }
+  index : Indexed t n props pages (record { props = np; pages = ng })
+  index = record { properties = rows_listed; places = places_listed; property_count = P.count; page_count = G.count }
 
   number : (v : ℕ) → v ≡ verdict_of s t n props np pages ng → v ≡ number_of (read_register r)
   number v e =
@@ -121,8 +122,5 @@ module _ (s : Bytes) (t : List ℕ) (n : ℕ) (props₀ props pages₀ pages : L
       (omega (arith, P.count, P.size, room.properties, most Declared.Property))
       (omega (arith, G.count, G.size, room.places, most Declared.Page))
 
-  pub judge_refused : (e : Refusal) → refusal_number e ≡ verdict_of s t n props np pages ng → Judges r t n props pages (Err e)
-  judge_refused e h = record { number = number (refusal_number e) h; index = index; counts = tt }
-
-  pub judge_accepted : 0 ≡ verdict_of s t n props np pages ng → Judges r t n props pages (Ok (record { props = np; pages = ng }))
-  judge_accepted h = record { number = number 0 h; index = index; counts = rw (P.count, G.count) }
+  pub judged : (v : Result (Unit {0}) Refusal) → refusals.number_of v ≡ verdict_of s t n props np pages ng → Judges r t n props pages (record { props = np; pages = ng }) v
+  judged v h = record { number = number (refusals.number_of v) h; index = index }

@@ -136,16 +136,7 @@ verdict_of s t n props np pages ng =
     (some_fails Check.Undeclared s t n props np) (some_fails Check.Unfit s t n props np)
     (ltb 64 np || ltb 256 ng || ltb 2048 (inner_in t n))
 
--- How many of the first n rows are properties and pages.
-abbrev pub counts_of : List ℕ → ℕ → Judged
-counts_of t n = record { props = length (rows_that Declared.Property t n); pages = length (rows_that Declared.Page t n) }
-
-abbrev pub Counts : List ℕ → ℕ → Result Judged Refusal → Type 0
-Counts t n (Ok c) = c ≡ counts_of t n
-Counts t n (Err e) = Unit {0}
-
 -- What judging prepared rows answers, where the tables have room; they are those at the end.
-pub record Judges (s : Bytes) (t : List ℕ) (n : ℕ) (props pages : List ℕ) (r : Result Judged Refusal) : Type 0 where
+pub record Judges (s : Bytes) (t : List ℕ) (n : ℕ) (props pages : List ℕ) (c : Judged) (r : Result (Unit {0}) Refusal) : Type 0 where
   pub number : refusals.number_of r ≡ number_of (read_register s)
-  pub index : Indexed t n props pages (counts_of t n)
-  pub counts : Counts t n r
+  pub index : Indexed t n props pages c

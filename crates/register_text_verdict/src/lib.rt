@@ -127,22 +127,22 @@ pub fn judge_typed(s: &[u8], t: &mut [u16]) -> Result<usize, Refusal>
     Ok(n)
 }
 
-// The verdict on the first n rows, whose names are composed: the lowest refusal of 4 to 7. Which rows are properties and pages is then
-// in the tables.
+// How many of the first n rows, whose names are composed, are properties and pages, which is then in the tables, and the verdict on them:
+// the lowest refusal of 4 to 7.
 pub fn judge(
     s: &[u8],
     t: &[u16],
     n: usize,
     props: &mut [u16],
     pages: &mut [u16],
-) -> Result<Judged, Refusal>
-    ensures { Room props.old pages.old → (typed : Bytes) → Prepared typed s.now t.now n → Judges typed t.now n props.new pages.new result }
+) -> (Judged, Result<(), Refusal>)
+    ensures { Room props.old pages.old → (typed : Bytes) → Prepared typed s.now t.now n → Judges typed t.now n props.new pages.new result.0 result.1 }
 {
     let np = collect(t, n, Declared::Property, props);
     let ng = collect(t, n, Declared::Page, pages);
-    judge_rows(s, t, n, props, np, pages, ng)?;
-    Ok(Judged {
+    let judged = Judged {
         props: np,
         pages: ng,
-    })
+    };
+    (judged, judge_rows(s, t, n, props, np, pages, ng))
 }
