@@ -5,6 +5,7 @@ use mathlib.Core.Path.{◌≡◌, refl, sym, ap, ◌∙◌}
 use mathlib.Core.Bool.{Bool, true, false, cond, not, ◌&&◌, ◌||◌, or-false}
 use mathlib.Core.List.{List, [], ◌∷◌, ◌++◌, append_assoc, append-nil}
 use native.Mathlib.Omega.{arith}
+use Rattle.language.specs.declared.SurfaceComparator.{SurfaceComparator}
 use lib.Dec.{ltb, leb}
 use lib.ListN.{length}
 use borrow.Author.Tests.{lt-ltb, le-ltb, leb-true, leb-false}
@@ -34,7 +35,7 @@ use Rattle.query_tree.specs.Reading.{node_by}
 use Rattle.query_tree.specs.declared.TreeNode.{TreeNode}
 use Rattle.query_text_heads.specs.Effects.{Effect, noded, one, met, ◌then◌, flagged, After, ReadsPart}
 use Rattle.std.specs.Result.{is_err}
-use Rattle.query_text_heads.specs.Trees.{read_refusal, deeper, effect, effect_in, chain_nodes, chain_effect, value_node, node_of_piece, piece_effect, rest_effect, tail_pieces}
+use Rattle.query_text_heads.specs.Trees.{read_refusal, number_of_read, deeper, effect, effect_in, chain_nodes, chain_effect, value_node, node_of_piece, piece_effect, rest_effect, tail_pieces}
 use Rattle.query_text_heads.specs.declared.Seen.{Seen}
 use Rattle.query_text_heads.proofs.Following.{after_then, after_met, nothing_met, after_noded}
 use Rattle.query_text_heads.proofs.Readings.{same_effect, or_comm, same_test, one_deeper, reads_map}
@@ -114,6 +115,12 @@ broken_is s i true r (Some (Read.Namespace x)) h e = cc
 broken_is s i true r (Some (Read.Reference c x)) h e = cc
 broken_is s i false r (Some (Read.Namespace x)) h e = e
 broken_is s i false r (Some (Read.Reference c x)) h e = e
+
+-- The number of a piece that is neither.
+pub number_left : (o : Option Read) → ((x : Span) → o ≡ Some (Read.Namespace x) → ⊥) → ((c : SurfaceComparator) (x : Span) → o ≡ Some (Read.Reference c x) → ⊥) → 15 ≡ number_of_read o
+number_left (Some (Read.Namespace x)) h k = absurd (h x refl)
+number_left (Some (Read.Reference c x)) h k = absurd (k c x refl)
+number_left None h k = refl
 
 -- A piece outside property bodies has one node.
 one_node : (p : Piece) → tree_identifiers (identifier_of p) ≡ node_of_piece p ∷ []
