@@ -1,16 +1,15 @@
 -- Laws of tables and counts.
-use mathlib.Core.Path.{◌≡◌, refl, ap, sym, ◌∙◌}
+use mathlib.Core.Path.{◌≡◌, refl, sym, ◌∙◌}
 use mathlib.Core.Bool.{Bool, true, false}
 use mathlib.Core.List.{List, [], ◌∷◌}
 use mathlib.Core.Logic.{⊎_elim}
-use Prim.Native.Nat.{ℕ, zero, suc, ◌+◌, ◌%◌, ◌<◌, ◌≤◌}
-use native.Mathlib.Nat.{mod-eq_of_lt, le_refl, eq-or-lt_of_le, le_of_suc-le-suc}
+use Prim.Native.Nat.{ℕ, zero, suc, ◌+◌, ◌<◌, ◌≤◌}
+use native.Mathlib.Nat.{le_refl, eq-or-lt_of_le, le_of_suc-le-suc}
 use native.Mathlib.Numerals.{add-one}
 use native.Mathlib.Omega.{arith}
-use native.Mathlib.Decide.{ℕ_discrete}
 use lib.ListN.{length, take, get_or, set, length-append, length-set, get_or-append}
-use lib.Seq.{take-suc-set, take_all, get_or_at, get_or-set_same, get_or-set_other, ext_get_or}
-use Rattle.text.specs.Table.{tabulate, Tabled, bit, count_to}
+use lib.Seq.{take-suc-set, get_or_at, ext_get_or}
+use Rattle.text.specs.Table.{tabulate, bit, count_to}
 
 -- tables
 

@@ -1,6 +1,5 @@
-use mathlib.Core.Path.{◌≡◌, refl, sym, ◌∙◌}
+use mathlib.Core.Path.{refl, sym, ◌∙◌}
 use native.Mathlib.Omega.{arith}
-use lib.ListN.{length}
 use Rattle.text.proofs.Laws.{both_end, left_ends, right_ends, less_here, greater_here, same_here}
 use Rattle.text.proofs.compare_from.Goals as goal
 
