@@ -1,6 +1,6 @@
--- What the library's tests and comparisons answer, in the words of this crate.
+-- What the library's tests and comparisons answer, in the words of this crate, and what that says of a word at the front.
 use Prim.Native.Nat.{ℕ}
-use mathlib.Core.Path.{◌≡◌, refl}
+use mathlib.Core.Path.{◌≡◌, refl, sym, ◌∙◌}
 use mathlib.Core.Bool.{Bool, true, false, cond, ◌&&◌}
 use mathlib.Core.List.{List, [], ◌∷◌}
 use lib.Dec.{ltb, eqb}
@@ -37,6 +37,10 @@ pointwise_starts (c ∷ w) (b ∷ s) = go (eqb b c) refl (pointwise_starts w s)
     go : (t : Bool) → eqb b c ≡ t → pointwise nat_eq (take (length w) s) w ≡ starts w s → (eqb b c && pointwise nat_eq (take (length w) s) w) ≡ starts (c ∷ w) (b ∷ s)
     go true e ih = rw (e, starts) ih
     go false e ih = rw (e, starts)
+
+-- A word stands at the front where as many bytes are the same as its.
+pub starts_front : (w s : Bytes) → same (take (length w) s) w ≡ starts w s
+starts_front w s = sym (pointwise_same (take (length w) s) w) ∙ pointwise_starts w s
 
 pub cmp_order : (a b : Bytes) → slice_cmp nat_cmp a b ≡ order_of a b
 unfolding order_of numbers

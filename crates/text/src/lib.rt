@@ -140,11 +140,29 @@ pub fn compare(a: &[u8], b: &[u8]) -> Ordering
     compare_from(a, b, 0)
 }
 
+// Whether two strings of one length have the same bytes. They are mostly short, or differ soon: as with `compare_from`, a loop that is
+// compiled into its callers is faster than the library's `==`.
+fn all_same(a: &[u8], b: &[u8]) -> bool
+    requires { length a.now ≡ length b.now }
+    ensures { result ≡ same a.now b.now }
+{
+    for i in 0..a.len() {
+        if a[i] != b[i] {
+            return false;
+        }
+    }
+    true
+}
+
 // Whether the word w stands at a place.
 pub fn word_at(s: &[u8], at: usize, w: &[u8]) -> bool
     ensures { result ≡ starts w.now (drop at s.now) }
 {
-    part(s, at, w.len()) == w
+    let t = part(s, at, w.len());
+    if t.len() != w.len() {
+        return false;
+    }
+    all_same(t, w)
 }
 
 // Whether two strings have the same bytes. Names in a list are often alike but for their ends: the last byte goes first.
@@ -161,7 +179,7 @@ pub fn same_bytes(a: &[u8], b: &[u8]) -> bool
     if a[n - 1] != b[n - 1] {
         return false;
     }
-    a == b
+    all_same(a, b)
 }
 
 // Whether a byte is one of a set's.

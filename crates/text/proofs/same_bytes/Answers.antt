@@ -1,7 +1,6 @@
-use mathlib.Core.Path.{sym, ◌∙◌}
+use mathlib.Core.Path.{sym}
 use native.Mathlib.Omega.{arith}
 use Rattle.text.proofs.Laws.{same_unlike, same_differs, same_end}
-use Rattle.text.proofs.Library.{pointwise_same}
 use Rattle.text.proofs.same_bytes.Goals as goal
 
 pub returns-then-n-b : goal.returns-then-n-b
@@ -14,4 +13,4 @@ pub returns-then-a-n : goal.returns-then-a-n
 returns-then-a-n c = sym (same_differs _ _ _ c.if-a-n.true)
 
 pub returns : goal.returns
-returns c = c.eq.ensures ∙ pointwise_same _ _
+returns c = c.all_same.ensures
