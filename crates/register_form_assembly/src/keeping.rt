@@ -37,7 +37,8 @@ fn keep(page: u16, x: u16, wanted: bool, used: &mut [u16], table: &mut [u16], n:
 }
 
 // One pass over the forms of a page, those of its uses from one up to another. Two tables are written and two are read at once, so that
-// a struct of these would be made for this call alone.
+// a struct of these would be made for this call alone. Inlined, so that each pass is compiled with its own test of the group.
+#[inline(always)]
 fn keep_pass(
     draft: &Draft,
     numbers: &[u16],
