@@ -279,9 +279,10 @@ encode_size c = go (ltb c 128)
     go true = (omega arith, omega arith)
     go false = (omega arith, omega arith)
 
-record Sizes (x : Letter) : Type 0 where
-  most : x.width ≤ 3
-  shorter : (x.width ≡ 0 → ⊥) → length (encode x.code) ≤ x.width
+-- A letter is at most three bytes wide, and has no more when it is composed.
+pub record Sizes (x : Letter) : Type 0 where
+  pub most : x.width ≤ 3
+  pub shorter : (x.width ≡ 0 → ⊥) → length (encode x.code) ≤ x.width
 
 lone_sizes : (a b : ℕ) → Sizes (lone_letter a b)
 unfolding lone_letter
@@ -291,6 +292,18 @@ lone_sizes a b = go (is_plain a) (eqb (pair_of a b) 0 || is_mark (pair_of a b)) 
     go true q h = record { most = omega arith; shorter = λ k. omega (arith, ap length (encode_plain a h)) }
     go false true h = record { most = omega arith; shorter = λ k. absurd (k refl) }
     go false false h = record { most = omega arith; shorter = λ k. (encode_size (pair_of a b)).1 }
+
+pub of_sizes : (a b c : ℕ) → Sizes (letter_of a b c)
+unfolding letter_of lone_letter
+of_sizes a b c = go (composed_letter a (pair_of b c)) (eqb (composed_letter a (pair_of b c)) 0) (is_plain a) refl
+  where
+    lone : Sizes (lone_letter a b)
+    lone = lone_sizes a b
+
+    go : (x : ℕ) (z p : Bool) → is_plain a ≡ p → Sizes (cond p (cond z (letter a 1) (letter x 3)) (wide_letter (pair_of a b)))
+    go x z false h = rw h at lone
+    go x true true h = rw h at lone
+    go x false true h = record { most = omega arith; shorter = λ k. omega (arith, (encode_size x).1) }
 
 -- The ways to a letter, by the table T.
 module _ (a b c : ℕ) (T : Type 0) where

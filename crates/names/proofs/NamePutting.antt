@@ -8,7 +8,7 @@ use mathlib.Core.Logic.{◌⊎◌, inl, inr}
 use native.Mathlib.Nat.{add-zero, zero-add}
 use native.Mathlib.Omega.{arith}
 use lib.Dec.{ltb}
-use lib.ListN.{length, take, drop, length-append, length-drop, drop_of_length-le}
+use lib.ListN.{length, get_or, take, drop, length-append, length-drop, drop_of_length-le}
 use lib.Seq.{drop-drop, length-take-le}
 use borrow.Author.Tests.{lt-ltb, eq-eqb, ne_eqb, not-false}
 use Rattle.text.specs.Bytes.{Bytes}
@@ -18,6 +18,7 @@ use Rattle.names.specs.Codes.{encode}
 use Rattle.names.specs.Names.{composed, composed_name, is_form, has_name_shape, is_name, is_namespace}
 use Rattle.names.specs.Steps.{letter_at, length_after, name_length, prepend, LetterTold, Front, OwnFront, FormPut, NamePut}
 use Rattle.names.specs.declared.Letter.{Letter}
+use Rattle.names.proofs.Letters.{Sizes, of_sizes}
 use Rattle.names.proofs.Walking.{composed_nothing, composed_none, composed_more}
 use Rattle.names.proofs.Fronts.{prepend_then}
 use Rattle.names.proofs.Naming.{shaped, composed_long, name_none, name_long, own_has, walked_has, shaped_name}
@@ -66,6 +67,9 @@ pub record Putting (T : Type 0) (s k : Bytes) (at front : ℕ) (h : Bytes) (n i 
   pub shorter : n ≤ i
   pub put : h ≡ written k (at + front) rest
   pub is : T → composed s ≡ prepend (take front s ++ rest) (composed (drop i s))
+
+pub letter_sizes : (s : Bytes) (x : Letter) → x ≡ letter_at s → Sizes x
+letter_sizes s x f = rw f (of_sizes (get_or s 0 0) (get_or s 1 0) (get_or s 2 0))
 
 module _ (T : Type 0) (s k : Bytes) (at front : ℕ) where
   pub put_front : Front s front → Putting T s k at front k front front

@@ -66,10 +66,10 @@ composed_split a s t h P f = go (letter_at (a ∷ s)).width refl
         rest w e (composed (drop w s)) refl (rw e at (sym (composed_more (a ∷ s) (λ k. let z : suc w ≡ 0 = sym e ∙ k in omega arith)) ∙ h))
 
 -- The letter at a place.
-letter_past : (s : Bytes) (i : ℕ) → length s ≤ i → letter 0 0 ≡ letter_at (drop i s)
+pub letter_past : (s : Bytes) (i : ℕ) → length s ≤ i → letter 0 0 ≡ letter_at (drop i s)
 letter_past s i l = rw (drop_of_length-le s l) (sym letter_empty)
 
-letter_here : (s : Bytes) (i a b c : ℕ) (x : Letter) → a ≡ get_or s i 0 → b ≡ get_or s (i + 1) 0 → c ≡ get_or s (i + 2) 0 → x ≡ letter_of a b c → x ≡ letter_at (drop i s)
+pub letter_here : (s : Bytes) (i a b c : ℕ) (x : Letter) → a ≡ get_or s i 0 → b ≡ get_or s (i + 1) 0 → c ≡ get_or s (i + 2) 0 → x ≡ letter_of a b c → x ≡ letter_at (drop i s)
 letter_here s i a b c x e f g h = h ∙ rw (e, f, g, get_or-drop i s 0 0, get_or-drop i s 1 0, get_or-drop i s 2 0, add-zero i)
 
 pub told_past : (T : Type 0) (s : Bytes) (i : ℕ) → length s ≤ i → LetterTold T (letter 0 0) (letter_at (drop i s))
