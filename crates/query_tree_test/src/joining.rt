@@ -1,11 +1,12 @@
 // Parts made of others.
 ghost use Rattle.std.specs.Prelude.{◌≡◌, ◌&&◌, ◌-◌, eqb};
 ghost use Rattle.query_tree_spelling.specs.Spelled.{wrapped as wrapped_if, under as under_if};
-ghost use Rattle.query_tree.specs.Pass.{is_query, full_bytes, subquery_item, property_item, link_item, bar_item, or_item, and_item, up_to_levels};
+ghost use Rattle.query_tree.specs.Pass.{is_query, full_bytes, subquery_item, property_item, link_item, bar_item, or_item, and_item};
 
 use crate::leaves::length_of;
 use crate::shapes::{
     alike, full_bytes, is_alternatives, is_good, is_or, is_property, is_query, is_two, up_to_bytes,
+    up_to_levels,
 };
 use names::is_composed_property_name;
 use query_tree::{Item, Shape};
@@ -30,13 +31,6 @@ fn under(grouped: bool, n: u16) -> usize
 {
     let n = usize::from(n);
     if grouped { n + 1 } else { n }
-}
-
-// A count of levels or names up to the first that is too large.
-fn up_to_levels(n: usize) -> u16
-    ensures { result ≡ up_to_levels n }
-{
-    n.min(9) as u16
 }
 
 #[tactic(auto, unfolding(query_tree::specs::Pass::subquery_item), using(crate::proofs::Caps::told))]

@@ -1,6 +1,6 @@
 // Shapes and counts of parts.
 ghost use Rattle.std.specs.Prelude.{◌≡◌};
-ghost use Rattle.query_tree.specs.Pass.{alike as are_alike, is_query, is_or, is_two, is_property, is_alternatives, bracket as bracket_of, full_bytes, is_good, up_to_bytes};
+ghost use Rattle.query_tree.specs.Pass.{alike as are_alike, is_query, is_or, is_two, is_property, is_alternatives, bracket as bracket_of, full_bytes, is_good, up_to_bytes, up_to_levels};
 
 use query_tree::{Item, Shape};
 
@@ -70,9 +70,15 @@ pub fn is_good(i: Item) -> bool
     i.kept & !i.leads
 }
 
-// A count of bytes up to the first that is too large. This and `up_to_levels` in joining.rt are one line each by the library's min.
+// A count of bytes up to the first that is too large; of levels or names. Each is one line by the library's min.
 pub fn up_to_bytes(n: usize) -> u16
     ensures { result ≡ up_to_bytes n }
 {
     n.min(1025) as u16
+}
+
+pub fn up_to_levels(n: usize) -> u16
+    ensures { result ≡ up_to_levels n }
+{
+    n.min(9) as u16
 }

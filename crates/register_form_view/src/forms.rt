@@ -102,7 +102,7 @@ fn link_meant(
 }
 
 // Whether the value of term f, of a kind, passes a test, which has a rank.
-fn value_passes(h: &[u8], f: u16, k: Kind, test: ValueTest, q: &[u8], rank: Rank) -> bool
+pub fn value_passes(h: &[u8], f: u16, k: Kind, test: ValueTest, q: &[u8], rank: Rank) -> bool
     ensures { result ≡ passes_at h.now q.now rank test k f }
 {
     match test {
@@ -122,7 +122,7 @@ fn marked_at(words: &[u64], place: usize) -> bool
 }
 
 // Whether the value of term f, of a kind, leads to a page of a set.
-fn leads_into(h: &[u8], places: &[u16], f: u16, k: Kind, words: &[u64]) -> bool
+pub fn leads_into(h: &[u8], places: &[u16], f: u16, k: Kind, words: &[u64]) -> bool
     ensures { result ≡ leads_into h.now places.now (marks_from words.now) k f }
 {
     match k {
@@ -147,14 +147,14 @@ pub fn forms_between(h: &[u8], start: u16, end: u16) -> &[u8]
 }
 
 // Whether term f is of a range.
-fn is_within(range: TermRange, f: u16) -> bool
+pub fn is_within(range: TermRange, f: u16) -> bool
     ensures { result ≡ within range f }
 {
     (range.low <= f) & (f < range.high)
 }
 
 // Which terms are of a range and pass a test: each is tested once.
-fn terms_where<F: Fn(u16) -> bool>(range: TermRange, test: F) -> TermSet
+pub fn terms_where<F: Fn(u16) -> bool>(range: TermRange, test: F) -> TermSet
     requires { F.IsAlwaysCallable test }
     ensures { (p : ℕ → Bool) → Tells (F.post test) p → result.marks ≡ tabulate 2048 (λ f. within range f && p f) }
 {
@@ -180,7 +180,7 @@ pub fn terms_leading(h: &[u8], places: &[u16], range: TermRange, words: &[u64]) 
 }
 
 // Whether one of the terms whose numbers stand in the bytes passes a test. All are looked at: leaving at the first gains nothing.
-fn some_form<F: Fn(u16) -> bool>(forms: &[u8], test: &F) -> bool
+pub fn some_form<F: Fn(u16) -> bool>(forms: &[u8], test: &F) -> bool
     requires { F.IsAlwaysCallable test.now }
     ensures { (p : ℕ → Bool) → Tells (F.post test.now) p → result ≡ any p (numbers_in forms.now) }
 {

@@ -74,13 +74,7 @@ impl<'a> Side<'a> {
     }
 
     // Puts the terms of the register behind the first n; answers how many there are.
-    pub(crate) fn put_terms(
-        self,
-        table: &[u16],
-        groups: &mut [u8],
-        codes: &mut [u64],
-        from: u16,
-    ) -> u16
+    pub fn put_terms(self, table: &[u16], groups: &mut [u8], codes: &mut [u64], from: u16) -> u16
         ensures { TermsPut groups.old codes.old from (tabulate (term_count self.entry.held.now) (new_term self.entry.held.now self.entry.items.now table.now)) groups.new codes.new result }
     {
         let mut n = from;
